@@ -1,0 +1,4 @@
+pub mod TextBytes
+pub mod Decoded
+pub mod Written
+pub mod Lookups
