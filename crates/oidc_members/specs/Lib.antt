@@ -1,0 +1,9 @@
+pub mod Answers
+pub mod Cutting
+pub mod DataCode
+pub mod Objects
+pub mod Places
+pub mod Scanning
+pub mod Seen
+pub mod SeenCode
+pub mod Written

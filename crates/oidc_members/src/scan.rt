@@ -1,0 +1,93 @@
+// Where a place of a text stands, as one pass over its bytes finds it.
+ghost use Rattle.std.specs.Prelude.{◌≡◌, ◌+◌, ◌<◌, ◌≤◌, length, not, slice_index};
+ghost use Rattle.oidc_members.specs.Places.{open_brace, is_outside, is_at_level_one, is_even, backslashes, opened, closed};
+ghost use Rattle.oidc_members.specs.Scanning.{IsAt};
+
+// What stands before a place.
+#[derive(Clone, Copy, Debug, Drop)]
+pub(crate) struct Scan {
+    // an odd number of unescaped quotes
+    pub(crate) in_string: bool,
+    // directly before it, an odd number of backslashes
+    pub(crate) escaped: bool,
+    // how many more braces and brackets were opened than closed, outside strings
+    pub(crate) level: usize,
+}
+
+impl Scan {
+    // The state behind the brace that a text starts with.
+    pub(crate) fn behind_brace(text: &[u8]) -> Scan
+        requires some { 0 < length text.now }
+        requires brace { slice_index text.now 0 ≡ open_brace }
+        ensures { IsAt text.now 1 result }
+    {
+        Scan {
+            in_string: false,
+            escaped: false,
+            level: 1,
+        }
+    }
+
+    #[tactic(auto, using(crate::proofs::Steps::outside_more), unfolding(crate::specs::Places::is_unescaped_quote))]
+    fn in_string_behind(&self, text: &[u8], i: usize) -> bool
+        requires within { i < length text.now }
+        requires at { IsAt text.now i self.now }
+        ensures { is_outside text.now (i + 1) ≡ not result }
+    {
+        if text[i] == b'"' && !self.escaped {
+            !self.in_string
+        } else {
+            self.in_string
+        }
+    }
+
+    #[tactic(auto, using(crate::proofs::Steps::escapes_more))]
+    fn escaped_behind(&self, text: &[u8], i: usize) -> bool
+        requires within { i < length text.now }
+        requires at { IsAt text.now i self.now }
+        ensures { is_even (backslashes text.now (i + 1)) ≡ not result }
+    {
+        text[i] == b'\\' && !self.escaped
+    }
+
+    #[tactic(auto, using(crate::proofs::Steps::opened_more, crate::proofs::Steps::closed_more))]
+    fn level_behind(&self, text: &[u8], i: usize) -> usize
+        requires within { i < length text.now }
+        requires at { IsAt text.now i self.now }
+        requires open { 0 < self.now.level }
+        ensures level { closed text.now (i + 1) + result ≡ opened text.now (i + 1) }
+        ensures bound { result ≤ i + 1 }
+    {
+        if self.in_string {
+            return self.level;
+        }
+        match text[i] {
+            b'{' | b'[' => self.level + 1,
+            b'}' | b']' => self.level - 1,
+            _ => self.level,
+        }
+    }
+
+    // The state one place on.
+    pub(crate) fn step(&self, text: &[u8], i: usize) -> Scan
+        requires within { i < length text.now }
+        requires at { IsAt text.now i self.now }
+        requires open { 0 < self.now.level }
+        ensures { IsAt text.now (i + 1) result }
+    {
+        Scan {
+            in_string: self.in_string_behind(text, i),
+            escaped: self.escaped_behind(text, i),
+            level: self.level_behind(text, i),
+        }
+    }
+
+    // Whether the byte stands at this place, outside strings and of level 1.
+    pub(crate) fn is_at_level_one(&self, text: &[u8], byte: u8, i: usize) -> bool
+        requires within { i < length text.now }
+        requires at { IsAt text.now i self.now }
+        ensures { result ≡ is_at_level_one text.now byte i }
+    {
+        !self.in_string && self.level == 1 && text[i] == byte
+    }
+}

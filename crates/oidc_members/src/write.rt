@@ -1,0 +1,78 @@
+// Members that are written.
+ghost use Rattle.std.specs.Prelude.{◌≡◌, ◌∷◌, ◌++◌, false, IfOk, OnOk};
+ghost use Rattle.serde_json.specs.Data.{string};
+ghost use Rattle.serde_json.specs.Written.{comma_if, compact_text, has_float};
+ghost use Rattle.oidc_members.specs.Written.{any_float, object_text};
+
+use crate::field_name::FieldName;
+use serde_json::Value;
+use std::alloc::{AllocError, Global};
+use std::marker::Model;
+
+/// A member that is written: a name and its value. A contract sees it as the record of these.
+#[derive(Debug, Drop)]
+pub struct OutMember {
+    /// The member's name.
+    pub name: FieldName,
+    /// The member's value.
+    pub value: Value,
+}
+
+impl Model for OutMember {
+    ghost use Rattle.serde_json.specs.View.{view as data_of};
+    ghost use Rattle.oidc_members.specs.Seen.{OutSeen};
+    ghost use Rattle.oidc_members.specs.SeenCode.{out_seen_code};
+
+    ghost Value = { OutSeen };
+
+    ghost coded = { out_seen_code };
+
+    ghost view = { λ m. record { name = m.name; value = data_of m.value } };
+}
+
+// The name in quotes, with its escapes.
+fn quoted_name(alloc: Global, name: &str) -> Result<Vec<u8>, AllocError>
+    ensures { IfOk result (λ text. text.items ≡ compact_text (string name.now)) }
+{
+    Value::String(String::from_str(alloc, name)?).to_vec(alloc)
+}
+
+// Appends a member, behind a comma where another stands before it.
+fn push_member(
+    alloc: Global,
+    text: &mut Vec<u8>,
+    later: bool,
+    member: &OutMember,
+) -> Result<(), AllocError>
+    ensures { OnOk result (has_float member.now.value ≡ false → text.new.items
+        ≡ text.old.items ++ (comma_if later ++ (compact_text (string member.now.name)
+        ++ 58 ∷ compact_text member.now.value))) }
+{
+    if later {
+        text.push(b',')?;
+    }
+    text.extend_from_slice(&quoted_name(alloc, member.name.as_str())?)?;
+    text.push(b':')?;
+    text.extend_from_slice(&member.value.to_vec(alloc)?)?;
+    Ok(())
+}
+
+/// The compact text of the object that has these members, in the order of the list. The time is
+/// linear in the text.
+///
+/// Where a value holds a float, its digits are open: the text is that of an object, but nothing
+/// more is promised of it.
+pub fn write_object(alloc: Global, members: &[OutMember]) -> Result<Vec<u8>, AllocError>
+    ensures { IfOk result (λ text. any_float members.now ≡ false
+        → text.items ≡ object_text members.now) }
+{
+    let mut text = Vec::new(alloc);
+    text.push(b'{')?;
+    let mut later = false;
+    for member in members {
+        push_member(alloc, &mut text, later, member)?;
+        later = true;
+    }
+    text.push(b'}')?;
+    Ok(text)
+}
