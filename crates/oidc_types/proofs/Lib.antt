@@ -1,0 +1,4 @@
+pub mod Copies
+pub mod Drawn
+pub mod Entries
+pub mod Unknown

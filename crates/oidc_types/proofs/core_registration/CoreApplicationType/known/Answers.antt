@@ -1,0 +1,7 @@
+use Rattle.std.proofs.Common.{rules, sym}
+use Rattle.oidc_types.specs.CoreWords.{application_type_text, application_types}
+use Rattle.oidc_types.proofs.Unknown.{none_found}
+use Rattle.oidc_types.proofs.core_registration.CoreApplicationType.known.Goals as goal
+
+pub returns-in_default : goal.returns-in_default
+returns-in_default c = sym (none_found application_type_text application_types c.args.text.now (search rules))

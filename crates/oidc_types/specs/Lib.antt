@@ -1,0 +1,13 @@
+pub mod CoreWords
+pub mod Draws
+pub mod EncryptionAlgorithms
+pub mod KeepsText
+pub mod KeyTypes
+pub mod Laws
+pub mod Left
+pub mod ManagementAlgorithms
+pub mod SameVariants
+pub mod SigningAlgorithms
+pub mod UrlTexts
+pub mod Variants
+pub mod Words

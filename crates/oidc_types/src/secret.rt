@@ -1,0 +1,67 @@
+//! A text of one kind that is not shown.
+
+ghost use Rattle.std.specs.Prelude.{◌≡◌, IfOk};
+ghost use Rattle.std.specs.String.{string_bytes};
+
+use crate::text::Marker;
+use std::alloc::{AllocError, Global};
+use std::fmt;
+use std::marker::{Model, PhantomData};
+
+/// A text of the kind `M` that `Debug` does not show. It has no equality, so that none is compared
+/// in passing. Contracts see it as its bytes.
+#[derive(Drop)]
+pub struct Secret<M> {
+    text: String,
+    of: PhantomData<M>,
+}
+
+impl<M> Model for Secret<M> {
+    ghost use Rattle.std.specs.Prelude.{List, ℕ};
+    ghost use Rattle.std.specs.String.{string_bytes};
+
+    ghost Value = { List ℕ };
+
+    ghost view = { λ t. string_bytes t.text };
+}
+
+impl<M: Marker> Secret<M> {
+    /// The text as it is given.
+    pub fn new(text: String) -> Self
+        ensures kept { result ≡ string_bytes text }
+    {
+        Secret {
+            text,
+            of: PhantomData,
+        }
+    }
+
+    /// The text.
+    pub fn secret(&self) -> &str
+        ensures text { result.now ≡ self.now }
+    {
+        self.text.as_str()
+    }
+
+    /// The text, taken out.
+    pub fn into_string(self) -> String
+        ensures text { string_bytes result ≡ self }
+    {
+        self.text
+    }
+
+    /// A copy of this text. `AllocError` is want of memory, the one error.
+    pub fn clone_in(&self, alloc: Global) -> Result<Self, AllocError>
+        ensures copy { IfOk result (λ copy. copy ≡ self.now) }
+    {
+        let text = String::from_str(alloc, self.text.as_str())?;
+        Ok(Secret::new(text))
+    }
+}
+
+/// Prints the kind alone, as `ClientSecret([redacted])`.
+impl<M: Marker> fmt::Debug for Secret<M> {
+    fn fmt<W: fmt::Write>(&self, f: &mut fmt::Formatter<W>) -> fmt::Result {
+        write!(f, "{}([redacted])", M::NAME)
+    }
+}

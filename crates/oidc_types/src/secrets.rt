@@ -1,0 +1,159 @@
+//! The names of texts that are not shown.
+
+use crate::secret::Secret;
+use crate::text::Marker;
+
+/// The name of [`AccessToken`].
+#[derive(Drop)]
+pub struct AccessTokenMarker;
+
+impl Marker for AccessTokenMarker {
+    const NAME: &'static str = "AccessToken";
+}
+
+/// Access token (RFC 6749 section 1.4).
+pub type AccessToken = Secret<AccessTokenMarker>;
+
+/// The name of [`AuthorizationCode`].
+#[derive(Drop)]
+pub struct AuthorizationCodeMarker;
+
+impl Marker for AuthorizationCodeMarker {
+    const NAME: &'static str = "AuthorizationCode";
+}
+
+/// Authorization code (RFC 6749 section 1.3.1).
+pub type AuthorizationCode = Secret<AuthorizationCodeMarker>;
+
+/// The name of [`ClientSecret`].
+#[derive(Drop)]
+pub struct ClientSecretMarker;
+
+impl Marker for ClientSecretMarker {
+    const NAME: &'static str = "ClientSecret";
+}
+
+/// Password of a client (RFC 6749 section 2.3.1).
+pub type ClientSecret = Secret<ClientSecretMarker>;
+
+/// The name of [`CsrfToken`].
+#[derive(Drop)]
+pub struct CsrfTokenMarker;
+
+impl Marker for CsrfTokenMarker {
+    const NAME: &'static str = "CsrfToken";
+}
+
+/// State that ties a callback to its request (RFC 6749 section 10.12).
+pub type CsrfToken = Secret<CsrfTokenMarker>;
+
+/// The name of [`DeviceCode`].
+#[derive(Drop)]
+pub struct DeviceCodeMarker;
+
+impl Marker for DeviceCodeMarker {
+    const NAME: &'static str = "DeviceCode";
+}
+
+/// Code by which a device asks for its token (RFC 8628 section 3.2).
+pub type DeviceCode = Secret<DeviceCodeMarker>;
+
+/// The name of [`LoginHint`].
+#[derive(Drop)]
+pub struct LoginHintMarker;
+
+impl Marker for LoginHintMarker {
+    const NAME: &'static str = "LoginHint";
+}
+
+/// Hint about the name that the end user may sign in by (OpenID Connect Core 1.0 section 3.1.2.1).
+pub type LoginHint = Secret<LoginHintMarker>;
+
+/// The name of [`LogoutHint`].
+#[derive(Drop)]
+pub struct LogoutHintMarker;
+
+impl Marker for LogoutHintMarker {
+    const NAME: &'static str = "LogoutHint";
+}
+
+/// Hint about the end user who signs out (OpenID Connect RP-Initiated Logout 1.0 section 2).
+pub type LogoutHint = Secret<LogoutHintMarker>;
+
+/// The name of [`Nonce`].
+#[derive(Drop)]
+pub struct NonceMarker;
+
+impl Marker for NonceMarker {
+    const NAME: &'static str = "Nonce";
+}
+
+/// Text that ties an ID token to its request (OpenID Connect Core 1.0 section 3.1.2.1).
+pub type Nonce = Secret<NonceMarker>;
+
+/// The name of [`PkceCodeVerifier`].
+#[derive(Drop)]
+pub struct PkceCodeVerifierMarker;
+
+impl Marker for PkceCodeVerifierMarker {
+    const NAME: &'static str = "PkceCodeVerifier";
+}
+
+/// Secret that shows that a code comes back from where it was asked for (RFC 7636 section 4.1).
+pub type PkceCodeVerifier = Secret<PkceCodeVerifierMarker>;
+
+/// The name of [`RefreshToken`].
+#[derive(Drop)]
+pub struct RefreshTokenMarker;
+
+impl Marker for RefreshTokenMarker {
+    const NAME: &'static str = "RefreshToken";
+}
+
+/// Refresh token (RFC 6749 section 1.5).
+pub type RefreshToken = Secret<RefreshTokenMarker>;
+
+/// The name of [`RegistrationAccessToken`].
+#[derive(Drop)]
+pub struct RegistrationAccessTokenMarker;
+
+impl Marker for RegistrationAccessTokenMarker {
+    const NAME: &'static str = "RegistrationAccessToken";
+}
+
+/// Access token for a client's registration (OpenID Connect Dynamic Client Registration 1.0
+/// section 3.2).
+pub type RegistrationAccessToken = Secret<RegistrationAccessTokenMarker>;
+
+/// The name of [`ResourceOwnerPassword`].
+#[derive(Drop)]
+pub struct ResourceOwnerPasswordMarker;
+
+impl Marker for ResourceOwnerPasswordMarker {
+    const NAME: &'static str = "ResourceOwnerPassword";
+}
+
+/// Password of a resource owner (RFC 6749 section 4.3.2).
+pub type ResourceOwnerPassword = Secret<ResourceOwnerPasswordMarker>;
+
+/// The name of [`UserCode`].
+#[derive(Drop)]
+pub struct UserCodeMarker;
+
+impl Marker for UserCodeMarker {
+    const NAME: &'static str = "UserCode";
+}
+
+/// Code that the end user types in (RFC 8628 section 3.2).
+pub type UserCode = Secret<UserCodeMarker>;
+
+/// The name of [`VerificationUriComplete`].
+#[derive(Drop)]
+pub struct VerificationUriCompleteMarker;
+
+impl Marker for VerificationUriCompleteMarker {
+    const NAME: &'static str = "VerificationUriComplete";
+}
+
+/// Address that holds the user code too (RFC 8628 section 3.2).
+pub type VerificationUriComplete = Secret<VerificationUriCompleteMarker>;

@@ -1,0 +1,2 @@
+mod newtypes;
+mod vocabularies;
