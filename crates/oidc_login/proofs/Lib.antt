@@ -1,0 +1,9 @@
+pub mod Entries
+pub mod Credentials
+pub mod Extended
+pub mod Sent
+pub mod Begun
+pub mod Called
+pub mod Members
+pub mod Verification
+pub mod TokenParts

@@ -1,0 +1,72 @@
+-- The token of a text of three parts.
+use Rattle.std.proofs.Common.{◌≡◌, ℕ, ◌+◌, ◌==◌, ◌≤◌, List, [], ◌∷◌, ◌++◌, Option, None, Some, take, length, codes, refl, sym, ap, ◌∙◌, arith, length-append}
+use Rattle.std.specs.Prelude.{option_and_then, option_map, is_some, true}
+use Rattle.std.specs.Borrow.{Bor}
+use Rattle.std.specs.Option.{option_map_or}
+use Rattle.std.proofs.lemmas.Bool.{false≢true}
+use Rattle.std.specs.List.{slice_split, join_with_byte}
+use Rattle.std.proofs.lemmas.List.{take_at, append_assoc}
+use Rattle.std.proofs.lemmas.List.Splits.{length-slice_split, join_with_byte-slice_split}
+use Rattle.base64.specs.GeneralPurpose.{decoded_of}
+use Rattle.base64.specs.Engines.{url_safe_no_pad}
+use Rattle.oidc_types.specs.declared.core_algorithms.CoreJwsSigningAlgorithm.{CoreJwsSigningAlgorithm}
+use Rattle.oidc_login.specs.IdTokens.{SeenToken, SeenClaims, token_of, token_of_split, token_of_parts, algorithm_in, claims_in, members_of_part}
+
+abbrev pub parts : List ℕ → List (List ℕ)
+parts text = slice_split (λ b. b == 46) text
+
+-- there is a part
+one_part : (text : List ℕ) → parts text ≡ [] → ⊥
+one_part text h = omega (arith, length-slice_split (λ b. b == 46) text, ap length h)
+
+pub token_of_one : (text a : List ℕ) → parts text ≡ a ∷ [] → token_of text ≡ None
+unfolding token_of
+token_of_one text a e = ap (token_of_split text) e
+
+pub token_of_two : (text a b : List ℕ) → parts text ≡ a ∷ b ∷ [] → token_of text ≡ None
+unfolding token_of
+token_of_two text a b e = ap (token_of_split text) e
+
+pub token_of_three : (text a b c : List ℕ) → parts text ≡ a ∷ b ∷ c ∷ [] → token_of text ≡ token_of_parts text a b c
+unfolding token_of
+token_of_three text a b c e = ap (token_of_split text) e
+
+four : (text a b c : List ℕ) (more : List (List ℕ)) → (more ≡ [] → ⊥) → token_of_split text (a ∷ b ∷ c ∷ more) ≡ None
+four text a b c [] h = absurd (h refl)
+four text a b c (d ∷ more) h = refl
+
+pub token_of_more : (text a b c : List ℕ) (rest : Option (Bor (List ℕ))) → is_some rest ≡ true
+    → parts text ≡ a ∷ b ∷ c ∷ option_map_or (λ r. parts r.now) rest [] → token_of text ≡ None
+unfolding token_of
+token_of_more text a b c None some e = absurd (false≢true some)
+token_of_more text a b c (Some rest) some e = ap (token_of_split text) e ∙ four text a b c (parts rest.now) (one_part rest.now)
+
+-- the message that is signed stands before the last dot
+pub message_of_three : (text a b c : List ℕ) → parts text ≡ a ∷ b ∷ c ∷ [] → take (length a + 1 + length b) text ≡ a ++ codes "." ++ b
+message_of_three text a b c e =
+    let joined : text ≡ (a ++ 46 ∷ b) ++ 46 ∷ c = sym (join_with_byte-slice_split 46 text) ∙ ap (join_with_byte 46) e ∙ sym (append_assoc a (46 ∷ b) (46 ∷ c)) in
+    ap (take (length a + 1 + length b)) joined ∙ take_at (a ++ 46 ∷ b) (46 ∷ c) _ (omega (arith, length-append {A = ℕ})) ∙ sym (append_assoc a (46 ∷ []) b)
+
+pub length_of_three : (text a b c : List ℕ) → parts text ≡ a ∷ b ∷ c ∷ [] → length a + 1 + length b ≤ length text
+length_of_three text a b c e =
+    let joined : text ≡ a ++ 46 ∷ (b ++ 46 ∷ c) = sym (join_with_byte-slice_split 46 text) ∙ ap (join_with_byte 46) e in
+    omega (arith, ap length joined, length-append {A = ℕ})
+
+-- the token of an algorithm, claims and a signature, where all are there
+abbrev pub token_from : List ℕ → List ℕ → Option CoreJwsSigningAlgorithm → Option SeenClaims → Option (List ℕ) → Option SeenToken
+token_from text message algorithm claims signature =
+    option_and_then (λ a. option_and_then (λ c. option_map (λ s. record {
+      text = text;
+      algorithm = a;
+      claims = c;
+      message = message;
+      signature = s;
+    }) signature) claims) algorithm
+
+pub token_of_read : (text a b c : List ℕ) (algorithm : Option CoreJwsSigningAlgorithm) (claims : Option SeenClaims) (signature : Option (List ℕ))
+    → parts text ≡ a ∷ b ∷ c ∷ []
+    → algorithm ≡ option_and_then algorithm_in (members_of_part a)
+    → claims ≡ option_and_then claims_in (members_of_part b)
+    → signature ≡ decoded_of url_safe_no_pad c
+    → token_of text ≡ token_from text (a ++ codes "." ++ b) algorithm claims signature
+token_of_read text a b c algorithm claims signature e e1 e2 e3 = rw (e1, e2, e3) (token_of_three text a b c e)

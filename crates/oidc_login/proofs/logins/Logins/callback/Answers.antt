@@ -1,0 +1,64 @@
+use Rattle.std.proofs.Common.{refl, sym, ◌∙◌, Err}
+use Rattle.oidc_login.specs.declared.errors.LoginError.TheVariants.{State}
+use Rattle.oidc_login.proofs.Sent.{after_nothing}
+use Rattle.oidc_login.proofs.Called.{outcome-unnamed, outcome-named, called_accepted, called_unbuilt, called_callback, called_claims, signs_in}
+use Rattle.oidc_login.proofs.logins.Logins.callback.Goals as goal
+
+pub returns-in-None-clause-reply : goal.returns-in-None-clause-reply
+returns-in-None-clause-reply c =
+    let unnamed = rw c.in-Ok.ensures at (sym c.take_named.ensures.login ∙ c.in-None.is) in
+    rw (← c.self.view_is) (rw (outcome-unnamed c.self.inside.client.now c.self.inside.pending c.args.query.now _ _ unnamed) refl)
+
+pub returns-in-None-clause-signs_in : goal.returns-in-None-clause-signs_in
+returns-in-None-clause-signs_in c =
+    let unnamed = rw c.in-Ok.ensures at (sym c.take_named.ensures.login ∙ c.in-None.is) in
+    rw (← c.self.view_is) (λ signed. signs_in c.self.inside.client.now c.self.inside.pending c.args.query.now _ _ signed (Err State)
+    (rw (outcome-unnamed c.self.inside.client.now c.self.inside.pending c.args.query.now _ _ unnamed) refl))
+
+pub returns-in-None-clause-sent : goal.returns-in-None-clause-sent
+returns-in-None-clause-sent c =
+    let unnamed = rw c.in-Ok.ensures at (sym c.take_named.ensures.login ∙ c.in-None.is) in
+    rw (← c.self.view_is) (rw (outcome-unnamed c.self.inside.client.now c.self.inside.pending c.args.query.now _ _ unnamed) (sym (after_nothing _)))
+
+pub returns-clause-reply : goal.returns-clause-reply
+returns-clause-reply c =
+    let named = rw c.in-Ok.ensures at (sym c.take_named.ensures.login ∙ c.in-Some.is) in
+    let runs = rw c.in-Ok.ensures at c.finish.ensures.run in
+    rw (← c.self.view_is) (rw (outcome-named c.self.inside.client.now c.self.inside.pending c.args.query.now _ _ _ named) runs.0)
+
+pub returns-clause-sent : goal.returns-clause-sent
+returns-clause-sent c =
+    let named = rw c.in-Ok.ensures at (sym c.take_named.ensures.login ∙ c.in-Some.is) in
+    let runs = rw c.in-Ok.ensures at c.finish.ensures.run in
+    rw (← c.self.view_is) (rw (outcome-named c.self.inside.client.now c.self.inside.pending c.args.query.now _ _ _ named) runs.1)
+
+pub returns-clause-accepted : goal.returns-clause-accepted
+returns-clause-accepted c =
+    let named = rw c.in-Ok.ensures at (sym c.take_named.ensures.login ∙ c.in-Some.is) in
+    let runs = rw c.in-Ok.ensures at c.finish.ensures.run in
+    rw (← c.self.view_is) (called_accepted c.self.inside.client.now c.self.inside.pending c.args.query.now _ _ _ named _ runs.0)
+
+pub returns-clause-callback : goal.returns-clause-callback
+returns-clause-callback c =
+    let named = rw c.in-Ok.ensures at (sym c.take_named.ensures.login ∙ c.in-Some.is) in
+    let runs = rw c.in-Ok.ensures at c.finish.ensures.run in
+    rw (← c.self.view_is) (called_callback c.self.inside.client.now c.self.inside.pending c.args.query.now _ _ _ named _ runs.0)
+
+pub returns-clause-unbuilt : goal.returns-clause-unbuilt
+returns-clause-unbuilt c =
+    let named = rw c.in-Ok.ensures at (sym c.take_named.ensures.login ∙ c.in-Some.is) in
+    let runs = rw c.in-Ok.ensures at c.finish.ensures.run in
+    rw (← c.self.view_is) (called_unbuilt c.self.inside.client.now c.self.inside.pending c.args.query.now _ _ _ named _ runs.0)
+
+pub returns-clause-claims : goal.returns-clause-claims
+returns-clause-claims c =
+    let named = rw c.in-Ok.ensures at (sym c.take_named.ensures.login ∙ c.in-Some.is) in
+    let runs = rw c.in-Ok.ensures at c.finish.ensures.run in
+    rw (← c.self.view_is) (called_claims c.self.inside.client.now c.self.inside.pending c.args.query.now _ _ _ named _ runs.0)
+
+pub returns-clause-signs_in : goal.returns-clause-signs_in
+returns-clause-signs_in c =
+    let named = rw c.in-Ok.ensures at (sym c.take_named.ensures.login ∙ c.in-Some.is) in
+    let runs = rw c.in-Ok.ensures at c.finish.ensures.run in
+    rw (← c.self.view_is) (λ signed. signs_in c.self.inside.client.now c.self.inside.pending c.args.query.now _ _ signed _
+    (rw (outcome-named c.self.inside.client.now c.self.inside.pending c.args.query.now _ _ _ named) runs.0))

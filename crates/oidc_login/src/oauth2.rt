@@ -1,0 +1,6 @@
+//! What a login needs of the token layer: the requests and answers of a transport, PKCE, the code
+//! request and its answer.
+
+pub(crate) mod code_request;
+pub(crate) mod pkce;
+pub mod transport;

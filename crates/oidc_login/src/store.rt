@@ -1,0 +1,110 @@
+// The logins that are pending, in the order in which they began.
+
+ghost use Rattle.std.specs.Prelude.{◌≡◌, OnOk, OnErr, IfSome, IsTrue, position, bytes_eq, None};
+ghost use Rattle.std.specs.String.{string_bytes};
+ghost use Rattle.std.specs.FinMap as finite;
+ghost use Rattle.oidc_login.specs.Pkce.{is_verifier};
+ghost use Rattle.oidc_login.specs.Pending.{HasVerifiers};
+
+use oidc_types::{Nonce, PkceCodeVerifier};
+use std::alloc::{AllocError, Global};
+use std::marker::Model;
+
+// What is kept of a login beside its state.
+#[derive(Drop)]
+pub(crate) struct Login {
+    pub(crate) nonce: Nonce,
+    pub(crate) verifier: PkceCodeVerifier,
+}
+
+impl Model for Login {
+    ghost use Rattle.oidc_login.specs.Pending.{SeenLogin, seen_login_code};
+
+    ghost Value = { SeenLogin };
+
+    ghost coded = { seen_login_code };
+
+    ghost view = { λ l. record { nonce = l.nonce; verifier = l.verifier } };
+}
+
+// A login under its state.
+#[derive(Drop)]
+struct Entry {
+    state: String,
+    login: Login,
+}
+
+// The pending logins. No state stands twice, and each verifier has 43 to 128 bytes.
+#[derive(Drop)]
+pub(crate) struct Store {
+    entries: Vec<Entry>,
+}
+
+impl Model for Store {
+    ghost use Rattle.oidc_login.specs.Pending.{Pending, pending_code};
+
+    ghost Value = { Pending };
+
+    ghost coded = { pending_code };
+
+    ghost use Rattle.oidc_login.specs.Entries.{kept, IsStored};
+
+    ghost view = { λ s. kept s.entries.items };
+
+    ghost invariant = { λ s. IsStored s.entries.items };
+}
+
+impl Store {
+    // The store without logins.
+    pub(crate) fn new(alloc: Global) -> Self
+        ensures { result ≡ finite.empty }
+    {
+        Store {
+            entries: Vec::new(alloc),
+        }
+    }
+
+    // How many logins are pending.
+    pub(crate) fn len(&self) -> usize
+        ensures count { result ≡ finite.len self.now }
+        ensures valid { HasVerifiers self.now }
+    {
+        self.entries.len()
+    }
+
+    // Where a state stands.
+    fn place_of(entries: &[Entry], state: &str) -> Option<usize>
+        ensures { result ≡ position (λ e. bytes_eq (string_bytes e.state) state.now) entries.now }
+    {
+        entries.iter().position(|e| e.state.as_str() == state)
+    }
+
+    // Whether a login of this state is pending.
+    pub(crate) fn contains(&self, state: &str) -> bool
+        ensures found { result ≡ finite.contains_key self.now state.now }
+        ensures valid { HasVerifiers self.now }
+    {
+        Store::place_of(&self.entries, state).is_some()
+    }
+
+    // Adds a login under a state that isn't pending. After an error the store is as it was.
+    pub(crate) fn insert(&mut self, state: String, login: Login) -> Result<(), AllocError>
+        requires state { finite.get self.old (string_bytes state) ≡ None }
+        requires verifier { IsTrue (is_verifier login.verifier) }
+        ensures ok { OnOk result (self.new ≡ finite.insert self.old (string_bytes state) login) }
+        ensures err { OnErr result (self.new ≡ self.old) }
+    {
+        self.entries.push(Entry { state, login })?;
+        Ok(())
+    }
+
+    // Takes the login of a state out. This takes no memory.
+    pub(crate) fn take(&mut self, state: &str) -> Option<Login>
+        ensures login { result ≡ finite.get self.old state.now }
+        ensures verifier { IfSome result (λ l. IsTrue (is_verifier l.verifier)) }
+        ensures rest { self.new ≡ finite.remove self.old state.now }
+    {
+        let at = Store::place_of(&self.entries, state)?;
+        Some(self.entries.remove(at).login)
+    }
+}
