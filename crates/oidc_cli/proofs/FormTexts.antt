@@ -1,0 +1,61 @@
+-- Form texts, pair by pair.
+use Rattle.std.proofs.Common.{◌≡◌, ℕ, List, [], ◌∷◌, ◌++◌, map, codes, Ok, refl, sym, ap, ◌∙◌, append_assoc, append-nil}
+use Rattle.std.specs.List.{join_with_byte}
+use Rattle.form_urlencoded.specs.Form.{serialize_pair}
+use Rattle.http_header.specs.HeaderMap.{get}
+use Rattle.oidc_pairs.specs.Form.{form}
+use Rattle.oidc_members.specs.Written.{object_text}
+use Rattle.oidc_login.specs.Transport.{SeenRequest}
+use Rattle.oidc_login.specs.SignedIns.{SeenSignedIn}
+use Rattle.oidc_login.specs.WrittenClaims.{written}
+use Rattle.oidc_cli.specs.FormParts.{behind}
+use Rattle.oidc_cli.specs.Report.{header_pair, body_pair, request_list, request_line, verdict_line}
+
+form_first : (pair : List ℕ × List ℕ) (list : List (List ℕ × List ℕ)) → form (pair ∷ list) ≡ serialize_pair pair ++ behind list
+unfolding form
+form_first pair [] = sym (append-nil (serialize_pair pair))
+form_first pair (next ∷ list) = ap (λ text. serialize_pair pair ++ 38 ∷ text) (form_first next list)
+
+behind-append : (a b : List (List ℕ × List ℕ)) → behind (a ++ b) ≡ behind a ++ behind b
+behind-append [] b = refl
+behind-append (pair ∷ a) b = ap (λ text. 38 ∷ serialize_pair pair ++ text) (behind-append a b) ∙ ap (λ text. 38 ∷ text) (simp append_assoc)
+
+behind_parts : (a : List ℕ × List ℕ) (x1 x2 x3 x4 : List (List ℕ × List ℕ))
+    → behind (((a ∷ x1 ++ x2) ++ x3) ++ x4) ≡ ((((38 ∷ serialize_pair a) ++ behind x1) ++ behind x2) ++ behind x3) ++ behind x4
+behind_parts a x1 x2 x3 x4 =
+    behind-append ((a ∷ x1 ++ x2) ++ x3) x4
+    ∙ ap (λ t. t ++ behind x4) (behind-append (a ∷ x1 ++ x2) x3 ∙ ap (λ t. t ++ behind x3) (behind-append (a ∷ x1) x2))
+
+nested : (r m p x y z w l : List ℕ)
+    → (((((((r ++ m) ++ (p ++ [])) ++ x) ++ y) ++ z) ++ w) ++ l) ≡ (r ++ (m ++ ((((p ++ x) ++ y) ++ z) ++ w))) ++ l
+nested r m p x y z w l = simp (append_assoc, append-nil)
+
+pub request_text : (request : SeenRequest) (t1 t2 t3 t4 t5 t6 t7 : List ℕ)
+    → t1 ≡ codes "request " ++ serialize_pair (codes "method", request.method)
+    → t2 ≡ t1 ++ behind ((codes "address", request.address) ∷ [])
+    → t3 ≡ t2 ++ behind (header_pair (codes "accept") (get request.headers (codes "accept")))
+    → t4 ≡ t3 ++ behind (header_pair (codes "content_type") (get request.headers (codes "content-type")))
+    → t5 ≡ t4 ++ behind (header_pair (codes "authorization") (get request.headers (codes "authorization")))
+    → t6 ≡ t5 ++ behind (body_pair request)
+    → t7 ≡ t6 ++ 10 ∷ []
+    → t7 ≡ request_line request
+unfolding request_line
+request_text request t1 t2 t3 t4 t5 t6 t7 e1 e2 e3 e4 e5 e6 e7 =
+    let x1 = header_pair (codes "accept") (get request.headers (codes "accept")) in
+    let x2 = header_pair (codes "content_type") (get request.headers (codes "content-type")) in
+    let x3 = header_pair (codes "authorization") (get request.headers (codes "authorization")) in
+    let x4 = body_pair request in
+    let a : List ℕ × List ℕ = (codes "address", request.address) in
+    rw (e7, e6, e5, e4, e3, e2, e1)
+    (nested (codes "request ") (serialize_pair (codes "method", request.method)) (38 ∷ serialize_pair a) (behind x1) (behind x2) (behind x3) (behind x4) (10 ∷ [])
+    ∙ ap (λ t. (codes "request " ++ t) ++ 10 ∷ [])
+    (ap (λ t. serialize_pair (codes "method", request.method) ++ t) (sym (behind_parts a x1 x2 x3 x4))
+    ∙ sym (form_first (codes "method", request.method) (((a ∷ x1 ++ x2) ++ x3) ++ x4))))
+
+pub signed_text : (signed : SeenSignedIn) (t1 t2 t3 : List ℕ)
+    → t1 ≡ codes "callback ok " ++ serialize_pair (codes "access_token", signed.access_token)
+    → t2 ≡ t1 ++ behind ((codes "claims", object_text (written signed.id_token.claims)) ∷ [])
+    → t3 ≡ t2 ++ 10 ∷ []
+    → t3 ≡ verdict_line (Ok signed)
+unfolding verdict_line
+signed_text signed t1 t2 t3 e1 e2 e3 = rw (e3, e2, e1) (simp (form_first, append_assoc))

@@ -1,0 +1,15 @@
+pub mod Listed
+pub mod Writing
+pub mod Taking
+pub mod OneWord
+pub mod Passing
+pub mod Callbacks
+pub mod Steps
+pub mod Endings
+pub mod Statuses
+pub mod FormTexts
+pub mod WrittenText
+pub mod Cuts
+pub mod Words
+pub mod Numbers
+pub mod ContentTypes

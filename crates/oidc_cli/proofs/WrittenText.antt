@@ -1,0 +1,32 @@
+-- The claims of an ID token are written without floats.
+use Rattle.std.proofs.Common.{◌≡◌, ℕ, ℤ, pos, negsuc, codes, Bool, false, ◌||◌, List, [], ◌∷◌, ◌++◌, Option, None, Some, map, refl, sym, ap, ◌∙◌}
+use Rattle.std.specs.Int.{int_div_euclid}
+use Rattle.serde_json.specs.Data.{string, number}
+use Rattle.serde_json.specs.Find.{of_integer}
+use Rattle.serde_json.specs.View.{items_of}
+use Rattle.serde_json.specs.Written.{has_float}
+use Rattle.oidc_members.specs.Written.{any_float}
+use Rattle.oidc_login.specs.IdTokens.{SeenClaims}
+use Rattle.oidc_login.specs.WrittenClaims.{written, texts_data, seconds_data, nonce_member, member_of}
+
+no_float_in_texts : (texts : List (List ℕ)) → has_float (texts_data texts) ≡ false
+no_float_in_texts [] = refl
+no_float_in_texts (text ∷ texts) = no_float_in_texts texts
+
+no_float_in_number : (n : ℤ) → has_float (number (of_integer n)) ≡ false
+no_float_in_number (pos n) = refl
+no_float_in_number (negsuc n) = refl
+
+four : (a b c d : Bool) → a ≡ false → b ≡ false → c ≡ false → d ≡ false → (a || (b || (c || d))) ≡ false
+four a b c d p q r s = rw (p, q, r, s) refl
+
+no_float_behind : (nonce : Option (List ℕ)) (subject : List ℕ) → any_float (nonce_member nonce ++ member_of (codes "sub") (string subject) ∷ []) ≡ false
+no_float_behind None subject = refl
+no_float_behind (Some nonce) subject = refl
+
+pub no_float : (claims : SeenClaims) → any_float (written claims) ≡ false
+no_float claims =
+    four _ _ _ _ (no_float_in_texts claims.audiences)
+    (no_float_in_number (int_div_euclid claims.expiration (pos 1_000_000_000)))
+    (no_float_in_number (int_div_euclid claims.issue_time (pos 1_000_000_000)))
+    (no_float_behind claims.nonce claims.subject)

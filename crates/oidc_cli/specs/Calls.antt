@@ -1,0 +1,29 @@
+-- The calls of an object in memory.
+use Rattle.std.specs.Prelude.{ℕ, ◌==◌, ◌+◌, Bool, List, refl}
+use Rattle.std.specs.List.{list_any}
+use Rattle.std.specs.Coded.{Coded, code_by, coded_ℕ, coded_list, coded×}
+use Rattle.oidc_cli.specs.Told.{risen}
+
+-- the numbers of the calls that fail, counted from 1; how many calls were made; and how many of them failed
+pub record SeenCalls : Type 0 where
+  pub failing : List ℕ
+  pub made : ℕ
+  pub faults : ℕ
+
+-- the next call is one of those that fail
+abbrev pub fails_next : SeenCalls → Bool
+fails_next calls = list_any (λ number. number == calls.made + 1) calls.failing
+
+-- after one call more that succeeded, and after one that failed
+abbrev pub after_success : SeenCalls → SeenCalls
+after_success calls = record calls { made = risen calls.made }
+
+abbrev pub after_fault : SeenCalls → SeenCalls
+after_fault calls = record calls { made = risen calls.made; faults = risen calls.faults }
+
+-- how the logic stores it; no clause cites it
+abbrev pub calls_code : Coded SeenCalls
+calls_code =
+    code_by (List ℕ × (ℕ × ℕ)) (coded× (coded_list coded_ℕ) (coded× coded_ℕ coded_ℕ))
+    (λ c. (c.failing, (c.made, c.faults)))
+    (λ p. record { failing = p.0; made = p.1.0; faults = p.1.1 }) (λ _. refl)

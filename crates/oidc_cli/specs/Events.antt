@@ -1,0 +1,29 @@
+-- What the lines of a script say.
+use Rattle.std.specs.Prelude.{ℕ, ℤ, List}
+use Rattle.oidc_types.specs.UrlTexts.{TextAndUrl}
+use Rattle.oidc_types.specs.declared.core_algorithms.CoreJwsSigningAlgorithm.{CoreJwsSigningAlgorithm}
+
+-- a client line: the client's ID and secret, its provider's issuer and two endpoints, and the signing
+-- algorithms that it allows
+pub record SeenClientLine : Type 0 where
+  pub id : List ℕ
+  pub secret : List ℕ
+  pub issuer : TextAndUrl
+  pub auth : TextAndUrl
+  pub token : TextAndUrl
+  pub algorithms : List CoreJwsSigningAlgorithm
+
+-- a begin line: the state and the nonce of the request, and the verifier
+pub record SeenBeginLine : Type 0 where
+  pub state : List ℕ
+  pub nonce : List ℕ
+  pub verifier : List ℕ
+
+-- a callback line: the moment in nanoseconds since the Unix epoch, the query, and the status, content
+-- type and body of the answer to the token request
+pub record SeenCallbackLine : Type 0 where
+  pub now : ℤ
+  pub query : List ℕ
+  pub status : ℕ
+  pub content_type : List ℕ
+  pub body : List ℕ

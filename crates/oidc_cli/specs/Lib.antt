@@ -1,0 +1,15 @@
+pub mod Told
+pub mod Calls
+pub mod Sources
+pub mod Sinks
+pub mod Readers
+pub mod Writers
+pub mod Lines
+pub mod Values
+pub mod Events
+pub mod Script
+pub mod Faults
+pub mod FormParts
+pub mod Report
+pub mod Endings
+pub mod Statuses

@@ -1,0 +1,27 @@
+-- Sinks in memory.
+use Rattle.std.specs.Prelude.{ℕ, ◌+◌, Bool, ◌||◌, nat_lt, List, ◌++◌, length, refl}
+use Rattle.std.specs.Coded.{Coded, code_by, coded_ℕ, coded_list, coded×}
+use Rattle.oidc_cli.specs.Calls.{SeenCalls, calls_code, fails_next, after_success, after_fault}
+
+-- the bytes that are held, how many there is room for, and the calls
+pub record SeenSink : Type 0 where
+  pub held : List ℕ
+  pub room : ℕ
+  pub calls : SeenCalls
+
+-- the next call fails at this piece: it is one of those that fail, or the piece goes past the room
+abbrev pub fails_at : SeenSink → List ℕ → Bool
+fails_at sink piece = fails_next sink.calls || nat_lt sink.room (length sink.held + length piece)
+
+-- after a call that put a piece, and after one that failed
+abbrev pub after_putting : SeenSink → List ℕ → SeenSink
+after_putting sink piece = record sink { held = sink.held ++ piece; calls = after_success sink.calls }
+
+abbrev pub after_failing : SeenSink → SeenSink
+after_failing sink = record sink { calls = after_fault sink.calls }
+
+-- how the logic stores it; no clause cites it
+abbrev pub sink_code : Coded SeenSink
+sink_code =
+    code_by (List ℕ × (ℕ × SeenCalls)) (coded× (coded_list coded_ℕ) (coded× coded_ℕ calls_code))
+    (λ s. (s.held, (s.room, s.calls))) (λ p. record { held = p.0; room = p.1.0; calls = p.1.1 }) (λ _. refl)

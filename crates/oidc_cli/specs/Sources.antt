@@ -1,0 +1,22 @@
+-- Sources in memory, and over a reader.
+use Rattle.std.specs.Prelude.{ℕ, List, drop, refl}
+use Rattle.std.specs.Coded.{Coded, code_by, coded_ℕ, coded_list, coded×}
+use Rattle.oidc_cli.specs.Calls.{SeenCalls, calls_code, after_success, after_fault}
+
+-- the bytes that are left, and the calls
+pub record SeenSource : Type 0 where
+  pub left : List ℕ
+  pub calls : SeenCalls
+
+-- after a call that took n bytes, and after one that failed
+abbrev pub after_taking : SeenSource → ℕ → SeenSource
+after_taking source n = record { left = drop n source.left; calls = after_success source.calls }
+
+abbrev pub after_failing : SeenSource → SeenSource
+after_failing source = record source { calls = after_fault source.calls }
+
+-- how the logic stores it; no clause cites it
+abbrev pub source_code : Coded SeenSource
+source_code =
+    code_by (List ℕ × SeenCalls) (coded× (coded_list coded_ℕ) calls_code)
+    (λ s. (s.left, s.calls)) (λ p. record { left = p.0; calls = p.1 }) (λ _. refl)

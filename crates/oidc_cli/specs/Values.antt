@@ -1,0 +1,64 @@
+-- The kinds of values on the lines of a script.
+use Rattle.std.specs.Prelude.{ℕ, ◌==◌, nat_lt, nat_le, ℤ, pos, neg_ℤ, ◌*ℤ◌, int_le, List, [], ◌∷◌, length, Bool, ◌&&◌, Option, None, Some, option_and_then, option_map, Ok, Err, if◌then◌else◌}
+use Rattle.std.specs.List.{list_all, slice_split}
+use Rattle.std.specs.Str.{all_ascii_digits}
+use Rattle.std.specs.Str.Parse.{digits_value}
+use Rattle.http_header.specs.Token.{is_visible_or_blank}
+use Rattle.url.specs.Parser.{parse_url}
+use Rattle.oidc_types.specs.UrlTexts.{TextAndUrl}
+use Rattle.oidc_types.specs.declared.core_algorithms.CoreJwsSigningAlgorithm.{CoreJwsSigningAlgorithm}
+use Rattle.oidc_types.specs.SigningAlgorithms.{signing_text, signing_algorithms}
+use Rattle.oidc_types.specs.Words.{find_word}
+
+-- ---- URLs
+
+-- a text that the URL Standard takes, and the URL that it reads
+abbrev pub url_of : List ℕ → Option TextAndUrl
+url_of text = elim (parse_url None text) [ Ok url ↦ Some (record { text = text; url = url }) | Err refusal ↦ None ]
+
+-- ---- signing algorithms
+
+-- the algorithms of these texts, where each is the text of one
+abbrev pub all_algorithms : List (List ℕ) → Option (List CoreJwsSigningAlgorithm)
+all_algorithms [] = Some []
+all_algorithms (text ∷ texts) =
+    option_and_then (λ algorithm. option_map (λ later. algorithm ∷ later) (all_algorithms texts)) (find_word signing_text signing_algorithms text)
+
+-- texts of algorithms, joined by one space; the empty text is the empty list
+unfoldable pub algorithms_of : List ℕ → Option (List CoreJwsSigningAlgorithm)
+algorithms_of [] = Some []
+algorithms_of (b ∷ text) = all_algorithms (slice_split (λ c. c == 32) (b ∷ text))
+
+-- ---- numbers
+
+-- the number that one decimal digit or more write
+abbrev pub decimal_of : List ℕ → Option ℕ
+decimal_of text = if nat_lt 0 (length text) && all_ascii_digits text then Some (digits_value 10 text) else None
+
+-- the whole number that digits write, below zero behind a `-`
+abbrev pub whole_of : List ℕ → Option ℤ
+whole_of [] = None
+whole_of (b ∷ text) =
+    if b == 45 then option_map (λ n. neg_ℤ (pos n)) (decimal_of text) else option_map pos (decimal_of (b ∷ text))
+
+-- A moment at whole seconds since the Unix epoch, as nanoseconds. It is one that has a date within the
+-- years -9999 to 9999 at each offset from UTC.
+abbrev pub moment_at : ℤ → Option ℤ
+moment_at second =
+    if int_le (neg_ℤ (pos 377_705_023_201)) second && int_le second (pos 253_402_207_200)
+    then Some (second *ℤ pos 1_000_000_000)
+    else None
+
+unfoldable pub moment_of : List ℕ → Option ℤ
+moment_of text = option_and_then moment_at (whole_of text)
+
+-- ---- parts of an answer
+
+-- a status code: three digits that write a number from 100 on
+unfoldable pub status_of : List ℕ → Option ℕ
+status_of text =
+    option_and_then (λ n. if nat_le 100 n then Some n else None) (if length text == 3 then decimal_of text else None)
+
+-- a content type: tabs, spaces and visible ASCII
+unfoldable pub content_type_of : List ℕ → Option (List ℕ)
+content_type_of text = if list_all is_visible_or_blank text then Some text else None

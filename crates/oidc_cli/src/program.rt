@@ -1,0 +1,103 @@
+//! The whole program, but for its words and its adapters.
+ghost use Rattle.std.specs.Prelude.{◌≡◌, ◌≢◌, ◌↔◌, ◌⊎◌, ◌≤◌, ◌<◌, ◌+◌, ℕ, List, [], ◌∷◌, map, length, Some, None, IsSome, codes};
+ghost use Rattle.std.specs.String.{string_bytes};
+ghost use Rattle.std.specs.Io.KnownBytes.{IsAtEnd};
+ghost use Rattle.oidc_cli.specs.Told.{HasRisen, Takes, Puts, PutsPrefix};
+ghost use Rattle.oidc_cli.specs.Faults.{limit, fault_of};
+ghost use Rattle.oidc_cli.specs.Report.{report};
+ghost use Rattle.oidc_cli.specs.Statuses.{EndsInFault, status_after};
+
+use crate::reading::{ReadError, is_replay, read_script};
+use crate::replay::{Ending, Halt, replay};
+use crate::{Sink, Source};
+use std::alloc::Global;
+
+/// The script was read to its end, each of its lines was an event in its place, and the report was
+/// written.
+pub const DONE: u8 = 0;
+
+/// The sink failed.
+pub const SINK_FAULT: u8 = 1;
+
+/// The words aren't the one word `replay`.
+pub const WRONG_WORDS: u8 = 2;
+
+/// The script has a fault, and the report that ends in its line was written.
+pub const SCRIPT_FAULT: u8 = 3;
+
+/// The source failed.
+pub const SOURCE_FAULT: u8 = 4;
+
+/// There was no memory.
+pub const NO_MEMORY: u8 = 5;
+
+/// Runs the program: reads a script of the source, runs it through a store of pending logins, and
+/// writes the report to the sink. The result is the exit status.
+///
+/// Nothing is written before the source was read to its end, or until more than 67,108,864 bytes were
+/// read. Each line of the report is one call of the sink. What the clauses say of bytes, they say of a
+/// source that tells them; a sink that tells nothing tells nothing after the call either. For want of
+/// memory the status may be 5 wherever the words are right.
+pub fn run<S: Source, O: Sink>(alloc: Global, words: &[String], source: &mut S, sink: &mut O) -> u8
+    ensures status { result ≤ 5 }
+
+    // 2 exactly where the words are wrong. Nothing is read then, and nothing written.
+    ensures words { (result ≡ 2) ↔ (map string_bytes words.now ≢ codes "replay" ∷ []) }
+    ensures unread { result ≡ 2 → source.new ≡ source.old }
+    ensures unwritten { (result ≡ 2) ⊎ (result ≡ 4) → sink.new ≡ sink.old }
+
+    // 1 and 4 only where that object has failed.
+    ensures sink_fault { result ≡ 1 → HasRisen (O.faults sink.old) (O.faults sink.new) }
+    ensures source_fault { result ≡ 4 → HasRisen (S.faults source.old) (S.faults source.new) }
+    ensures counts { (S.faults source.old ≤ S.faults source.new)
+        × (O.faults sink.old ≤ O.faults sink.new) }
+
+    // On 0 the source was read to its end, and the whole report stands behind what the sink held.
+    ensures ended { result ≡ 0 → IsAtEnd (S.told source.new) }
+    ensures whole { (script : List ℕ) → S.told source.old ≡ Some script → result ≡ 0
+        → fault_of script ≡ None }
+    ensures reported { (script : List ℕ) → S.told source.old ≡ Some script → result ≡ 0
+        → Puts (O.told sink.old) (O.told sink.new) (report script) }
+
+    // On 3 the script has a fault, and its report ends in the line of the first.
+    ensures fault { (script : List ℕ) → S.told source.old ≡ Some script → result ≡ 3
+        → EndsInFault script }
+    ensures fault_reported { (script : List ℕ) → S.told source.old ≡ Some script → result ≡ 3
+        → Puts (O.told sink.old) (O.told sink.new) (report script) }
+
+    // On 1 and 5 what was written begins the report.
+    ensures begun { (script : List ℕ) → S.told source.old ≡ Some script → (result ≡ 1) ⊎ (result ≡ 5)
+        → PutsPrefix (O.told sink.old) (O.told sink.new) (report script) }
+
+    // Reading stops once more than 67,108,864 bytes are held: at most one piece more is taken.
+    ensures bounded { (read : List ℕ) × Takes (S.told source.old) (S.told source.new) read
+        × (length read ≤ 67_108_864 + 8_192) }
+
+    // A script without a fault is reported, where nothing fails and there is memory.
+    ensures completes { (script : List ℕ) → map string_bytes words.now ≡ codes "replay" ∷ []
+        → S.told source.old ≡ Some script → fault_of script ≡ None
+        → ¬ (HasRisen (S.faults source.old) (S.faults source.new))
+        → ¬ (HasRisen (O.faults sink.old) (O.faults sink.new))
+        → (result ≡ 0) ⊎ (result ≡ 5) }
+{
+    if !is_replay(words) {
+        return WRONG_WORDS;
+    }
+    match read_script(alloc, source) {
+        Ok(script) => status_of(replay(alloc, script.as_slice(), sink)),
+        Err(ReadError::Source) => SOURCE_FAULT,
+        Err(ReadError::Memory) => NO_MEMORY,
+    }
+}
+
+// The status of a run whose script was read.
+fn status_of(ended: Result<Ending, Halt>) -> u8
+    ensures { result ≡ status_after ended }
+{
+    match ended {
+        Ok(Ending::Pending) => DONE,
+        Ok(Ending::Fault) => SCRIPT_FAULT,
+        Err(Halt::Sink) => SINK_FAULT,
+        Err(Halt::Memory) => NO_MEMORY,
+    }
+}

@@ -1,0 +1,85 @@
+//! The words and the script, as `run` takes them.
+ghost use Rattle.std.specs.Prelude.{◌≡◌, ◌≢◌, ◌↔◌, ◌+◌, ◌≤◌, ℕ, List, [], ◌∷◌, map, length, take, IsTrue, IsErrOf, IfOk, codes};
+ghost use Rattle.std.specs.String.{string_bytes};
+ghost use Rattle.std.specs.Io.KnownBytes.{IsAtEnd};
+ghost use Rattle.oidc_cli.specs.Told.{HasRisen, Takes};
+ghost use Rattle.oidc_cli.specs.Faults.{limit};
+
+use crate::{Failed, Source};
+use std::alloc::{AllocError, Global};
+
+/// The most bytes that a script may have.
+pub const LIMIT: usize = 67_108_864;
+
+/// How many bytes are taken of a source at a time.
+pub const PIECE: usize = 8_192;
+
+/// Why there is no script.
+#[derive(Clone, Copy, Debug, PartialEq, Eq)]
+pub enum ReadError {
+    /// The source failed.
+    Source,
+    /// There was no memory.
+    Memory,
+}
+
+impl From<Failed> for ReadError {
+    ghost use Rattle.std.specs.Prelude.{◌≡◌};
+    ghost use Rattle.oidc_cli.specs.declared.reading.ReadError.TheVariants.{Source};
+
+    ghost from_gives = { λ _ e. e ≡ Source };
+
+    fn from(_failed: Failed) -> ReadError {
+        ReadError::Source
+    }
+}
+
+impl From<AllocError> for ReadError {
+    ghost use Rattle.std.specs.Prelude.{◌≡◌};
+    ghost use Rattle.oidc_cli.specs.declared.reading.ReadError.TheVariants.{Memory};
+
+    ghost from_gives = { λ _ e. e ≡ Memory };
+
+    fn from(_refused: AllocError) -> ReadError {
+        ReadError::Memory
+    }
+}
+
+/// Whether the words are the one word `replay`.
+pub fn is_replay(words: &[String]) -> bool
+    ensures { IsTrue result ↔ (map string_bytes words.now ≡ codes "replay" ∷ []) }
+{
+    match words {
+        [word] => is_word_replay(word.as_str()),
+        _ => false,
+    }
+}
+
+fn is_word_replay(word: &str) -> bool
+    ensures { IsTrue result ↔ (word.now ≡ codes "replay") }
+{
+    word == "replay"
+}
+
+/// Reads a source to its end, or until more than `LIMIT` bytes are held.
+pub fn read_script<S: Source>(alloc: Global, source: &mut S) -> Result<Vec<u8>, ReadError>
+    ensures script { IfOk result (λ script. Takes (S.told source.old) (S.told source.new) script.items) }
+    ensures ended { IfOk result (λ script. length script.items ≤ limit → IsAtEnd (S.told source.new)) }
+
+    // What was taken, whatever came of it.
+    ensures bounded { (read : List ℕ) × Takes (S.told source.old) (S.told source.new) read × (length read ≤ limit + 8_192) }
+
+    ensures blamed { IsErrOf result ReadError.Source → HasRisen (S.faults source.old) (S.faults source.new) }
+    ensures counts { S.faults source.old ≤ S.faults source.new }
+{
+    let mut script = Vec::new(alloc);
+    let mut piece = [0u8; PIECE];
+    while script.len() <= LIMIT {
+        let count = source.take(&mut piece)?;
+        if count == 0 {
+            return Ok(script);
+        }
+        script.extend_from_slice(&piece[..count])?;
+    }
+    Ok(script)
+}
