@@ -1,8 +1,31 @@
-//! The program `replay` as a library: its outside, and the call that runs it.
+//! The program `replay` as a library: a script of logins is read, run, and reported.
 //!
+//! - [`run`] is the whole program but for its words and its adapters. It reads a script of a
+//!   [`Source`], runs its events through a store of pending logins of `oidc_login`, and puts the report
+//!   into a [`Sink`]. Its contract says each of its statuses by its cause, and that what it wrote is the
+//!   report of the script, or begins it.
 //! - [`Source`] gives the bytes of a script and [`Sink`] takes those of a report. Each tells its bytes,
 //!   or doesn't, and counts its faults. [`MemorySource`] and [`MemorySink`] are in memory and fail where
 //!   they are told to; [`ReadSource`] and [`WriteSink`] are over a reader and a writer of std.
+//!
+//! # Scripts
+//!
+//! A script is cut into lines at line feeds. Each line is form pairs (URL Standard, section 5.1), of
+//! which the first is `op`; the others stand once each, in any order. The first line is a client line,
+//! and each later one a begin or a callback line.
+//!
+//! - `op=client`: `id`, `secret`, and the URL texts `issuer`, `auth` and `token`; `algs`, the texts of
+//!   signing algorithms with one space between them.
+//! - `op=begin`: `state`, `nonce` and `verifier`.
+//! - `op=callback`: `now`, whole seconds since the Unix epoch; `query`; and the answer to the token
+//!   request: `token_status`, three digits; `token_type`, a content type; and `token_body`.
+//!
+//! # Reports
+//!
+//! Each line ends in a line feed: `client ok`; `begin ok` and the URL, or `begin refused` and why; for a
+//! callback a line `request` for each request that was sent, and then `callback ok` with access token
+//! and claims, or `callback refused` and why; at last `pending` and the number of pending logins, or
+//! `script fault line` and the number of the first line that is no event in its place.
 #![tactic(auto)]
 
 mod calls;

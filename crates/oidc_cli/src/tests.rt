@@ -1,4 +1,7 @@
 //! What no clause says: that the calls succeed, and what the objects over std do.
+mod scripts;
+mod texts;
+
 use crate::{Failed, MemorySink, MemorySource, ReadSource, Sink, Source, WriteSink};
 use std::io;
 use std::io::{ErrorKind, Read, Write};
