@@ -69,15 +69,20 @@ fn sends_coded_credentials(rt: HostRuntime) -> Result<(), Fail> {
         let client = client_of(alloc, id, secret, "https://example")?;
         let client = with_endpoint(alloc, client, "https://example/token")?;
         let http = called(&rt, alloc, &client)?;
-        assert_eq!(rt; authorization(&http), Some(wanted.as_bytes()));
+        assert!(rt; has_credentials(&http, wanted), "{wanted}");
     }
     Ok(())
 }
 
-// The credentials of the first request.
-fn authorization(http: &Recorded) -> Option<&[u8]> {
-    let value = http.requests().first()?.headers().get(AUTHORIZATION)?;
-    Some(value.as_bytes())
+// Whether the first request has these credentials.
+fn has_credentials(http: &Recorded, wanted: &str) -> bool {
+    let Some(request) = http.requests().first() else {
+        return false;
+    };
+    match request.headers().get(AUTHORIZATION) {
+        Some(value) => value.as_bytes() == wanted.as_bytes(),
+        None => false,
+    }
 }
 
 // Queries that hand nothing over, why, and how many logins are pending afterwards (RFC 6749 section
