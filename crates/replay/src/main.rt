@@ -11,13 +11,14 @@ ghost use Rattle.std.specs.Prelude.{◌≡◌, ◌≢◌, ◌↔◌, ◌⊎◌, 
 ghost use Rattle.std.specs.String.{string_bytes};
 ghost use Rattle.std.specs.IoError.{error_kind};
 ghost use Rattle.std.specs.Io.KnownBytes.{IsAtEnd};
-ghost use Rattle.oidc_cli.specs.Told.{HasRisen, Puts};
+ghost use Rattle.oidc_cli.specs.Told.{HasRisen, Puts, PutsPrefix};
 ghost use Rattle.oidc_cli.specs.Faults.{fault_of};
 ghost use Rattle.oidc_cli.specs.Report.{report};
 ghost use Rattle.oidc_cli.specs.Statuses.{EndsInFault};
 
 use oidc_cli::{NO_MEMORY, ReadSource, Sink, Source, WRONG_WORDS, WriteSink, run};
 use std::alloc::Global;
+use std::io::ErrorKind;
 use std::process::ExitCode;
 use std::{env, io};
 
@@ -34,10 +35,10 @@ fn words_of<R: std::rt::Env + Alloc<A = Global>>(rt: &R) -> io::Result<Vec<Strin
 
 // The status where there are no words.
 fn status_without_words(error: &io::Error) -> u8
-    ensures memory { error_kind error.now ≡ io::ErrorKind.OutOfMemory → result ≡ 5 }
-    ensures unreadable { error_kind error.now ≢ io::ErrorKind.OutOfMemory → result ≡ 2 }
+    ensures memory { error_kind error.now ≡ ErrorKind.OutOfMemory → result ≡ 5 }
+    ensures unreadable { error_kind error.now ≢ ErrorKind.OutOfMemory → result ≡ 2 }
 {
-    if error.kind() == io::ErrorKind::OutOfMemory {
+    if error.kind() == ErrorKind::OutOfMemory {
         NO_MEMORY
     } else {
         WRONG_WORDS
@@ -54,8 +55,8 @@ fn status_of<S: Source, O: Sink>(
     ensures status { result ≤ 5 }
 
     // Without words: why there are none.
-    ensures memory { IfErr words (λ error. error_kind error ≡ io::ErrorKind.OutOfMemory → result ≡ 5) }
-    ensures unreadable { IfErr words (λ error. error_kind error ≢ io::ErrorKind.OutOfMemory → result ≡ 2) }
+    ensures memory { IfErr words (λ error. error_kind error ≡ ErrorKind.OutOfMemory → result ≡ 5) }
+    ensures unreadable { IfErr words (λ error. error_kind error ≢ ErrorKind.OutOfMemory → result ≡ 2) }
     ensures untouched { IfErr words (λ error. (source.new ≡ source.old) × (sink.new ≡ sink.old)) }
 
     // With words: what `run` promises of them.
@@ -70,6 +71,9 @@ fn status_of<S: Source, O: Sink>(
         → EndsInFault script }
     ensures reported { (script : List ℕ) → S.told source.old ≡ Some script → (result ≡ 0) ⊎ (result ≡ 3)
         → Puts (O.told sink.old) (O.told sink.new) (report script) }
+    ensures begun { IfOk words (λ words. (script : List ℕ) → S.told source.old ≡ Some script
+        → (result ≡ 1) ⊎ (result ≡ 5)
+        → PutsPrefix (O.told sink.old) (O.told sink.new) (report script)) }
 {
     match words {
         Ok(words) => run(alloc, words.as_slice(), source, sink),

@@ -1,4 +1,6 @@
 //! Scripts at the limit of their bytes, and addresses at the limit of theirs.
+ghost use Rattle.std.specs.Prelude.{Option};
+
 use crate::tests::scripts::{ran, text_of, word};
 use crate::tests::texts::{BEGIN, BEGIN_OK, CALLBACK, CLIENT, SIGNED};
 use crate::{DONE, Failed, MemorySink, MemorySource, SCRIPT_FAULT, Source, run};
