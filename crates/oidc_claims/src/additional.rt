@@ -46,7 +46,7 @@ pub struct EmptyAdditionalClaims;
 impl AdditionalClaims for EmptyAdditionalClaims {
     ghost use Rattle.std.specs.Prelude.{◌≡◌, [], Result, refl};
 
-    ghost read_of = { λ _. Result.Ok (record { }) };
+    ghost read_of = { λ _. Result.Ok (record {}) };
 
     ghost write_of = { λ _. [] };
 

@@ -162,7 +162,10 @@ impl Claim {
     pub fn of_base(base: &str) -> Option<Claim>
         ensures { result ≡ claim_of base.now }
     {
-        Claim::ALL.iter().copied().find(|claim| claim.name() == base)
+        Claim::ALL
+            .iter()
+            .copied()
+            .find(|claim| claim.name() == base)
     }
 
     /// The claim that a member's name is of: that of its base, whatever its tag.
