@@ -2,6 +2,10 @@ pub mod Additional
 pub mod Gender
 pub mod Home
 pub mod Others
+pub mod SameClaims
 pub mod SameData
+pub mod SameLaws
+pub mod Seen
+pub mod SeenCode
 pub mod Sound
 pub mod Table

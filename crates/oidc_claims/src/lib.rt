@@ -14,6 +14,7 @@
 
 pub mod additional;
 mod claim;
+pub mod claims;
 pub mod gender;
 pub mod home;
 mod name;
@@ -21,7 +22,8 @@ pub mod others;
 mod same;
 
 pub use crate::additional::{AdditionalClaims, EmptyAdditionalClaims};
-pub use crate::claim::Claim;
+pub use crate::claim::{Claim, ClaimKind};
+pub use crate::claims::{AddressClaim, StandardClaims};
 pub use crate::gender::GenderClaim;
 pub use crate::home::{Home, ID_TOKEN_FIELDS, USER_INFO_FIELDS, belongs};
 pub use crate::others::AllOtherClaims;

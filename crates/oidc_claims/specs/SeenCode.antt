@@ -1,0 +1,28 @@
+-- How the logic stores the standard claims: as the tuple of their fields. No clause speaks of it.
+use Rattle.std.specs.Prelude.{ℕ, ℤ, Bool, List, Option, refl}
+use Rattle.std.specs.Coded.{Coded, code_by, coded×, coded_option, coded_list, coded_ℕ, coded_ℤ, coded_bool}
+use Rattle.oidc_types.specs.Variants.{Variants, variants_code}
+use Rattle.oidc_claims.specs.declared.claims.address.AddressClaim.{AddressClaim}
+use Rattle.oidc_claims.specs.Seen.{SeenClaims}
+
+abbrev text_code : Coded (List ℕ)
+text_code = coded_list coded_ℕ
+
+abbrev part_code : Coded (Option (List ℕ))
+part_code = coded_option text_code
+
+abbrev pub address_code : Coded AddressClaim
+address_code =
+    code_by (Option (List ℕ) × (Option (List ℕ) × (Option (List ℕ) × (Option (List ℕ) × (Option (List ℕ) × Option (List ℕ))))))
+    (coded× part_code (coded× part_code (coded× part_code (coded× part_code (coded× part_code part_code)))))
+    (λ a. (a.formatted, (a.street_address, (a.locality, (a.region, (a.postal_code, a.country))))))
+    (λ p. record { formatted = p.0; street_address = p.1.0; locality = p.1.1.0; region = p.1.1.1.0; postal_code = p.1.1.1.1.0; country = p.1.1.1.1.1 })
+    (λ _. refl)
+
+abbrev pub seen_claims_code : {Gender : Type 0} → Coded Gender → Coded (SeenClaims Gender)
+seen_claims_code {Gender} gender =
+    code_by (List ℕ × (Option (Variants (List ℕ)) × (Option (Variants (List ℕ)) × (Option (Variants (List ℕ)) × (Option (Variants (List ℕ)) × (Option (Variants (List ℕ)) × (Option (List ℕ) × (Option (Variants (List ℕ)) × (Option (Variants (List ℕ)) × (Option (Variants (List ℕ)) × (Option (List ℕ) × (Option (Bool) × (Option (Gender) × (Option (List ℕ) × (Option (List ℕ) × (Option (List ℕ) × (Option (List ℕ) × (Option (List ℕ) × (Option (Bool) × (Option (AddressClaim) × (Option (ℤ))))))))))))))))))))))
+    (coded× (text_code) (coded× (coded_option (variants_code text_code)) (coded× (coded_option (variants_code text_code)) (coded× (coded_option (variants_code text_code)) (coded× (coded_option (variants_code text_code)) (coded× (coded_option (variants_code text_code)) (coded× (coded_option text_code) (coded× (coded_option (variants_code text_code)) (coded× (coded_option (variants_code text_code)) (coded× (coded_option (variants_code text_code)) (coded× (coded_option text_code) (coded× (coded_option coded_bool) (coded× (coded_option gender) (coded× (coded_option text_code) (coded× (coded_option text_code) (coded× (coded_option text_code) (coded× (coded_option text_code) (coded× (coded_option text_code) (coded× (coded_option coded_bool) (coded× (coded_option address_code) (coded_option coded_ℤ)))))))))))))))))))))
+    (λ c. (c.subject, (c.name, (c.given_name, (c.family_name, (c.middle_name, (c.nickname, (c.preferred_username, (c.profile, (c.picture, (c.website, (c.email, (c.email_verified, (c.gender, (c.birthday, (c.birthdate, (c.zoneinfo, (c.locale, (c.phone_number, (c.phone_number_verified, (c.address, c.updated_at)))))))))))))))))))))
+    (λ p. record { subject = p.0; name = p.1.0; given_name = p.1.1.0; family_name = p.1.1.1.0; middle_name = p.1.1.1.1.0; nickname = p.1.1.1.1.1.0; preferred_username = p.1.1.1.1.1.1.0; profile = p.1.1.1.1.1.1.1.0; picture = p.1.1.1.1.1.1.1.1.0; website = p.1.1.1.1.1.1.1.1.1.0; email = p.1.1.1.1.1.1.1.1.1.1.0; email_verified = p.1.1.1.1.1.1.1.1.1.1.1.0; gender = p.1.1.1.1.1.1.1.1.1.1.1.1.0; birthday = p.1.1.1.1.1.1.1.1.1.1.1.1.1.0; birthdate = p.1.1.1.1.1.1.1.1.1.1.1.1.1.1.0; zoneinfo = p.1.1.1.1.1.1.1.1.1.1.1.1.1.1.1.0; locale = p.1.1.1.1.1.1.1.1.1.1.1.1.1.1.1.1.0; phone_number = p.1.1.1.1.1.1.1.1.1.1.1.1.1.1.1.1.1.0; phone_number_verified = p.1.1.1.1.1.1.1.1.1.1.1.1.1.1.1.1.1.1.0; address = p.1.1.1.1.1.1.1.1.1.1.1.1.1.1.1.1.1.1.1.0; updated_at = p.1.1.1.1.1.1.1.1.1.1.1.1.1.1.1.1.1.1.1.1 })
+    (λ _. refl)
