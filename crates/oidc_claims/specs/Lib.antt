@@ -2,6 +2,7 @@ pub mod Additional
 pub mod Gender
 pub mod Home
 pub mod Others
+pub mod PutParts
 pub mod SameClaims
 pub mod SameData
 pub mod SameLaws
@@ -9,3 +10,4 @@ pub mod Seen
 pub mod SeenCode
 pub mod Sound
 pub mod Table
+pub mod Written
