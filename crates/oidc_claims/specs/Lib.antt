@@ -1,11 +1,17 @@
 pub mod Additional
+pub mod Address
+pub mod Claims
 pub mod Gender
 pub mod Home
+pub mod Kinds
 pub mod Others
+pub mod Reader
 pub mod SameClaims
 pub mod SameData
 pub mod SameLaws
 pub mod Seen
 pub mod SeenCode
+pub mod Slots
 pub mod Sound
+pub mod Standard
 pub mod Table
