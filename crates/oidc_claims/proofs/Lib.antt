@@ -1,2 +1,3 @@
+pub mod Homes
 pub mod Moves
 pub mod Tags

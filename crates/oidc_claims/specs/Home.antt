@@ -15,11 +15,14 @@ abbrev pub user_info_fields : List (List ℕ)
 user_info_fields = codes "iss" ∷ codes "aud" ∷ []
 
 -- A token field has that whole name. Else a standard claim has that base. Else the member is additional.
-abbrev pub home_of : List ℕ → List (List ℕ) → Home
-home_of name fields =
-    if list_any (λ field. bytes_eq field name) fields then home.TokenField
-    else if is_some (claim_of (base_of name)) then home.Standard
+abbrev pub home_by : Bool → Bool → Home
+home_by is_token_field is_standard =
+    if is_token_field then home.TokenField
+    else if is_standard then home.Standard
     else home.Additional
+
+abbrev pub home_of : List ℕ → List (List ℕ) → Home
+home_of name fields = home_by (list_any (λ field. bytes_eq field name) fields) (is_some (claim_of (base_of name)))
 
 abbrev pub is_additional_home : Home → Bool
 is_additional_home home.TokenField = false

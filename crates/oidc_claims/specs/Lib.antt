@@ -5,6 +5,7 @@ pub mod Gender
 pub mod Home
 pub mod Kinds
 pub mod Others
+pub mod PutParts
 pub mod Reader
 pub mod SameClaims
 pub mod SameData
@@ -15,3 +16,4 @@ pub mod Slots
 pub mod Sound
 pub mod Standard
 pub mod Table
+pub mod Written

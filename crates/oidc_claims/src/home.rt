@@ -1,9 +1,14 @@
 //! Where a member of claims belongs (OpenID Connect Core 1.0 sections 2, 5.1 and 5.1.2).
 
 ghost use Rattle.std.specs.Prelude.{◌≡◌, map};
+ghost use Rattle.std.specs.List.{list_any};
+ghost use Rattle.std.specs.Str.{bytes_eq};
 ghost use Rattle.oidc_claims.specs.Home.{home_of};
 
 use crate::claim::Claim;
+
+#[cfg(test)]
+mod tests;
 
 /// What a member of claims is, by its name.
 #[derive(Clone, Copy, Debug, Drop, PartialEq, Eq)]
@@ -36,34 +41,22 @@ pub const ID_TOKEN_FIELDS: [&str; 11] = [
 /// order in which they are written.
 pub const USER_INFO_FIELDS: [&str; 2] = ["iss", "aud"];
 
+fn is_among(name: &str, fields: &[&str]) -> bool
+    ensures { result ≡ list_any (λ field. bytes_eq field.now name.now) fields.now }
+{
+    fields.iter().any(|field| *field == name)
+}
+
 /// Where the member of that name belongs: a token field where its whole name is one, else a standard
 /// claim where its name up to the first `#` is one, else an additional claim. It takes no memory.
 pub fn belongs(name: &str, token_fields: &[&str]) -> Home
     ensures home { result ≡ home_of name.now (map (λ field. field.now) token_fields.now) }
 {
-    if token_fields.iter().any(|field| *field == name) {
+    if is_among(name, token_fields) {
         Home::TokenField
     } else if Claim::of_name(name).is_some() {
         Home::Standard
     } else {
         Home::Additional
-    }
-}
-
-#[cfg(test)]
-mod tests {
-    use super::*;
-
-    #[test]
-    fn each_name_has_its_home(rt: HostRuntime) {
-        assert_eq!(rt; belongs("iss", &USER_INFO_FIELDS), Home::TokenField);
-        assert_eq!(rt; belongs("exp", &USER_INFO_FIELDS), Home::Additional);
-        assert_eq!(rt; belongs("exp", &ID_TOKEN_FIELDS), Home::TokenField);
-        assert_eq!(rt; belongs("iss#de", &ID_TOKEN_FIELDS), Home::Additional);
-        assert_eq!(rt; belongs("sub", &ID_TOKEN_FIELDS), Home::Standard);
-        assert_eq!(rt; belongs("name#", &ID_TOKEN_FIELDS), Home::Standard);
-        assert_eq!(rt; belongs("name#de#x", &ID_TOKEN_FIELDS), Home::Standard);
-        assert_eq!(rt; belongs("Name", &ID_TOKEN_FIELDS), Home::Additional);
-        assert_eq!(rt; belongs("", &ID_TOKEN_FIELDS), Home::Additional);
     }
 }

@@ -20,6 +20,7 @@ pub mod home;
 mod name;
 pub mod others;
 mod same;
+pub mod write;
 
 pub use crate::additional::{AdditionalClaims, EmptyAdditionalClaims};
 pub use crate::claim::{Claim, ClaimKind};
@@ -27,4 +28,5 @@ pub use crate::claims::{AddressClaim, StandardClaims, read_standard};
 pub use crate::gender::GenderClaim;
 pub use crate::home::{Home, ID_TOKEN_FIELDS, USER_INFO_FIELDS, belongs};
 pub use crate::others::AllOtherClaims;
+pub use crate::write::write_standard;
 pub use oidc_readers::PlacedError;

@@ -10,6 +10,9 @@ use oidc_members::{FieldName, Member, OutMember, ParseError};
 use std::alloc::{AllocError, Global};
 use std::marker::Model;
 
+#[cfg(test)]
+mod tests;
+
 /// All additional members, with their names and values in their order. Nothing is refused, and they
 /// are written as they were read.
 ///
@@ -65,6 +68,7 @@ fn copies_of(alloc: Global, members: &[OutMember]) -> Result<Vec<OutMember>, All
 }
 
 impl AdditionalClaims for AllOtherClaims {
+    ghost use Rattle.std.specs.Prelude.{Ok};
     ghost use Rattle.std.proofs.Common.{ap, ◌∙◌};
     ghost use Rattle.oidc_claims.specs.Others.{read_others, list_of, others_of, others_of-list};
 
@@ -72,7 +76,7 @@ impl AdditionalClaims for AllOtherClaims {
 
     ghost write_of = { list_of };
 
-    ghost reads_back = { λ claims _ is. ap Result.Ok (ap others_of is ∙ others_of-list claims) };
+    ghost reads_back = { λ claims _ is. ap Ok (ap others_of is ∙ others_of-list claims) };
 
     ghost stays_additional = { λ claims. claims.additional };
 
