@@ -3,6 +3,7 @@ ghost use Rattle.std.specs.Prelude.{◌≡◌};
 ghost use Rattle.oidc_claims.specs.Table.{name_of, is_localized, is_optional, kind_of, claim_of, base_of};
 
 use crate::name::base_of_name;
+use oidc_members::Member;
 
 /// A standard claim (OpenID Connect Core 1.0 section 5.1).
 #[derive(Clone, Copy, Debug, Drop, PartialEq, Eq)]
@@ -173,5 +174,11 @@ impl Claim {
         ensures { result ≡ claim_of (base_of name.now) }
     {
         Claim::of_base(base_of_name(name))
+    }
+    // The claim that a member is of.
+    pub(crate) fn of_member(member: &Member) -> Option<Claim>
+        ensures { result ≡ claim_of (base_of member.now.name) }
+    {
+        Claim::of_name(member.name())
     }
 }

@@ -7,9 +7,14 @@ ghost use Rattle.oidc_claims.specs.Seen.{only_subject};
 
 mod address;
 mod copies;
+mod part;
+mod reader;
+mod slots;
+mod values;
 
 pub use crate::claims::address::AddressClaim;
 use crate::claims::copies::{address_in, gender_in, localized_in, text_in};
+pub use crate::claims::reader::read_standard;
 use crate::gender::GenderClaim;
 use jiff::Timestamp;
 use oidc_types::{

@@ -24,8 +24,9 @@ pub mod write;
 
 pub use crate::additional::{AdditionalClaims, EmptyAdditionalClaims};
 pub use crate::claim::{Claim, ClaimKind};
-pub use crate::claims::{AddressClaim, StandardClaims};
+pub use crate::claims::{AddressClaim, StandardClaims, read_standard};
 pub use crate::gender::GenderClaim;
 pub use crate::home::{Home, ID_TOKEN_FIELDS, USER_INFO_FIELDS, belongs};
 pub use crate::others::AllOtherClaims;
 pub use crate::write::write_standard;
+pub use oidc_readers::PlacedError;
