@@ -1,5 +1,8 @@
--- The parts of an address, put into an object one by one.
-use Rattle.std.proofs.Common.{◌≡◌, ℕ, List, [], ◌∷◌, Option, None, Some, String, string_bytes, Global, codes, ap, sym, refl, ◌∙◌}
+-- The parts of an address, put into an object one by one, and read back.
+use Rattle.std.proofs.Common.{◌≡◌, ℕ, List, [], ◌∷◌, ◌++◌, map, Option, None, Some, Bool, true, String, string_bytes, Global, codes, ap, sym, refl, ◌∙◌, append-nil, Ok, Result}
+use Rattle.std.specs.List.{flat_map}
+use Rattle.std.proofs.lemmas.List.{map-append}
+use Rattle.std.specs.Str.{bytes_eq}
 use Rattle.std.specs.Ordering.{nat_cmp, match_ordering}
 use Rattle.std.specs.Cmp.Lexicographic.{slice_cmp}
 use Rattle.std.specs.declared.cmp.Ordering.TheVariants.{Less}
@@ -9,9 +12,24 @@ use Rattle.serde_json.specs.Data.{Data, string, object, Members, no_members, mem
 use Rattle.serde_json.specs.View.{view, members_view}
 use Rattle.serde_json.specs.declared.value.Value.{Value}
 use Rattle.serde_json.proofs.Views.{Entry, members_view-insert_entry}
+use Rattle.oidc_members.specs.Seen.{SeenMember, OutSeen}
+use Rattle.oidc_members.specs.Written.{data_of}
+use Rattle.oidc_members.specs.Objects.{members_of, loose_members_of, members_or_refusal, split_of}
+use Rattle.oidc_members.specs.declared.refusal.Refusal.{Refusal}
+use Rattle.oidc_readers.specs.Passes.{first_by}
 use Rattle.oidc_claims.specs.declared.claims.address.AddressClaim.{AddressClaim}
+use Rattle.oidc_claims.specs.declared.claims.part.AddressPart.{AddressPart}
+use Rattle.oidc_claims.specs.declared.claims.part.AddressPart.TheVariants.{Formatted, StreetAddress, Locality, Region, PostalCode, Country}
+use Rattle.oidc_claims.specs.declared.claim.Claim.TheVariants.{Address}
+use Rattle.oidc_claims.specs.Table.{name_of}
+use Rattle.oidc_claims.specs.Kinds.{text_read, plain}
+use Rattle.oidc_claims.specs.Address.{part_name, part_of, part_judged, part_fault, part_fault_by, own_part, address_of, address_unless, address_in, address_read}
 use Rattle.oidc_claims.specs.PutParts.{put_part}
-use Rattle.oidc_claims.specs.Written.{with_part, address_data}
+use Rattle.oidc_claims.specs.Written.{text_member, part_members, parts_in_order, address_members, address_data}
+use Rattle.oidc_claims.specs.RoundTrip.{read_with, AddressStands}
+use Rattle.oidc_claims.proofs.Apart.{IsPart, JudgesOwn, apart_from, own_among, no_fault}
+
+-- ---- written
 
 -- an insert puts the part
 pub put_one : (es new : List Entry) (k : String Global) (v : Value) (name t : List ℕ) (o : Option (List ℕ))
@@ -21,68 +39,76 @@ put_one es new k v name t o inserted named is there =
     ap members_view inserted ∙ members_view-insert_entry es k v ∙ (λ i. put (named i) (is i) (members_view es))
     ∙ sym (ap (λ o. put_part name o (members_view es)) there)
 
--- the name is below the first of the members, and so below all
-abbrev pub IsBelow : List ℕ → Members → Type 0
-IsBelow name no_members = Unit {0}
-IsBelow name (member other value rest) = slice_cmp nat_cmp name other ≡ Less
+-- ---- read back
 
-put_first : (name : List ℕ) (value : Data) (ms : Members) → IsBelow name ms → put name value ms ≡ member name value ms
-put_first name value no_members below = refl
-put_first name value (member other v rest) below =
-    ap (λ o. match_ordering o (member name value (member other v rest)) (member other value rest) (member other v (put name value rest))) below
+abbrev part_key : SeenMember → Option AddressPart
+part_key m = part_of m.name
 
-part_first : (name : List ℕ) (part : Option (List ℕ)) (ms : Members) → IsBelow name ms → put_part name part ms ≡ with_part name part ms
-part_first name None ms below = refl
-part_first name (Some t) ms below = put_first name (string t) ms below
+abbrev same_part : AddressPart → AddressPart → Bool
+same_part p q = bytes_eq (part_name p) (part_name q)
 
-below_part : (name other : List ℕ) (part : Option (List ℕ)) (ms : Members) → slice_cmp nat_cmp name other ≡ Less → IsBelow name ms → IsBelow name (with_part other part ms)
-below_part name other None ms is below = below
-below_part name other (Some t) ms is below = is
+abbrev judge_part : AddressPart → List SeenMember → SeenMember → Option Refusal
+judge_part p = part_judged
 
-module _ (a : AddressClaim) where
-  abbrev region : Members
-  region = with_part (codes "region") a.region (with_part (codes "street_address") a.street_address no_members)
+judges : JudgesOwn part_key same_part judge_part part_fault
+judges p before m is = ap (λ o. part_fault_by o before m) is
 
-  abbrev postal_code : Members
-  postal_code = with_part (codes "postal_code") a.postal_code region
+pub map_flat : {A B K : Type 0} (f : A → B) (parts : K → List A) (ks : List K) → map f (flat_map parts ks) ≡ flat_map (λ k. map f (parts k)) ks
+map_flat f parts [] = refl
+map_flat f parts (k ∷ ks) = map-append f (parts k) (flat_map parts ks) ∙ ap (λ r. map f (parts k) ++ r) (map_flat f parts ks)
 
-  abbrev locality : Members
-  locality = with_part (codes "locality") a.locality postal_code
+module _ (text_of : OutSeen → List ℕ) (a : AddressClaim) where
+  abbrev part_seen : AddressPart → List SeenMember
+  part_seen p = map (read_with text_of) (part_members a p)
 
-  abbrev formatted : Members
-  formatted = with_part (codes "formatted") a.formatted locality
+  abbrev seen : List SeenMember
+  seen = flat_map part_seen parts_in_order
 
-  below_region : (name : List ℕ) → slice_cmp nat_cmp name (codes "region") ≡ Less → slice_cmp nat_cmp name (codes "street_address") ≡ Less → IsBelow name region
-  below_region name r s = below_part name _ a.region _ r (below_part name _ a.street_address no_members s tt)
+  one_part : (p : AddressPart) (o : Option (List ℕ)) → part_of (part_name p) ≡ Some p → IsPart part_key same_part judge_part part_fault p [] (map (read_with text_of) (text_member (part_name p) o))
+  one_part p None is = tt
+  one_part p (Some t) is = (is, refl, tt)
 
-  below_postal_code : (name : List ℕ) → slice_cmp nat_cmp name (codes "postal_code") ≡ Less → slice_cmp nat_cmp name (codes "region") ≡ Less → slice_cmp nat_cmp name (codes "street_address") ≡ Less → IsBelow name postal_code
-  below_postal_code name p r s = below_part name _ a.postal_code _ p (below_region name r s)
+  are_parts : (p : AddressPart) → IsPart part_key same_part judge_part part_fault p [] (part_seen p)
+  are_parts Formatted = one_part Formatted a.formatted refl
+  are_parts StreetAddress = one_part StreetAddress a.street_address refl
+  are_parts Locality = one_part Locality a.locality refl
+  are_parts Region = one_part Region a.region refl
+  are_parts PostalCode = one_part PostalCode a.postal_code refl
+  are_parts Country = one_part Country a.country refl
 
-  below_locality : (name : List ℕ) → slice_cmp nat_cmp name (codes "locality") ≡ Less → slice_cmp nat_cmp name (codes "postal_code") ≡ Less → slice_cmp nat_cmp name (codes "region") ≡ Less → slice_cmp nat_cmp name (codes "street_address") ≡ Less → IsBelow name locality
-  below_locality name l p r s = below_part name _ a.locality _ l (below_postal_code name p r s)
+  part_back : (name : List ℕ) (o : Option (List ℕ)) → plain true text_read (map (read_with text_of) (text_member name o)) ≡ o
+  part_back name None = refl
+  part_back name (Some t) = refl
 
-  below_formatted : (name : List ℕ) → slice_cmp nat_cmp name (codes "formatted") ≡ Less → slice_cmp nat_cmp name (codes "locality") ≡ Less → slice_cmp nat_cmp name (codes "postal_code") ≡ Less → slice_cmp nat_cmp name (codes "region") ≡ Less → slice_cmp nat_cmp name (codes "street_address") ≡ Less → IsBelow name formatted
-  below_formatted name f l p r s = below_part name _ a.formatted _ f (below_locality name l p r s)
+  own_seen : (p : AddressPart) → own_part p seen ≡ part_seen p
+  own_seen Formatted = own_among part_key same_part judge_part part_fault part_seen are_parts Formatted parts_in_order ∙ append-nil (part_seen Formatted)
+  own_seen StreetAddress = own_among part_key same_part judge_part part_fault part_seen are_parts StreetAddress parts_in_order ∙ append-nil (part_seen StreetAddress)
+  own_seen Locality = own_among part_key same_part judge_part part_fault part_seen are_parts Locality parts_in_order ∙ append-nil (part_seen Locality)
+  own_seen Region = own_among part_key same_part judge_part part_fault part_seen are_parts Region parts_in_order ∙ append-nil (part_seen Region)
+  own_seen PostalCode = own_among part_key same_part judge_part part_fault part_seen are_parts PostalCode parts_in_order ∙ append-nil (part_seen PostalCode)
+  own_seen Country = own_among part_key same_part judge_part part_fault part_seen are_parts Country parts_in_order ∙ append-nil (part_seen Country)
 
-  -- Parts that are put in any order, here from the last name on, stand in the order of their names.
-  pub address_put :
-      object
-      (put_part (codes "country") a.country
-      (put_part (codes "formatted") a.formatted
-      (put_part (codes "locality") a.locality
-      (put_part (codes "postal_code") a.postal_code
-      (put_part (codes "region") a.region
-      (put_part (codes "street_address") a.street_address no_members))))))
-      ≡ address_data a
-  address_put =
-      ap (λ ms. object (put_part (codes "country") a.country (put_part (codes "formatted") a.formatted (put_part (codes "locality") a.locality (put_part (codes "postal_code") a.postal_code (put_part (codes "region") a.region ms))))))
-      (part_first (codes "street_address") a.street_address no_members tt)
-      ∙ ap (λ ms. object (put_part (codes "country") a.country (put_part (codes "formatted") a.formatted (put_part (codes "locality") a.locality (put_part (codes "postal_code") a.postal_code ms)))))
-      (part_first (codes "region") a.region _ (below_part (codes "region") _ a.street_address no_members refl tt))
-      ∙ ap (λ ms. object (put_part (codes "country") a.country (put_part (codes "formatted") a.formatted (put_part (codes "locality") a.locality ms))))
-      (part_first (codes "postal_code") a.postal_code region (below_region (codes "postal_code") refl refl))
-      ∙ ap (λ ms. object (put_part (codes "country") a.country (put_part (codes "formatted") a.formatted ms)))
-      (part_first (codes "locality") a.locality postal_code (below_postal_code (codes "locality") refl refl refl))
-      ∙ ap (λ ms. object (put_part (codes "country") a.country ms))
-      (part_first (codes "formatted") a.formatted locality (below_locality (codes "formatted") refl refl refl refl))
-      ∙ ap object (part_first (codes "country") a.country formatted (below_formatted (codes "country") refl refl refl refl refl))
+  address_back : address_of seen ≡ a
+  unfolding address_of
+  address_back = λ i. record {
+    formatted = (ap (plain true text_read) (own_seen Formatted) ∙ part_back (codes "formatted") a.formatted) i;
+    street_address = (ap (plain true text_read) (own_seen StreetAddress) ∙ part_back (codes "street_address") a.street_address) i;
+    locality = (ap (plain true text_read) (own_seen Locality) ∙ part_back (codes "locality") a.locality) i;
+    region = (ap (plain true text_read) (own_seen Region) ∙ part_back (codes "region") a.region) i;
+    postal_code = (ap (plain true text_read) (own_seen PostalCode) ∙ part_back (codes "postal_code") a.postal_code) i;
+    country = (ap (plain true text_read) (own_seen Country) ∙ part_back (codes "country") a.country) i;
+  }
+
+  seen_back : address_in (Ok seen) ≡ Ok a
+  seen_back =
+      ap (λ fault. address_unless fault seen) (no_fault part_key same_part judge_part part_fault part_seen are_parts judges parts_in_order (apart_from part_key same_part judge_part part_fault parts_in_order refl))
+      ∙ ap Ok address_back
+
+  split_by : (text : List ℕ) (ms : List SeenMember) → members_of text ≡ Some ms → split_of text ≡ Ok ms
+  unfolding split_of
+  split_by text ms is = ap (λ o. members_or_refusal o (loose_members_of text)) is
+
+  -- An address that stands is read back.
+  pub address_reads_back : AddressStands text_of (Some a) → address_read (read_with text_of (record { name = name_of Address; value = address_data a })) ≡ Ok a
+  address_reads_back stands =
+      ap address_in (split_by _ _ stands) ∙ ap (λ ms. address_in (Ok ms)) (map_flat (read_with text_of) (part_members a) parts_in_order) ∙ seen_back
