@@ -9,11 +9,11 @@ use Rattle.oidc_members.specs.declared.refusal.Refusal.{Refusal}
 use Rattle.oidc_readers.specs.Passes.{placed, first_by}
 
 module _
-  {K : Type 0}
-  (kind_of : SeenMember → Option K)
-  (same : K → K → Bool)
-  (judge : K → List SeenMember → SeenMember → Option Refusal)
-  (fault : List SeenMember → SeenMember → Option Refusal) where
+    {K : Type 0}
+    (kind_of : SeenMember → Option K)
+    (same : K → K → Bool)
+    (judge : K → List SeenMember → SeenMember → Option Refusal)
+    (fault : List SeenMember → SeenMember → Option Refusal) where
   abbrev pub is_of : K → SeenMember → Bool
   is_of k m = option_map_or (λ other. same k other) (kind_of m) false
 
@@ -52,7 +52,7 @@ module _
   pass judges k all before (m ∷ ms) rest is p alike =
       let here : fault all m ≡ None = judges k all m p.0 ∙ ap (λ b. judge k b m) is ∙ p.1 in
       let grown : own k (all ++ m ∷ []) ≡ before ++ m ∷ [] =
-          filter-append (is_of k) all (m ∷ []) ∙ (λ i. is i ++ cond ((is_of_part k k m p.0 ∙ alike) i) (m ∷ []) []) in
+      filter-append (is_of k) all (m ∷ []) ∙ (λ i. is i ++ cond ((is_of_part k k m p.0 ∙ alike) i) (m ∷ []) []) in
       (λ i. placed (here i) (length all) (first_by fault (all ++ m ∷ []) (ms ++ rest)))
       ∙ pass judges k (all ++ m ∷ []) (before ++ m ∷ []) ms rest grown p.2 alike
       ∙ ap (λ l. first_by fault l rest) (append_assoc all (m ∷ []) ms)

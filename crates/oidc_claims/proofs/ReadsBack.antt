@@ -148,12 +148,12 @@ held_back read m v there is = (λ i. cond (true && there i) None (result_ok (is 
 -- ---- the whole list
 
 module _
-  {GC : Type 0}
-  (gender_read : SeenMember → Result GC Refusal)
-  (gender_data : GC → Data)
-  (gender_back : GenderReadsBack gender_read gender_data)
-  (gender_there : GenderIsValue gender_data)
-  (text_of : OutSeen → List ℕ) where
+    {GC : Type 0}
+    (gender_read : SeenMember → Result GC Refusal)
+    (gender_data : GC → Data)
+    (gender_back : GenderReadsBack gender_read gender_data)
+    (gender_there : GenderIsValue gender_data)
+    (text_of : OutSeen → List ℕ) where
   abbrev seen : List OutSeen → List SeenMember
   seen = map (read_with text_of)
 
@@ -201,7 +201,6 @@ module _
     whole n is = subst IsWholeSecond is r.updated_at
 
     are_parts : (c : Claim) → IsClaimPart gender_read c [] (parts c)
-
     are_parts Subject = (refl, refl, tt)
     are_parts Name = variants_are_part gender_read text_of Name name_named s.name r.name
     are_parts GivenName = variants_are_part gender_read text_of GivenName given_name_named s.given_name r.given_name
@@ -225,7 +224,6 @@ module _
     are_parts UpdatedAt = one_is_part UpdatedAt seconds_data s.updated_at refl (λ n is. fitting moment_read (one UpdatedAt (seconds_data n)) n refl (moment_fits n (whole n is)))
 
     own_is : (c : Claim) → own c members ≡ parts c
-
     own_is Subject = own_among key same (judge gender_read) (fault_at gender_read) parts are_parts Subject all_claims ∙ append-nil (parts Subject)
     own_is Name = own_among key same (judge gender_read) (fault_at gender_read) parts are_parts Name all_claims ∙ append-nil (parts Name)
     own_is GivenName = own_among key same (judge gender_read) (fault_at gender_read) parts are_parts GivenName all_claims ∙ append-nil (parts GivenName)
@@ -252,7 +250,6 @@ module _
     unfolding with_subject
     claims_back = λ i. record {
       subject = s.subject;
-
       name = (ap (λ ms. unless_empty (variants true text_read ms)) (own_is Name) ∙ variants_back gender_read text_of Name name_named s.name r.name) i;
       given_name = (ap (λ ms. unless_empty (variants true text_read ms)) (own_is GivenName) ∙ variants_back gender_read text_of GivenName given_name_named s.given_name r.given_name) i;
       family_name = (ap (λ ms. unless_empty (variants true text_read ms)) (own_is FamilyName) ∙ variants_back gender_read text_of FamilyName family_name_named s.family_name r.family_name) i;

@@ -110,7 +110,7 @@ module _ {GC : Type 0} (gender_read : SeenMember → Result GC Refusal) (text_of
     named.is_base e.0,
     fits e (map member done) (same_tags done e td te.0 ∙ unseen done es e s),
     subst (λ l. IsClaimPart gender_read c l (map member es)) (map_push done e)
-    (is_part (done ++ e ∷ []) es (tags_push done e td te.0) te.1 (subst (λ l. T (is_sorted tag_cmp l)) (sym (append_assoc done (e ∷ []) es)) s)),
+        (is_part (done ++ e ∷ []) es (tags_push done e td te.0) te.1 (subst (λ l. T (is_sorted tag_cmp l)) (sym (append_assoc done (e ∷ []) es)) s)),
   )
 
   fold_back : (all : Variants (List ℕ)) (done es : List (Option (List ℕ) × List ℕ)) → finite.entries all ≡ done ++ es → AreTagged es

@@ -16,5 +16,4 @@ use crate::gender::GenderClaim;
 pub fn written_claims_read_back<GC: GenderClaim>()
     ensures { (claims : SeenClaims GC) (text_of : OutSeen → List ℕ) → IsInRange claims → AddressStands text_of claims.address
         → claims_of GC.read_of (map (read_with text_of) (written GC.write_of claims)) ≡ Ok claims }
-{
-}
+{}
