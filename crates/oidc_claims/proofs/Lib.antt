@@ -1,3 +1,4 @@
+pub mod AddressText
 pub mod Apart
 pub mod Homes
 pub mod Moves
