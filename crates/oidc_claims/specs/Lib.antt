@@ -7,6 +7,7 @@ pub mod Kinds
 pub mod Others
 pub mod PutParts
 pub mod Reader
+pub mod RoundTrip
 pub mod SameClaims
 pub mod SameData
 pub mod SameLaws

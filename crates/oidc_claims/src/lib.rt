@@ -17,6 +17,7 @@ mod claim;
 pub mod claims;
 pub mod gender;
 pub mod home;
+pub mod laws;
 mod name;
 pub mod others;
 mod same;

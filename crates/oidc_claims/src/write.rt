@@ -6,7 +6,7 @@ ghost use Rattle.std.specs.Option.{option_copied};
 ghost use Rattle.serde_json.specs.Data.{string, boolean};
 ghost use Rattle.serde_json.specs.View.{view, members_view};
 ghost use Rattle.oidc_claims.specs.Table.{name_of};
-ghost use Rattle.oidc_claims.specs.Written.{written, part, plain_part, variants_part, with_tag, address_data, seconds_data};
+ghost use Rattle.oidc_claims.specs.Written.{written, claim_members, plain_member, variant_members, with_tag, address_data, seconds_data};
 ghost use Rattle.oidc_claims.specs.PutParts.{put_part};
 
 use crate::claim::Claim;
@@ -17,6 +17,9 @@ use oidc_members::{FieldName, OutMember};
 use oidc_types::{LanguageTag, LocalizedClaim, Marker, Text};
 use serde_json::{Map, Value};
 use std::alloc::{AllocError, Global};
+
+#[cfg(test)]
+mod tests;
 
 /// The standard claims as members: in the order of the table in OpenID Connect Core 1.0 section 5.1
 /// as [`Claim::ALL`] has it, absent claims left out. The variants of a claim stand in the order of
@@ -42,7 +45,7 @@ fn write_claim<GC: GenderClaim>(
     claim: Claim,
     claims: &StandardClaims<GC>,
 ) -> Result<(), AllocError>
-    ensures { OnOk result (out.new.items ≡ out.old.items ++ part GC.write_of claims.now claim) }
+    ensures { OnOk result (out.new.items ≡ out.old.items ++ claim_members GC.write_of claims.now claim) }
 {
     match claim {
         Claim::Subject => write_text(alloc, out, claim, Some(&claims.subject)),
@@ -79,7 +82,7 @@ fn write_text<M: Marker>(
     claim: Claim,
     text: Option<&Text<M>>,
 ) -> Result<(), AllocError>
-    ensures { OnOk result (out.new.items ≡ out.old.items ++ plain_part claim (option_map string (option_copied text.entry))) }
+    ensures { OnOk result (out.new.items ≡ out.old.items ++ plain_member claim (option_map string (option_copied text.entry))) }
 {
     match text {
         None => Ok(()),
@@ -93,7 +96,7 @@ fn write_variants<M: Marker>(
     claim: Claim,
     variants: Option<&LocalizedClaim<Text<M>>>,
 ) -> Result<(), AllocError>
-    ensures { OnOk result (out.new.items ≡ out.old.items ++ variants_part claim (option_copied variants.entry)) }
+    ensures { OnOk result (out.new.items ≡ out.old.items ++ variant_members claim (option_copied variants.entry)) }
 {
     match variants {
         None => Ok(()),
@@ -114,7 +117,7 @@ fn write_flag(
     claim: Claim,
     flag: Option<bool>,
 ) -> Result<(), AllocError>
-    ensures { OnOk result (out.new.items ≡ out.old.items ++ plain_part claim (option_map boolean flag)) }
+    ensures { OnOk result (out.new.items ≡ out.old.items ++ plain_member claim (option_map boolean flag)) }
 {
     match flag {
         None => Ok(()),
@@ -128,7 +131,7 @@ fn write_gender<GC: GenderClaim>(
     claim: Claim,
     gender: Option<&GC>,
 ) -> Result<(), AllocError>
-    ensures { OnOk result (out.new.items ≡ out.old.items ++ plain_part claim (option_map GC.write_of (option_copied gender.entry))) }
+    ensures { OnOk result (out.new.items ≡ out.old.items ++ plain_member claim (option_map GC.write_of (option_copied gender.entry))) }
 {
     match gender {
         None => Ok(()),
@@ -142,7 +145,7 @@ fn write_address(
     claim: Claim,
     address: Option<&AddressClaim>,
 ) -> Result<(), AllocError>
-    ensures { OnOk result (out.new.items ≡ out.old.items ++ plain_part claim (option_map address_data (option_copied address.entry))) }
+    ensures { OnOk result (out.new.items ≡ out.old.items ++ plain_member claim (option_map address_data (option_copied address.entry))) }
 {
     match address {
         None => Ok(()),
@@ -156,7 +159,7 @@ fn write_moment(
     claim: Claim,
     moment: Option<Timestamp>,
 ) -> Result<(), AllocError>
-    ensures { OnOk result (out.new.items ≡ out.old.items ++ plain_part claim (option_map (λ moment. seconds_data moment.nanosecond) moment)) }
+    ensures { OnOk result (out.new.items ≡ out.old.items ++ plain_member claim (option_map (λ moment. seconds_data moment.nanosecond) moment)) }
 {
     match moment {
         None => Ok(()),
@@ -173,7 +176,7 @@ fn push(
     claim: Claim,
     value: Value,
 ) -> Result<(), AllocError>
-    ensures { OnOk result (out.new.items ≡ out.old.items ++ plain_part claim (Some (view value))) }
+    ensures { OnOk result (out.new.items ≡ out.old.items ++ plain_member claim (Some (view value))) }
 {
     let name = FieldName::new(tagged_name(alloc, claim, None)?);
     out.push(OutMember { name, value })?;

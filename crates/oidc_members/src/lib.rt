@@ -23,6 +23,7 @@
 mod cut;
 mod field_name;
 mod float;
+pub mod laws;
 mod member;
 mod object;
 mod refusal;
