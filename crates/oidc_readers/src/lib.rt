@@ -18,3 +18,5 @@ mod passes;
 
 pub use crate::passes::{MemberReader, PlacedError, read_members};
 
+#[cfg(test)]
+mod tests;
