@@ -1,9 +1,11 @@
 pub mod AddressText
 pub mod Apart
 pub mod Homes
+pub mod Kept
 pub mod Moves
 pub mod Parts
 pub mod ReadsBack
+pub mod Seconds
 pub mod Steps
 pub mod Tags
 pub mod VariantsBack

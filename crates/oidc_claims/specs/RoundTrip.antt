@@ -11,7 +11,7 @@ use Rattle.oidc_claims.specs.declared.claims.address.AddressClaim.{AddressClaim}
 use Rattle.oidc_claims.specs.Seen.{SeenClaims}
 use Rattle.oidc_claims.specs.Table.{name_of}
 use Rattle.oidc_claims.specs.Kinds.{moment_at}
-use Rattle.oidc_claims.specs.Written.{seconds_of, address_members, address_data}
+use Rattle.oidc_claims.specs.Written.{address_members, address_data}
 
 -- a tag that isn't empty, or none
 abbrev pub IsTag : Option (List ℕ) → Type 0
@@ -26,10 +26,10 @@ abbrev pub HasVariants : Option (Variants (List ℕ)) → Type 0
 HasVariants None = Unit {0}
 HasVariants (Some variants) = (finite.entries variants ≢ []) × AreTagged (finite.entries variants)
 
--- a moment that is the one at its whole seconds
+-- a moment that is at a whole second
 abbrev pub IsWholeSecond : Option ℤ → Type 0
 IsWholeSecond None = Unit {0}
-IsWholeSecond (Some nanosecond) = moment_at (seconds_of nanosecond) ≡ Some nanosecond
+IsWholeSecond (Some nanosecond) = (second : ℤ) × (moment_at second ≡ Some nanosecond)
 
 pub record IsInRange {GC : Type 0} (claims : SeenClaims GC) : Type 0 where
   pub name : HasVariants claims.name

@@ -1,9 +1,11 @@
 //! What holds of the claims as a whole. Each function here says a law in its contract, and does
 //! nothing.
 
-ghost use Rattle.std.specs.Prelude.{◌≡◌, ℕ, List, Option, Ok, map};
-ghost use Rattle.oidc_members.specs.Seen.{OutSeen};
+ghost use Rattle.std.specs.Prelude.{◌≡◌, ℕ, List, Option, Ok, IsTrue, map};
+ghost use Rattle.oidc_members.specs.Seen.{SeenMember, OutSeen};
 ghost use Rattle.oidc_claims.specs.declared.claims.address.AddressClaim.{AddressClaim};
+ghost use Rattle.oidc_claims.specs.Additional.{are_additional, out_of};
+ghost use Rattle.oidc_claims.specs.Others.{Others, list_of, read_others};
 ghost use Rattle.oidc_claims.specs.Seen.{SeenClaims};
 ghost use Rattle.oidc_claims.specs.Standard.{claims_of};
 ghost use Rattle.oidc_claims.specs.Written.{written};
@@ -29,5 +31,14 @@ pub fn written_addresses_stand()
 pub fn written_texts_read_back<GC: GenderClaim>()
     ensures { (claims : SeenClaims GC) → IsInRange claims → IsUtf8Address claims.address
         → claims_of GC.read_of (map (read_with own_text) (written GC.write_of claims)) ≡ Ok claims }
+{
+}
+
+/// [`AllOtherClaims`](crate::AllOtherClaims) refuses no additional members, and keeps exactly their
+/// names and values, in their order.
+#[tactic(auto, using(crate::proofs::Kept::all_kept))]
+pub fn others_keep_all()
+    ensures { (members : List SeenMember) → IsTrue (are_additional members)
+        → (claims : Others) × (read_others members ≡ Ok claims) × (list_of claims ≡ map out_of members) }
 {
 }
