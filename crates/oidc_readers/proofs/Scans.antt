@@ -45,7 +45,7 @@ is_one (suc (suc l)) = false
 
 -- the place has a level, and is no outside comma or colon of level 1
 abbrev pub is_quiet : ℕ → State → Bool
-is_quiet b s = is_positive s.level && not (not s.inside && (is_one s.level && (eqb b 44 || eqb b 58)))
+is_quiet b s = is_positive s.level && not (not s.inside && ((eqb b 44 || eqb b 58) && is_one s.level))
 
 -- the bytes lead from one state to the other, and each is quiet
 abbrev pub Runs : State → List ℕ → State → Type 0
@@ -107,7 +107,7 @@ pub record QuietAt (xs : List ℕ) (k : ℕ) : Type 0 where
   pub colon : is_at_level_one xs 58 k ≡ false
   pub level : ltb 0 (level xs k) ≡ true
 
-quiet_marks : (inside one a b : Bool) → not (not inside && (one && (a || b))) ≡ true → ((not inside && one && a) ≡ false) × ((not inside && one && b) ≡ false)
+quiet_marks : (inside one a b : Bool) → not (not inside && ((a || b) && one)) ≡ true → ((not inside && one && a) ≡ false) × ((not inside && one && b) ≡ false)
 quiet_marks true one a b h = (refl, refl)
 quiet_marks false false a b h = (refl, refl)
 quiet_marks false true true b h = absurd (false≢true h)
