@@ -1,3 +1,4 @@
 pub mod First
+pub mod Parts
 pub mod Scans
 pub mod Values
