@@ -2,3 +2,4 @@ pub mod First
 pub mod Parts
 pub mod Scans
 pub mod Values
+pub mod WrittenBack

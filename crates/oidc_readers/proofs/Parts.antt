@@ -9,7 +9,7 @@ use Rattle.json.specs.Print.{quoted}
 use Rattle.serde_json.specs.Data.{Data, object, Members}
 use Rattle.serde_json.specs.Written.{has_float, members_have_float, compact_text, members_text}
 use Rattle.oidc_members.specs.Seen.{OutSeen}
-use Rattle.oidc_members.specs.Written.{data_of, any_float}
+use Rattle.oidc_members.specs.Written.{data_of, object_text, any_float}
 use Rattle.oidc_members.specs.Places.{places, level, is_at_level_one}
 use Rattle.oidc_members.specs.Objects.{Halves, is_space, between, halves, pieces, is_braced}
 use Rattle.oidc_members.proofs.Cutting.{split_cut, split_uncut, all_places, all_fails, halves_cut}
@@ -130,3 +130,27 @@ members_cut m (n ∷ ms) xs a low whole is at =
     let f : First xs e 44 tail = first_of xs e 44 tail one.left in
     let next : At xs (e + 1) outer = at_step xs e outer 44 f.within f.here (λ b. absurd (false≢true b)) one.at in
     first_cut xs a e (length xs - 1) m (n ∷ ms) tail one (members_cut n ms xs (e + 1) (omega (arith, f.within)) p.1 f.left next)
+
+-- ---- the whole text
+
+pub float_free : (ms : List OutSeen) → members_have_float (data_of ms) ≡ any_float ms
+float_free [] = refl
+float_free (m ∷ ms) = ap (λ b. has_float m.value || b) (float_free ms)
+
+-- The text is braced, and its pieces are those of the members.
+pub record Cut (xs : List ℕ) (ms : List OutSeen) : Type 0 where
+  pub braced : is_braced xs ≡ true
+  pub parts : map (halves xs) (pieces xs) ≡ map half_of ms
+
+pub object_cut : (m : OutSeen) (ms : List OutSeen) → any_float (m ∷ ms) ≡ false → Cut (object_text (m ∷ ms)) (m ∷ ms)
+object_cut m ms whole =
+    let xs = object_text (m ∷ ms) in
+    let start : At xs 1 outer = at_step xs 0 (outside_at 0) 123 (omega arith) refl (λ b. absurd (false≢true b)) (at_start xs) in
+    let cut : CutFrom xs 1 (length xs - 1) (m ∷ ms) = members_cut m ms xs 1 (omega arith) whole refl start in
+    let end : is_at_level_one xs 125 (length xs - 1) ≡ true = mark_at xs (length xs - 1) outer 125 125 cut.here cut.at in
+    let levels : list_all (λ k. ltb 0 (level xs k)) (between xs) ≡ true = list_all-from_AllPass (λ k. ltb 0 (level xs k)) (between xs) (all_places (λ k. ltb 0 (level xs k)) true 1 (length xs - 1) cut.level) in
+    let some : list_all (λ i. is_space (get_or xs i 0)) (between xs) ≡ false = all_fails (λ i. is_space (get_or xs i 0)) 1 1 (length xs - 1) (omega arith) cut.low refl in
+    record {
+      braced = braced xs refl end levels;
+      parts = ap (map (halves xs)) (pieces_cut xs some) ∙ cut.parts;
+    }
