@@ -1,10 +1,10 @@
 -- What was written is split into the members that were written, where each name and each value reads back.
 use Rattle.std.specs.Prelude.{⊤}
-use Rattle.std.proofs.Common.{◌≡◌, ℕ, true, false, cond, ◌||◌, List, [], ◌∷◌, map, Option, Some, None, option_map, option_and_then, refl, sym, ap, ◌∙◌}
+use Rattle.std.proofs.Common.{◌≡◌, ℕ, true, false, cond, ◌||◌, List, [], ◌∷◌, map, Option, Some, None, option_map, option_and_then, refl, sym, ap, ◌∙◌, arith}
 use Rattle.std.specs.List.{list_any, All}
 use Rattle.std.specs.Str.{is_utf8, chars}
-use Rattle.std.proofs.lemmas.Bool.{or_parts}
-use Rattle.std.proofs.lemmas.List.Elements.{All-head, All-tail}
+use Rattle.std.proofs.lemmas.Bool.{or_parts, or_from}
+use Rattle.std.proofs.lemmas.List.Elements.{All-head, All-tail, All-weaker}
 use Rattle.json.specs.Print.{quoted}
 use Rattle.serde_json.specs.Data.{string, object}
 use Rattle.serde_json.specs.Written.{has_float, compact_text}
@@ -12,8 +12,9 @@ use Rattle.oidc_members.specs.Places.{backslashes, is_unescaped_quote, is_outsid
 use Rattle.oidc_members.specs.Seen.{SeenMember, OutSeen}
 use Rattle.oidc_members.specs.Written.{data_of, object_text, any_float}
 use Rattle.oidc_members.specs.Objects.{trimmed, is_braced, pieces, halves, read_bytes, member_of, all_some, loose_members_of, without_floats, members_of}
-use Rattle.oidc_readers.specs.WrittenBack.{as_read}
+use Rattle.oidc_readers.specs.WrittenBack.{MayBeWritten, as_read}
 use Rattle.oidc_readers.proofs.Values.{trimmed_value}
+use Rattle.oidc_readers.proofs.ReadBack.{no_float, bytes_back}
 use Rattle.oidc_readers.proofs.Parts.{half_of, float_free, Cut, object_cut}
 
 -- The name and the value of a member read back, each from its own text.
@@ -56,3 +57,15 @@ split_back [] whole back = none_written
 split_back (m ∷ ms) whole back =
     ap (option_and_then without_floats) (loose_back m ms whole back)
     ∙ ap (λ b. cond b None (Some (map as_read (m ∷ ms)))) (same_floats (m ∷ ms) ∙ whole)
+
+-- ---- members that may be written
+
+written_back : (m : OutSeen) → MayBeWritten m → ReadsBack m
+written_back m h = record { name = bytes_back (string m.name) h.name (omega arith); value = bytes_back m.value h.value h.nests }
+
+whole_members : (ms : List OutSeen) → All MayBeWritten ms → any_float ms ≡ false
+whole_members [] h = refl
+whole_members (m ∷ ms) h = or_from (has_float m.value) _ (no_float m.value (All-head MayBeWritten m ms h).value) (whole_members ms (All-tail MayBeWritten m ms h))
+
+pub written_split_back : (ms : List OutSeen) → All MayBeWritten ms → members_of (object_text ms) ≡ Some (map as_read ms)
+written_split_back ms h = split_back ms (whole_members ms h) (All-weaker MayBeWritten ReadsBack written_back ms h)
