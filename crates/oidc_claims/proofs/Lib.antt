@@ -1,4 +1,3 @@
-pub mod AddressText
 pub mod Apart
 pub mod Homes
 pub mod Kept
@@ -6,6 +5,8 @@ pub mod Moves
 pub mod Parts
 pub mod ReadsBack
 pub mod Seconds
+pub mod SplitBack
+pub mod Standing
 pub mod Steps
 pub mod Tags
 pub mod VariantsBack

@@ -21,7 +21,8 @@ use Rattle.oidc_claims.specs.Address.{address_read}
 use Rattle.oidc_claims.specs.Claims.{own, variants, unless_empty, fault_of_kind, fault_by, fault_at, first_fault, judged}
 use Rattle.oidc_claims.specs.Standard.{claims_of, with_subject, complete, unless_refused}
 use Rattle.oidc_claims.specs.Written.{written, claim_members, plain_member, variant_members, with_tag, address_data, seconds_data, seconds_of}
-use Rattle.oidc_claims.specs.RoundTrip.{IsTag, IsInRange, IsWholeSecond, AddressStands, read_with}
+use Rattle.oidc_claims.specs.RoundTrip.{IsTag, IsInRange, IsWholeSecond}
+use Rattle.oidc_claims.proofs.Standing.{AddressStands, read_with}
 use Rattle.oidc_claims.proofs.Apart.{JudgesOwn, Apart, apart_from, own_among, no_fault}
 use Rattle.oidc_claims.proofs.Parts.{map_flat, address_reads_back}
 use Rattle.oidc_claims.proofs.Seconds.{whole_second}

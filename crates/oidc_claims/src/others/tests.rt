@@ -29,7 +29,10 @@ pub(crate) fn read<AC: AdditionalClaims>(alloc: Global, text: &str) -> Result<AC
     AC::read(alloc, members.as_slice())
 }
 
-pub(crate) fn written<AC: AdditionalClaims>(alloc: Global, claims: &AC) -> Result<Vec<u8>, AllocError> {
+pub(crate) fn written<AC: AdditionalClaims>(
+    alloc: Global,
+    claims: &AC,
+) -> Result<Vec<u8>, AllocError> {
     let members = claims.write(alloc)?;
     write_object(alloc, members.as_slice())
 }
@@ -52,7 +55,10 @@ fn standard_members_are_left_out(rt: HostRuntime) -> Result<(), Fail> {
     let alloc = rt.alloc();
     let text = r#"{"sub":"a","name#de":"x","name#":"y","name#b":null,"zz":1}"#;
     let claims: AllOtherClaims = read(alloc, text)?;
-    assert_eq!(rt; written(alloc, &claims)?.as_slice(), br#"{"zz":1}"#.as_slice());
+    assert_eq!(rt;
+        written(alloc, &claims)?.as_slice(),
+        br#"{"zz":1}"#.as_slice()
+    );
     Ok(())
 }
 

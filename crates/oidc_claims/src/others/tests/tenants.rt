@@ -56,7 +56,10 @@ impl AdditionalClaims for Tenant {
 fn a_caller_may_read_claims_of_its_own(rt: HostRuntime) -> Result<(), Fail> {
     let alloc = rt.alloc();
     let tenant: Tenant = read(alloc, r#"{"sub":"a","tenant":"b","zz":1}"#)?;
-    assert_eq!(rt; written(alloc, &tenant)?.as_slice(), br#"{"tenant":"b"}"#.as_slice());
+    assert_eq!(rt;
+        written(alloc, &tenant)?.as_slice(),
+        br#"{"tenant":"b"}"#.as_slice()
+    );
     Ok(())
 }
 
