@@ -27,7 +27,6 @@ pub fn written_claims_read_back<GC: GenderClaim>()
 
 /// [`AllOtherClaims`](crate::AllOtherClaims) refuses no additional members, and keeps exactly their
 /// names and values, in their order.
-#[tactic(auto, using(crate::proofs::Kept::all_kept))]
 pub fn others_keep_all()
     ensures { (members : List SeenMember) → IsTrue (are_additional members)
         → (claims : Others) × (read_others members ≡ Ok claims) × (list_of claims ≡ map out_of members) }
