@@ -21,9 +21,11 @@ use Rattle.oidc_claims.specs.Address.{address_read}
 use Rattle.oidc_claims.specs.Claims.{own, variants, unless_empty, fault_of_kind, fault_by, fault_at, first_fault, judged}
 use Rattle.oidc_claims.specs.Standard.{claims_of, with_subject, complete, unless_refused}
 use Rattle.oidc_claims.specs.Written.{written, claim_members, plain_member, variant_members, with_tag, address_data, seconds_data, seconds_of}
-use Rattle.oidc_claims.specs.RoundTrip.{IsTag, IsInRange, IsWholeSecond, AddressStands, read_with}
+use Rattle.oidc_claims.specs.RoundTrip.{IsTag, IsInRange, IsWholeSecond}
+use Rattle.oidc_claims.proofs.Standing.{AddressStands, read_with}
 use Rattle.oidc_claims.proofs.Apart.{JudgesOwn, Apart, apart_from, own_among, no_fault}
 use Rattle.oidc_claims.proofs.Parts.{map_flat, address_reads_back}
+use Rattle.oidc_claims.proofs.Seconds.{whole_second}
 use Rattle.oidc_claims.proofs.VariantsBack.{key, same, judge, IsClaimPart, Named, variants_are_part, variants_back}
 
 -- ---- the names of localized claims
@@ -182,7 +184,7 @@ module _
   gender_fits g = gender_back g (one Gender (gender_data g)) refl
 
   moment_fits : (n : ℤ) → IsWholeSecond (Some n) → moment_read (one UpdatedAt (seconds_data n)) ≡ Ok n
-  moment_fits n whole = ap (seconds_read (one UpdatedAt (seconds_data n))) (integer_back (seconds_of n)) ∙ moment_by (moment_at (seconds_of n)) whole
+  moment_fits n whole = ap (seconds_read (one UpdatedAt (seconds_data n))) (integer_back (seconds_of n)) ∙ moment_by (moment_at (seconds_of n)) (whole_second n whole.0 whole.1)
     where
       moment_by : (o : Option ℤ) → o ≡ Some n → or_refused o (of_member Moment (one UpdatedAt (seconds_data n))) ≡ Ok n
       moment_by o is = ap (λ o. or_refused o (of_member Moment (one UpdatedAt (seconds_data n)))) is

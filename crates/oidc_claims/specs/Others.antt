@@ -23,9 +23,7 @@ others_at ms ns e p q =
     subst (λ ns. (q : are_written_additional ns ≡ true) → ◌≡◌ {A = Others} (record { list = ms; additional = p }) (record { list = ns; additional = q }))
     e (λ q i. record { list = ms; additional = Bool-set _ _ p q i }) q
 
-pub same_others : (a b : Others) → list_of a ≡ list_of b → a ≡ b
-same_others a b e = others_at a.list b.list e a.additional b.additional
-
+-- `read` is never asked about a list with another member; that list would be kept as none.
 kept : (ms : List OutSeen) (b : Bool) → are_written_additional ms ≡ b → Others
 kept ms true h = record { list = ms; additional = h }
 kept ms false h = record { list = []; additional = refl }
@@ -42,9 +40,6 @@ kept_same o false h = absurd (true≢false (sym o.additional ∙ h))
 pub others_of-list : (o : Others) → others_of o.list ≡ o
 unfolding others_of
 others_of-list o = kept_same o (are_written_additional o.list) refl
-
-pub others_of-any : (ms : List OutSeen) (o : Others) → list_of o ≡ ms → others_of ms ≡ o
-others_of-any ms o e = ap others_of (sym e) ∙ others_of-list o
 
 abbrev pub others_code : Coded Others
 others_code = code_by (List OutSeen) (coded_list out_seen_code) list_of others_of others_of-list

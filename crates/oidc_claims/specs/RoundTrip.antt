@@ -1,15 +1,9 @@
 -- Which claims are read back as they were written (OpenID Connect Core 1.0 sections 5.1, 5.1.1 and 5.2).
-use Rattle.std.specs.Prelude.{◌≡◌, ◌≢◌, ℕ, ℤ, List, [], ◌∷◌, map, Option, None, Some, Result, Ok}
+use Rattle.std.specs.Prelude.{◌≡◌, ◌≢◌, ℕ, ℤ, List, [], ◌∷◌, Option, None, Some}
 use Rattle.std.specs.FinMap as finite
 use Rattle.oidc_types.specs.Variants.{Variants}
-use Rattle.oidc_members.specs.Seen.{SeenMember, OutSeen}
-use Rattle.oidc_members.specs.Objects.{members_of}
-use Rattle.oidc_claims.specs.declared.claim.Claim.TheVariants.{Address}
-use Rattle.oidc_claims.specs.declared.claims.address.AddressClaim.{AddressClaim}
 use Rattle.oidc_claims.specs.Seen.{SeenClaims}
-use Rattle.oidc_claims.specs.Table.{name_of}
 use Rattle.oidc_claims.specs.Kinds.{moment_at}
-use Rattle.oidc_claims.specs.Written.{seconds_of, address_members, address_data}
 
 -- a tag that isn't empty, or none
 abbrev pub IsTag : Option (List ℕ) → Type 0
@@ -24,10 +18,10 @@ abbrev pub HasVariants : Option (Variants (List ℕ)) → Type 0
 HasVariants None = Unit {0}
 HasVariants (Some variants) = (finite.entries variants ≢ []) × AreTagged (finite.entries variants)
 
--- a moment that is the one at its whole seconds
+-- a moment that is at a whole second
 abbrev pub IsWholeSecond : Option ℤ → Type 0
 IsWholeSecond None = Unit {0}
-IsWholeSecond (Some nanosecond) = moment_at (seconds_of nanosecond) ≡ Some nanosecond
+IsWholeSecond (Some nanosecond) = (second : ℤ) × (moment_at second ≡ Some nanosecond)
 
 pub record IsInRange {GC : Type 0} (claims : SeenClaims GC) : Type 0 where
   pub name : HasVariants claims.name
@@ -39,13 +33,3 @@ pub record IsInRange {GC : Type 0} (claims : SeenClaims GC) : Type 0 where
   pub picture : HasVariants claims.picture
   pub website : HasVariants claims.website
   pub updated_at : IsWholeSecond claims.updated_at
-
--- the member that is read, where a text stands for each value
-abbrev pub read_with : (OutSeen → List ℕ) → OutSeen → SeenMember
-read_with text_of m = record { name = m.name; value = m.value; text = text_of m }
-
--- The text that stands for the address is an object's, of the members that were written.
-abbrev pub AddressStands : (OutSeen → List ℕ) → Option AddressClaim → Type 0
-AddressStands text_of None = Unit {0}
-AddressStands text_of (Some a) =
-    members_of (text_of (record { name = name_of Address; value = address_data a })) ≡ Some (map (read_with text_of) (address_members a))

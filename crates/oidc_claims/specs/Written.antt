@@ -14,6 +14,7 @@ use Rattle.oidc_claims.specs.declared.claims.address.AddressClaim.{AddressClaim}
 use Rattle.oidc_claims.specs.declared.claims.part.AddressPart.{AddressPart}
 use Rattle.oidc_claims.specs.declared.claims.part.AddressPart.TheVariants as part
 use Rattle.oidc_claims.specs.Seen.{SeenClaims}
+use Rattle.oidc_claims.specs.Address.{part_name}
 use Rattle.oidc_claims.specs.Table.{name_of, all_claims}
 
 -- ---- values
@@ -30,12 +31,12 @@ text_member name None = []
 text_member name (Some text) = record { name = name; value = string text } ∷ []
 
 abbrev pub part_members : AddressClaim → AddressPart → List OutSeen
-part_members a part.Formatted = text_member (codes "formatted") a.formatted
-part_members a part.StreetAddress = text_member (codes "street_address") a.street_address
-part_members a part.Locality = text_member (codes "locality") a.locality
-part_members a part.Region = text_member (codes "region") a.region
-part_members a part.PostalCode = text_member (codes "postal_code") a.postal_code
-part_members a part.Country = text_member (codes "country") a.country
+part_members a part.Formatted = text_member (part_name part.Formatted) a.formatted
+part_members a part.StreetAddress = text_member (part_name part.StreetAddress) a.street_address
+part_members a part.Locality = text_member (part_name part.Locality) a.locality
+part_members a part.Region = text_member (part_name part.Region) a.region
+part_members a part.PostalCode = text_member (part_name part.PostalCode) a.postal_code
+part_members a part.Country = text_member (part_name part.Country) a.country
 
 -- in the byte order of their names
 abbrev pub parts_in_order : List AddressPart

@@ -50,13 +50,16 @@ pub trait GenderClaim: Drop {
 /// A text, kept as it is given. Another value is refused as `WrongType` of the member's name.
 impl GenderClaim for CoreGenderClaim {
     ghost use Rattle.std.proofs.Common.{ap, refl, lit≤};
-    ghost use Rattle.oidc_claims.specs.Gender.{text_or_refusal, written_text};
+    ghost use Rattle.serde_json.specs.Find.{as_str};
+    ghost use Rattle.serde_json.specs.Data.{string};
+    ghost use Rattle.oidc_claims.specs.Kinds.{text_read, or_refused, of_member};
+    ghost use Rattle.oidc_members.specs.declared.refusal.ParseKind.TheVariants.{WrongType};
 
-    ghost read_of = { λ member. text_or_refusal member.name member.value };
+    ghost read_of = { text_read };
 
-    ghost write_of = { written_text };
+    ghost write_of = { string };
 
-    ghost reads_back = { λ _ member is. ap (text_or_refusal member.name) is };
+    ghost reads_back = { λ _ member is. ap (λ value. or_refused (as_str value) (of_member WrongType member)) is };
 
     ghost written_is_value = { λ _. (λ e. Prim.cc, (refl, lit≤ tt)) };
 

@@ -1,19 +1,34 @@
 //! What holds of the claims as a whole. Each function here says a law in its contract, and does
 //! nothing.
 
-ghost use Rattle.std.specs.Prelude.{◌≡◌, ℕ, List, Result, Ok, map};
-ghost use Rattle.oidc_members.specs.Seen.{OutSeen};
+ghost use Rattle.std.specs.Prelude.{◌≡◌, List, Some, Ok, IsTrue, map, option_map};
+ghost use Rattle.std.specs.List.{All};
+ghost use Rattle.oidc_members.specs.Objects.{members_of};
+ghost use Rattle.oidc_members.specs.Seen.{SeenMember};
+ghost use Rattle.oidc_members.specs.Written.{object_text};
+ghost use Rattle.oidc_readers.specs.WrittenBack.{MayBeWritten};
+ghost use Rattle.oidc_claims.specs.Additional.{are_additional, out_of};
+ghost use Rattle.oidc_claims.specs.Others.{Others, list_of, read_others};
+ghost use Rattle.oidc_claims.specs.RoundTrip.{IsInRange};
 ghost use Rattle.oidc_claims.specs.Seen.{SeenClaims};
 ghost use Rattle.oidc_claims.specs.Standard.{claims_of};
 ghost use Rattle.oidc_claims.specs.Written.{written};
-ghost use Rattle.oidc_claims.specs.RoundTrip.{IsInRange, AddressStands, read_with};
 
 use crate::gender::GenderClaim;
 
-/// Written claims are read back as equal claims, whatever texts stand for their values, where the
-/// text of `address` is an object's of the members that were written. No claim in several languages
-/// may be without a value, no tag empty, and every moment is a whole second.
+/// Claims that are written as an object's text are read back from it as equal claims. No claim in
+/// several languages may be without a value, no tag empty, and every moment is a whole second. What
+/// is written must be JSON that nests at most 127 deep; for claims of this program, whose texts are
+/// always UTF-8, that is a condition on what `GC` writes.
 pub fn written_claims_read_back<GC: GenderClaim>()
-    ensures { (claims : SeenClaims GC) (text_of : OutSeen → List ℕ) → IsInRange claims → AddressStands text_of claims.address
-        → claims_of GC.read_of (map (read_with text_of) (written GC.write_of claims)) ≡ Ok claims }
+    ensures { (claims : SeenClaims GC) → IsInRange claims → All MayBeWritten (written GC.write_of claims)
+        → option_map (claims_of GC.read_of) (members_of (object_text (written GC.write_of claims))) ≡ Some (Ok claims) }
+{}
+
+/// [`AllOtherClaims`](crate::AllOtherClaims) refuses no additional members, and keeps exactly their
+/// names and values, in their order.
+#[tactic(auto, using(crate::proofs::Kept::all_kept))]
+pub fn others_keep_all()
+    ensures { (members : List SeenMember) → IsTrue (are_additional members)
+        → (claims : Others) × (read_others members ≡ Ok claims) × (list_of claims ≡ map out_of members) }
 {}

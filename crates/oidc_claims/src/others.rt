@@ -16,7 +16,8 @@ mod tests;
 /// All additional members, with their names and values in their order. Nothing is refused, and they
 /// are written as they were read.
 ///
-/// Two are equal where their names and values are, one by one.
+/// Two are equal where their names and values are, one by one. A float is equal to none, not even to
+/// itself; `Members::split` lets none in.
 #[derive(Debug, Drop)]
 pub struct AllOtherClaims {
     members: Vec<OutMember>,

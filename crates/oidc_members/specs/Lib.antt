@@ -3,7 +3,6 @@ pub mod Cutting
 pub mod DataCode
 pub mod Objects
 pub mod Places
-pub mod ReadAgain
 pub mod Scanning
 pub mod Seen
 pub mod SeenCode

@@ -23,7 +23,6 @@
 mod cut;
 mod field_name;
 mod float;
-pub mod laws;
 mod member;
 mod object;
 mod refusal;

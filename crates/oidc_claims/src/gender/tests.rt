@@ -1,8 +1,8 @@
 use crate::gender::GenderClaim;
-use oidc_members::{Members, ParseError, ParseKind, Refusal};
+use oidc_members::{Member, Members, ParseError, ParseKind, Refusal};
 use oidc_types::CoreGenderClaim;
 use serde_json::Value;
-use std::alloc::Global;
+use std::alloc::{AllocError, Global};
 use std::test::Fail;
 
 fn read<GC: GenderClaim>(alloc: Global, text: &str) -> Result<Option<GC>, ParseError> {
@@ -44,5 +44,57 @@ fn other_kinds_are_refused(rt: HostRuntime) -> Result<(), Fail> {
         let wanted = Refusal::of_field(alloc, ParseKind::WrongType, "gender#")?;
         assert_eq!(rt; refused.err(), Some(ParseError::Refused(wanted)));
     }
+    Ok(())
+}
+
+// A gender that isn't a text, and that refuses by a kind and a field of its own.
+#[derive(Clone, Copy, Debug, Drop, PartialEq)]
+struct Told {
+    is_told: bool,
+}
+
+impl GenderClaim for Told {
+    ghost use Rattle.std.specs.Prelude.{codes, option_map};
+    ghost use Rattle.std.proofs.Common.{ap, refl, lit≤};
+    ghost use Rattle.serde_json.specs.Data.{boolean};
+    ghost use Rattle.serde_json.specs.Find.{as_bool};
+    ghost use Rattle.oidc_members.specs.declared.refusal.ParseKind.TheVariants.{Additional};
+    ghost use Rattle.oidc_claims.specs.Kinds.{or_refused};
+
+    ghost read_of = { λ member. or_refused (option_map (λ told. record { is_told = told }) (as_bool member.value))
+        (record { kind = Additional; field = codes "told" }) };
+
+    ghost write_of = { λ gender. boolean gender.is_told };
+
+    ghost reads_back = { λ gender member is. ap
+        (λ value. or_refused (option_map (λ told. record { is_told = told }) (as_bool value)) (record { kind = Additional; field = codes "told" })) is };
+
+    ghost written_is_value = { λ _. (λ e. Prim.cc, (refl, lit≤ tt)) };
+
+    fn read(alloc: Global, member: &Member) -> Result<Told, ParseError> {
+        match member.value() {
+            Value::Bool(is_told) => Ok(Told { is_told: *is_told }),
+            _ => Err(Refusal::of_field(alloc, ParseKind::Additional, "told")?.into()),
+        }
+    }
+
+    fn write(&self, _alloc: Global) -> Result<Value, AllocError> {
+        Ok(Value::Bool(self.is_told))
+    }
+
+    fn clone_in(&self, _alloc: Global) -> Result<Told, AllocError> {
+        Ok(*self)
+    }
+}
+
+#[test]
+fn a_caller_may_bring_a_gender_of_its_own(rt: HostRuntime) -> Result<(), Fail> {
+    let alloc = rt.alloc();
+    let gender: Told = read(alloc, r#"{"gender":true}"#)?.ok_or("no member")?;
+    assert_eq!(rt; gender, Told { is_told: true });
+    assert_eq!(rt; copied_and_written(alloc, &gender)?.as_bool(), Some(true));
+    let refused = read::<Told>(alloc, r#"{"gender":"female"}"#);
+    let wanted = Refusal::of_field(alloc, ParseKind::Additional, "told")?;
+    assert_eq!(rt; refused.err(), Some(ParseError::Refused(wanted)));
     Ok(())
 }

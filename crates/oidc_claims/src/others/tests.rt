@@ -1,6 +1,8 @@
 ghost use Rattle.std.specs.Prelude.{IfOk, IsTrue};
 ghost use Rattle.oidc_claims.specs.Additional.{are_additional};
 
+mod tenants;
+
 use crate::additional::{AdditionalClaims, EmptyAdditionalClaims};
 use crate::home::{Home, USER_INFO_FIELDS, belongs};
 use crate::others::AllOtherClaims;
@@ -22,12 +24,15 @@ fn additional_members(alloc: Global, text: &str) -> Result<Vec<Member>, ParseErr
     Ok(additional)
 }
 
-fn read<AC: AdditionalClaims>(alloc: Global, text: &str) -> Result<AC, ParseError> {
+pub(crate) fn read<AC: AdditionalClaims>(alloc: Global, text: &str) -> Result<AC, ParseError> {
     let members = additional_members(alloc, text)?;
     AC::read(alloc, members.as_slice())
 }
 
-fn written<AC: AdditionalClaims>(alloc: Global, claims: &AC) -> Result<Vec<u8>, AllocError> {
+pub(crate) fn written<AC: AdditionalClaims>(
+    alloc: Global,
+    claims: &AC,
+) -> Result<Vec<u8>, AllocError> {
     let members = claims.write(alloc)?;
     write_object(alloc, members.as_slice())
 }
@@ -42,6 +47,18 @@ fn all_others_are_kept_in_order(rt: HostRuntime) -> Result<(), Fail> {
     assert_eq!(rt; claims.as_slice().len(), 4);
     let again: AllOtherClaims = read(alloc, kept)?;
     assert!(rt; claims == again);
+    Ok(())
+}
+
+#[test]
+fn standard_members_are_left_out(rt: HostRuntime) -> Result<(), Fail> {
+    let alloc = rt.alloc();
+    let text = r#"{"sub":"a","name#de":"x","name#":"y","name#b":null,"zz":1}"#;
+    let claims: AllOtherClaims = read(alloc, text)?;
+    assert_eq!(rt;
+        written(alloc, &claims)?.as_slice(),
+        br#"{"zz":1}"#.as_slice()
+    );
     Ok(())
 }
 

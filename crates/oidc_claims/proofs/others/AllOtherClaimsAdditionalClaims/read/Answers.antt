@@ -1,7 +1,7 @@
 use Rattle.std.proofs.Common.{ap, ◌∙◌, Ok}
 use Rattle.oidc_claims.specs.Additional.{are_written_additional}
-use Rattle.oidc_claims.specs.Others.{others_of-any}
 use Rattle.oidc_claims.proofs.Homes.{outs_are_additional}
+use Rattle.oidc_claims.proofs.Kept.{others_of-any}
 use Rattle.oidc_claims.proofs.others.AllOtherClaimsAdditionalClaims.read.Goals as goal
 
 pub invariant_of-result : goal.invariant_of-result
