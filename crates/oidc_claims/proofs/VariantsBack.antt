@@ -22,7 +22,7 @@ use Rattle.oidc_claims.specs.declared.claim.Claim.{Claim}
 use Rattle.oidc_claims.specs.declared.claim.ClaimKind.TheVariants as kind
 use Rattle.oidc_claims.specs.Table.{name_of, claim_of, is_localized, is_optional, kind_of, base_of, tag_of}
 use Rattle.oidc_claims.specs.Kinds.{of_member, text_read, held, misfit}
-use Rattle.oidc_claims.specs.Claims.{fault_of_kind, fault_at, same_tag, is_more, judged, with_value, variants, unless_empty, is_nil}
+use Rattle.oidc_claims.specs.Claims.{fault_of_kind, fault_at, same_tag, judged, with_value, variants, unless_empty, is_nil}
 use Rattle.oidc_claims.specs.Written.{with_tag, variant_member, variant_members}
 use Rattle.oidc_claims.specs.RoundTrip.{IsTag, AreTagged, HasVariants}
 use Rattle.oidc_claims.proofs.Standing.{read_with}
@@ -88,7 +88,7 @@ module _ {GC : Type 0} (gender_read : SeenMember → Result GC Refusal) (text_of
   fits : (e : Option (List ℕ) × List ℕ) (before : List SeenMember) → list_any (same_tag (member e)) before ≡ false → judge gender_read c before (member e) ≡ None
   fits e before new =
       ap (λ k. fault_of_kind gender_read k c before (member e)) named.is_text
-      ∙ (λ i. cond (cond (named.localized i) (list_any (same_tag (member e)) before) (is_more before)) (Some (of_member Duplicate (member e)))
+      ∙ (λ i. cond (cond (named.localized i) (list_any (same_tag (member e)) before) (not (is_nil before))) (Some (of_member Duplicate (member e)))
       (cond (not (named.localized i) && is_some (tag_of (member e).name)) (Some (of_member UnexpectedTag (member e))) (misfit (named.optional i) text_read (member e))))
       ∙ ap (λ b. cond b (Some (of_member Duplicate (member e))) None) new
 

@@ -28,9 +28,9 @@ own claim members = filter (is_of claim) members
 
 -- ---- faults
 
-abbrev pub is_more : List SeenMember → Bool
-is_more [] = false
-is_more (m ∷ ms) = true
+abbrev pub is_nil : {A : Type 0} → List A → Bool
+is_nil [] = true
+is_nil (x ∷ xs) = false
 
 abbrev pub same_tag : SeenMember → SeenMember → Bool
 same_tag m n = is_eq (tag_cmp (tag_of m.name) (tag_of n.name))
@@ -38,7 +38,7 @@ same_tag m n = is_eq (tag_cmp (tag_of m.name) (tag_of n.name))
 -- Whether a member repeats one of its claim that stands before: a claim in several languages may
 -- stand once for each tag, any other once.
 abbrev pub repeats : Claim → List SeenMember → SeenMember → Bool
-repeats claim before m = cond (is_localized claim) (list_any (same_tag m) before) (is_more before)
+repeats claim before m = cond (is_localized claim) (list_any (same_tag m) before) (not (is_nil before))
 
 abbrev pub has_unexpected_tag : Claim → SeenMember → Bool
 has_unexpected_tag claim m = not (is_localized claim) && is_some (tag_of m.name)
@@ -82,10 +82,6 @@ with_value values tag (Some v) = finite.insert values tag v
 -- the map from tags to the values that are there
 abbrev pub variants : {V : Type 0} → Bool → (SeenMember → Result V Refusal) → List SeenMember → Variants V
 variants optional read ms = fold (λ values m. with_value values (tag_of m.name) (held optional read m)) finite.empty ms
-
-abbrev pub is_nil : {A : Type 0} → List A → Bool
-is_nil [] = true
-is_nil (x ∷ xs) = false
 
 -- absent where it has no value
 abbrev pub unless_empty : {V : Type 0} → Variants V → Option (Variants V)

@@ -12,17 +12,17 @@ use Rattle.oidc_claims.specs.SameClaims.{same_text, same_localized, same_address
 texts : IsEquivalence (pointwise nat_eq)
 texts = lists_equiv nat_eq_equiv
 
-text_per : IsPartialEquivalence same_text
-text_per = partial_equiv_from_equiv (options_equiv texts)
+text_equality : IsPartialEquivalence same_text
+text_equality = partial_equiv_from_equiv (options_equiv texts)
 
-variants_per : IsPartialEquivalence same_localized
-variants_per = partial_equiv_from_equiv (options_equiv (on_equiv finite.entries (lists_equiv (and_equiv (on_equiv (λ e. e.0) (options_equiv texts)) (on_equiv (λ e. e.1) texts)))))
+localized_equality : IsPartialEquivalence same_localized
+localized_equality = partial_equiv_from_equiv (options_equiv (on_equiv finite.entries (lists_equiv (and_equiv (on_equiv (λ e. e.0) (options_equiv texts)) (on_equiv (λ e. e.1) texts)))))
 
-flag_per : IsPartialEquivalence (option_eq beq)
-flag_per = partial_equiv_from_equiv (options_equiv bool_eq_equiv)
+flag_equality : IsPartialEquivalence (option_eq beq)
+flag_equality = partial_equiv_from_equiv (options_equiv bool_eq_equiv)
 
-moment_per : IsPartialEquivalence (option_eq int_eq)
-moment_per = partial_equiv_from_equiv (options_equiv int_eq_equiv)
+moment_equality : IsPartialEquivalence (option_eq int_eq)
+moment_equality = partial_equiv_from_equiv (options_equiv int_eq_equiv)
 
 module _ {K : Type 0} {E : K → K → Bool} (per : IsPartialEquivalence E) where
   flip : (p q : Option K) → option_eq E p q ≡ option_eq E q p
@@ -38,32 +38,32 @@ module _ {K : Type 0} {E : K → K → Bool} (per : IsPartialEquivalence E) wher
   chain (Some x) (Some y) None e f = absurd (cc)
   chain (Some x) (Some y) (Some z) e f = per.trans x y z e f
 
-  pub options_per : IsPartialEquivalence (option_eq E)
-  options_per = record { symm = flip; trans = chain }
+  pub options_equality : IsPartialEquivalence (option_eq E)
+  options_equality = record { symm = flip; trans = chain }
 
-pub address_is_per : IsPartialEquivalence same_address
-address_is_per =
-    and_per (and_per (and_per (and_per (and_per (on_per (λ a. a.formatted) text_per) (on_per (λ a. a.street_address) text_per)) (on_per (λ a. a.locality) text_per)) (on_per (λ a. a.region) text_per)) (on_per (λ a. a.postal_code) text_per)) (on_per (λ a. a.country) text_per)
+pub address_equality : IsPartialEquivalence same_address
+address_equality =
+    and_per (and_per (and_per (and_per (and_per (on_per (λ a. a.formatted) text_equality) (on_per (λ a. a.street_address) text_equality)) (on_per (λ a. a.locality) text_equality)) (on_per (λ a. a.region) text_equality)) (on_per (λ a. a.postal_code) text_equality)) (on_per (λ a. a.country) text_equality)
 
-address_per : IsPartialEquivalence (option_eq same_address)
-address_per = options_per address_is_per
+optional_address_equality : IsPartialEquivalence (option_eq same_address)
+optional_address_equality = options_equality address_equality
 
-module _ {Gender : Type 0} (gender_eq : Gender → Gender → Bool) (gender_per : IsPartialEquivalence gender_eq) where
-  names_per : IsPartialEquivalence (same_names gender_eq)
-  names_per =
-      and_per (and_per (and_per (and_per (and_per (on_per (λ c. c.name) variants_per) (on_per (λ c. c.given_name) variants_per)) (on_per (λ c. c.family_name) variants_per)) (on_per (λ c. c.middle_name) variants_per)) (on_per (λ c. c.nickname) variants_per)) (on_per (λ c. c.preferred_username) text_per)
+module _ {Gender : Type 0} (gender_eq : Gender → Gender → Bool) (gender_equality : IsPartialEquivalence gender_eq) where
+  names_equality : IsPartialEquivalence (same_names gender_eq)
+  names_equality =
+      and_per (and_per (and_per (and_per (and_per (on_per (λ c. c.name) localized_equality) (on_per (λ c. c.given_name) localized_equality)) (on_per (λ c. c.family_name) localized_equality)) (on_per (λ c. c.middle_name) localized_equality)) (on_per (λ c. c.nickname) localized_equality)) (on_per (λ c. c.preferred_username) text_equality)
 
-  pages_per : IsPartialEquivalence (same_pages gender_eq)
-  pages_per =
-      and_per (and_per (and_per (and_per (on_per (λ c. c.profile) variants_per) (on_per (λ c. c.picture) variants_per)) (on_per (λ c. c.website) variants_per)) (on_per (λ c. c.email) text_per)) (on_per (λ c. c.email_verified) flag_per)
+  pages_equality : IsPartialEquivalence (same_pages gender_eq)
+  pages_equality =
+      and_per (and_per (and_per (and_per (on_per (λ c. c.profile) localized_equality) (on_per (λ c. c.picture) localized_equality)) (on_per (λ c. c.website) localized_equality)) (on_per (λ c. c.email) text_equality)) (on_per (λ c. c.email_verified) flag_equality)
 
-  person_per : IsPartialEquivalence (same_person gender_eq)
-  person_per =
-      and_per (and_per (and_per (and_per (on_per (λ c. c.gender) (options_per gender_per)) (on_per (λ c. c.birthday) text_per)) (on_per (λ c. c.birthdate) text_per)) (on_per (λ c. c.zoneinfo) text_per)) (on_per (λ c. c.locale) text_per)
+  person_equality : IsPartialEquivalence (same_person gender_eq)
+  person_equality =
+      and_per (and_per (and_per (and_per (on_per (λ c. c.gender) (options_equality gender_equality)) (on_per (λ c. c.birthday) text_equality)) (on_per (λ c. c.birthdate) text_equality)) (on_per (λ c. c.zoneinfo) text_equality)) (on_per (λ c. c.locale) text_equality)
 
-  rest_per : IsPartialEquivalence (same_rest gender_eq)
-  rest_per =
-      and_per (and_per (and_per (on_per (λ c. c.phone_number) text_per) (on_per (λ c. c.phone_number_verified) flag_per)) (on_per (λ c. c.address) address_per)) (on_per (λ c. c.updated_at) moment_per)
+  rest_equality : IsPartialEquivalence (same_rest gender_eq)
+  rest_equality =
+      and_per (and_per (and_per (on_per (λ c. c.phone_number) text_equality) (on_per (λ c. c.phone_number_verified) flag_equality)) (on_per (λ c. c.address) optional_address_equality)) (on_per (λ c. c.updated_at) moment_equality)
 
-  pub claims_are_per : IsPartialEquivalence (same_claims gender_eq)
-  claims_are_per = and_per (and_per (and_per (and_per (on_per (λ c. c.subject) (partial_equiv_from_equiv texts)) (names_per)) (pages_per)) (person_per)) (rest_per)
+  pub claims_equality : IsPartialEquivalence (same_claims gender_eq)
+  claims_equality = and_per (and_per (and_per (and_per (on_per (λ c. c.subject) (partial_equiv_from_equiv texts)) (names_equality)) (pages_equality)) (person_equality)) (rest_equality)

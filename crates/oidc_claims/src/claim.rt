@@ -7,7 +7,7 @@ use oidc_members::Member;
 
 /// A standard claim (OpenID Connect Core 1.0 section 5.1).
 #[derive(Clone, Copy, Debug, Drop, PartialEq, Eq)]
-pub enum Claim {
+pub(crate) enum Claim {
     /// `sub`
     Subject,
     /// `name`
@@ -54,7 +54,7 @@ pub enum Claim {
 
 /// What a claim's value is.
 #[derive(Clone, Copy, Debug, Drop, PartialEq, Eq)]
-pub enum ClaimKind {
+pub(crate) enum ClaimKind {
     /// A text.
     Text,
     /// True or false.
@@ -175,6 +175,7 @@ impl Claim {
     {
         Claim::of_base(base_of_name(name))
     }
+
     // The claim that a member is of.
     pub(crate) fn of_member(member: &Member) -> Option<Claim>
         ensures { result ≡ claim_of (base_of member.now.name) }

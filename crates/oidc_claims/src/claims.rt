@@ -15,7 +15,7 @@ mod tests;
 mod values;
 
 pub use crate::claims::address::AddressClaim;
-use crate::claims::copies::{address_in, gender_in, localized_in, text_in};
+use crate::claims::copies::{copied_address, copied_gender, copied_localized, copied_text};
 pub use crate::claims::reader::read_standard;
 use crate::gender::GenderClaim;
 use jiff::Timestamp;
@@ -316,7 +316,7 @@ impl<GC: GenderClaim> StandardClaims<GC> {
         self
     }
 
-    /// `birthday`: the day of birth under the name that some providers send. It isn't the standard's `birthdate`.
+    /// `birthday`: the day of birth, under the name that some providers send for `birthdate`.
     pub fn birthday(&self) -> Option<&EndUserBirthday>
         ensures { option_copied result ≡ self.now.birthday }
     {
@@ -442,25 +442,25 @@ impl<GC: GenderClaim> StandardClaims<GC> {
     {
         Ok(StandardClaims {
             subject: self.subject.clone_in(alloc)?,
-            name: localized_in(alloc, &self.name)?,
-            given_name: localized_in(alloc, &self.given_name)?,
-            family_name: localized_in(alloc, &self.family_name)?,
-            middle_name: localized_in(alloc, &self.middle_name)?,
-            nickname: localized_in(alloc, &self.nickname)?,
-            preferred_username: text_in(alloc, &self.preferred_username)?,
-            profile: localized_in(alloc, &self.profile)?,
-            picture: localized_in(alloc, &self.picture)?,
-            website: localized_in(alloc, &self.website)?,
-            email: text_in(alloc, &self.email)?,
+            name: copied_localized(alloc, &self.name)?,
+            given_name: copied_localized(alloc, &self.given_name)?,
+            family_name: copied_localized(alloc, &self.family_name)?,
+            middle_name: copied_localized(alloc, &self.middle_name)?,
+            nickname: copied_localized(alloc, &self.nickname)?,
+            preferred_username: copied_text(alloc, &self.preferred_username)?,
+            profile: copied_localized(alloc, &self.profile)?,
+            picture: copied_localized(alloc, &self.picture)?,
+            website: copied_localized(alloc, &self.website)?,
+            email: copied_text(alloc, &self.email)?,
             email_verified: self.email_verified,
-            gender: gender_in(alloc, &self.gender)?,
-            birthday: text_in(alloc, &self.birthday)?,
-            birthdate: text_in(alloc, &self.birthdate)?,
-            zoneinfo: text_in(alloc, &self.zoneinfo)?,
-            locale: text_in(alloc, &self.locale)?,
-            phone_number: text_in(alloc, &self.phone_number)?,
+            gender: copied_gender(alloc, &self.gender)?,
+            birthday: copied_text(alloc, &self.birthday)?,
+            birthdate: copied_text(alloc, &self.birthdate)?,
+            zoneinfo: copied_text(alloc, &self.zoneinfo)?,
+            locale: copied_text(alloc, &self.locale)?,
+            phone_number: copied_text(alloc, &self.phone_number)?,
             phone_number_verified: self.phone_number_verified,
-            address: address_in(alloc, &self.address)?,
+            address: copied_address(alloc, &self.address)?,
             updated_at: self.updated_at,
         })
     }
@@ -515,11 +515,11 @@ impl<GC: GenderClaim + PartialEq> StandardClaims<GC> {
 /// Equal where each claim is, an absent one to an absent one.
 impl<GC: GenderClaim + PartialEq> PartialEq for StandardClaims<GC> {
     ghost use Rattle.oidc_claims.specs.SameClaims.{same_claims};
-    ghost use Rattle.oidc_claims.specs.SameLaws.{claims_are_per};
+    ghost use Rattle.oidc_claims.specs.SameLaws.{claims_equality};
 
     ghost eq = { same_claims GC.eq };
 
-    ghost laws = { claims_are_per GC.eq GC.PartialEq.laws };
+    ghost laws = { claims_equality GC.eq GC.PartialEq.laws };
 
     fn eq(&self, other: &StandardClaims<GC>) -> bool {
         self.subject == other.subject

@@ -2,7 +2,7 @@
 
 ghost use Rattle.std.specs.Prelude.{◌≡◌, IfOk};
 
-use crate::claims::copies::text_in;
+use crate::claims::copies::copied_text;
 use oidc_types::{
     AddressCountry, AddressLocality, AddressPostalCode, AddressRegion, FormattedAddress,
     StreetAddress,
@@ -32,12 +32,12 @@ impl AddressClaim {
         ensures copy { IfOk result (λ copy. copy ≡ self.now) }
     {
         Ok(AddressClaim {
-            formatted: text_in(alloc, &self.formatted)?,
-            street_address: text_in(alloc, &self.street_address)?,
-            locality: text_in(alloc, &self.locality)?,
-            region: text_in(alloc, &self.region)?,
-            postal_code: text_in(alloc, &self.postal_code)?,
-            country: text_in(alloc, &self.country)?,
+            formatted: copied_text(alloc, &self.formatted)?,
+            street_address: copied_text(alloc, &self.street_address)?,
+            locality: copied_text(alloc, &self.locality)?,
+            region: copied_text(alloc, &self.region)?,
+            postal_code: copied_text(alloc, &self.postal_code)?,
+            country: copied_text(alloc, &self.country)?,
         })
     }
 }
@@ -45,11 +45,11 @@ impl AddressClaim {
 /// Equal where each part is, a missing one to a missing one.
 impl PartialEq for AddressClaim {
     ghost use Rattle.oidc_claims.specs.SameClaims.{same_address};
-    ghost use Rattle.oidc_claims.specs.SameLaws.{address_is_per};
+    ghost use Rattle.oidc_claims.specs.SameLaws.{address_equality};
 
     ghost eq = { same_address };
 
-    ghost laws = { address_is_per };
+    ghost laws = { address_equality };
 
     fn eq(&self, other: &AddressClaim) -> bool {
         self.formatted == other.formatted

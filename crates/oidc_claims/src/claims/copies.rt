@@ -7,7 +7,7 @@ use oidc_types::{LocalizedClaim, Marker, Text};
 use std::alloc::{AllocError, Global};
 
 /// A copy of a text, where there is one.
-pub(crate) fn text_in<M: Marker>(
+pub(crate) fn copied_text<M: Marker>(
     alloc: Global,
     text: &Option<Text<M>>,
 ) -> Result<Option<Text<M>>, AllocError>
@@ -20,7 +20,7 @@ pub(crate) fn text_in<M: Marker>(
 }
 
 /// A copy of a claim in several languages, where there is one.
-pub(crate) fn localized_in<M: Marker>(
+pub(crate) fn copied_localized<M: Marker>(
     alloc: Global,
     claim: &Option<LocalizedClaim<Text<M>>>,
 ) -> Result<Option<LocalizedClaim<Text<M>>>, AllocError>
@@ -33,7 +33,7 @@ pub(crate) fn localized_in<M: Marker>(
 }
 
 /// A copy of a gender, where there is one.
-pub(crate) fn gender_in<GC: GenderClaim>(
+pub(crate) fn copied_gender<GC: GenderClaim>(
     alloc: Global,
     gender: &Option<GC>,
 ) -> Result<Option<GC>, AllocError>
@@ -46,7 +46,7 @@ pub(crate) fn gender_in<GC: GenderClaim>(
 }
 
 /// A copy of an address, where there is one.
-pub(crate) fn address_in(
+pub(crate) fn copied_address(
     alloc: Global,
     address: &Option<AddressClaim>,
 ) -> Result<Option<AddressClaim>, AllocError>

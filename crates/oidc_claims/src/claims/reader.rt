@@ -2,7 +2,7 @@
 ghost use Rattle.std.specs.Prelude.{◌≡◌, []};
 ghost use Rattle.oidc_readers.specs.Passes.{PlacedAnswers};
 ghost use Rattle.oidc_claims.specs.Claims.{fault_at};
-ghost use Rattle.oidc_claims.specs.Reader.{reader_of, finished};
+ghost use Rattle.oidc_claims.specs.Reader.{reader_of, finished, finished_claims};
 ghost use Rattle.oidc_claims.specs.Standard.{claims_of};
 
 use crate::claim::Claim;
@@ -77,33 +77,11 @@ impl<GC: GenderClaim> ClaimsReader<GC> {
 
     // The claims in the end. Without `sub` the list is refused at its end.
     #[tactic(auto, unfolding(crate::specs::Reader::finished_claims))]
-    fn finish(self, alloc: Global, end: usize) -> Result<StandardClaims<GC>, PlacedError>
+    fn finish(mut self, alloc: Global, end: usize) -> Result<StandardClaims<GC>, PlacedError>
         ensures { PlacedAnswers (finished self end) result }
     {
-        let ClaimsReader {
-            subject,
-            name,
-            given_name,
-            family_name,
-            middle_name,
-            nickname,
-            preferred_username,
-            profile,
-            picture,
-            website,
-            email,
-            email_verified,
-            gender,
-            birthday,
-            birthdate,
-            zoneinfo,
-            locale,
-            phone_number,
-            phone_number_verified,
-            address,
-            updated_at,
-        } = self;
-        match subject.value {
+        match self.subject.value.take() {
+            Some(subject) => Ok(self.claims_of(subject)),
             None => match Refusal::of_field(alloc, ParseKind::Missing, "sub") {
                 Ok(refusal) => Err(PlacedError::Refused {
                     place: end,
@@ -111,29 +89,36 @@ impl<GC: GenderClaim> ClaimsReader<GC> {
                 }),
                 Err(_) => Err(PlacedError::Memory),
             },
-            Some(subject) => Ok(StandardClaims {
-                subject,
-                name: name.finish(),
-                given_name: given_name.finish(),
-                family_name: family_name.finish(),
-                middle_name: middle_name.finish(),
-                nickname: nickname.finish(),
-                preferred_username: preferred_username.value,
-                profile: profile.finish(),
-                picture: picture.finish(),
-                website: website.finish(),
-                email: email.value,
-                email_verified: email_verified.value,
-                gender: gender_of(gender.value),
-                birthday: birthday.value,
-                birthdate: birthdate.value,
-                zoneinfo: zoneinfo.value,
-                locale: locale.value,
-                phone_number: phone_number.value,
-                phone_number_verified: phone_number_verified.value,
-                address: address.value,
-                updated_at: timestamp_of(updated_at.value),
-            }),
+        }
+    }
+
+    // What the slots hold, as the claims of that subject.
+    #[tactic(auto, unfolding(crate::specs::Reader::finished_claims))]
+    fn claims_of(self, subject: SubjectIdentifier) -> StandardClaims<GC>
+        ensures { result ≡ finished_claims self subject }
+    {
+        StandardClaims {
+            subject,
+            name: self.name.finish(),
+            given_name: self.given_name.finish(),
+            family_name: self.family_name.finish(),
+            middle_name: self.middle_name.finish(),
+            nickname: self.nickname.finish(),
+            preferred_username: self.preferred_username.value,
+            profile: self.profile.finish(),
+            picture: self.picture.finish(),
+            website: self.website.finish(),
+            email: self.email.value,
+            email_verified: self.email_verified.value,
+            gender: gender_of(self.gender.value),
+            birthday: self.birthday.value,
+            birthdate: self.birthdate.value,
+            zoneinfo: self.zoneinfo.value,
+            locale: self.locale.value,
+            phone_number: self.phone_number.value,
+            phone_number_verified: self.phone_number_verified.value,
+            address: self.address.value,
+            updated_at: timestamp_of(self.updated_at.value),
         }
     }
 }

@@ -1,5 +1,5 @@
 // What is kept of one claim while the members are read.
-ghost use Rattle.std.specs.Prelude.{◌≡◌, ◌∷◌, ◌++◌, List, [], Bool, true, false, IfOk, option_map, Option};
+ghost use Rattle.std.specs.Prelude.{◌≡◌, ◌∷◌, ◌++◌, List, [], Bool, true, false, IfOk, OnOk, option_map, Option};
 ghost use Rattle.std.specs.Option.{option_copied};
 ghost use Rattle.std.specs.FinMap as finite;
 ghost use Rattle.oidc_members.specs.Seen.{SeenMember};
@@ -85,6 +85,14 @@ fn owned_tag(alloc: Global, tag: Option<&str>) -> Result<Option<LanguageTag>, Al
     }
 }
 
+/// Notes a tag, and answers whether it came before.
+fn came_before(seen: &mut LocalizedClaim<()>, tag: Option<LanguageTag>) -> Result<bool, AllocError>
+    ensures before { IfOk result (λ before. before ≡ finite.contains_key seen.old tag) }
+    ensures noted { OnOk result (seen.new ≡ finite.insert seen.old tag tt) }
+{
+    Ok(seen.insert(tag, ())?.is_some())
+}
+
 /// Whether a claim has no value in any language.
 fn is_empty<T>(values: &LocalizedClaim<T>) -> bool
     ensures { result ≡ is_nil (finite.entries values.now) }
@@ -131,11 +139,10 @@ impl<T: ClaimValue> Languages<T> {
             Err(_) => return Err(ParseError::Memory),
             Ok(owned) => owned,
         };
-        if self.seen.contains_key(seen.as_ref()) {
-            return Err(refused(alloc, ParseKind::Duplicate, member.name()));
-        }
-        if self.seen.insert(seen, ()).is_err() {
-            return Err(ParseError::Memory);
+        match came_before(&mut self.seen, seen) {
+            Err(_) => return Err(ParseError::Memory),
+            Ok(true) => return Err(refused(alloc, ParseKind::Duplicate, member.name())),
+            Ok(false) => {}
         }
         if claim.is_optional() && member.value().is_null() {
             return Ok(());

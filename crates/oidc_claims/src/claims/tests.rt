@@ -49,7 +49,7 @@ fn told(alloc: Global, text: &str) -> Result<String, Fail> {
     }
 }
 
-const CASES: [(&str, &str); 40] = [
+const CASES: [(&str, &str); 46] = [
     // Repeated claims. A null counts as seen, and an empty tag as none.
     (
         r#"{"name#en": null, "sub": "24400320", "name#en": "foo"}"#,
@@ -151,7 +151,23 @@ const CASES: [(&str, &str); 40] = [
         r#"{"email":"a","sub":"b","email#en":1}"#,
         "2 Duplicate email#en",
     ),
-    // No object.
+    // Nulls alone, and variants of which one is null.
+    (NULLS, "read"),
+    (
+        r#"{"sub":"a","name#de":"x","name#":"y","name#b":null,"zz":1}"#,
+        "read",
+    ),
+    // Numbers that no member may have, and no object.
+    (r#"{"sub":"a","updated_at":-0}"#, "Number "),
+    (r#"{"sub":"a","updated_at":1.0}"#, "Number "),
+    (
+        r#"{"sub":"a","updated_at":18446744073709551616}"#,
+        "Number ",
+    ),
+    (
+        r#"{"sub":"a","updated_at":18446744073709551615}"#,
+        "1 Moment updated_at",
+    ),
     (r#"{"sub":"a",}"#, "Syntax "),
     (r#"{"sub":"a"}"#, "read"),
 ];

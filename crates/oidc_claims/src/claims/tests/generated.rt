@@ -1,57 +1,39 @@
 // Generated lists, read by the reader and by looking back.
 use super::plain::{Found, claims_of, first_fault};
+use crate::claim::{Claim, ClaimKind};
 use crate::{PlacedError, StandardClaims, read_standard};
 use oidc_members::Members;
 use oidc_types::CoreGenderClaim;
 use std::alloc::{AllocError, Global};
 use std::test::Fail;
 
-const FIRST: [&str; 4] = [
-    "{\"zz\":0",
-    "{\"sub\":\"a\"",
-    "{\"sub#\":\"b\"",
-    "{\"name#en\":null,\"sub\":\"c\"",
-];
+const TAGS: [&str; 8] = ["", "", "", "", "#", "#en", "#de", "#en#x"];
 
-const NAMES: [&str; 18] = [
-    "sub",
-    "sub#",
-    "sub#en",
-    "name",
-    "name#",
-    "name#en",
-    "name#de",
-    "website#en",
-    "website#en#x",
-    "email",
-    "email#en",
-    "email_verified",
-    "gender",
-    "locale",
-    "address",
-    "updated_at",
-    "zz",
-    "zz#en",
-];
+const TEXTS: [&str; 4] = ["\"a\"", "\"b\"", "\"\"", "null"];
 
-const VALUES: [&str; 16] = [
-    "null",
-    "null",
-    "\"a\"",
-    "\"b\"",
-    "\"c\"",
-    "\"a\"",
-    "\"b\"",
-    "true",
-    "false",
+const FLAGS: [&str; 3] = ["true", "false", "null"];
+
+const MOMENTS: [&str; 6] = [
     "1311280970",
+    "-1",
+    "253402207200",
     "253402207201",
     "18446744073709551615",
+    "null",
+];
+
+const ADDRESSES: [&str; 8] = [
     "{\"country\":\"x\",\"y\":1}",
+    "{\"region\":\"r\",\"locality\":\"l\",\"formatted\":\"f\"}",
+    "{\"street_address\":\"s\",\"postal_code\":\"p\",\"country\":null}",
     "{\"country\":null,\"country\":\"x\"}",
     "{\"y\":1.5,\"y\":1,\"country\":1}",
+    "{\"region\":1}",
     "{}",
+    "null",
 ];
+
+const OTHERS: [&str; 6] = ["1", "[]", "{}", "\"x\"", "true", "null"];
 
 // A generator of Knuth's MMIX; the upper bits choose.
 #[derive(Drop)]
@@ -78,15 +60,45 @@ impl Choices {
         }
     }
 
-    // An object of up to six members.
+    // A value, mostly one of that kind.
+    fn value<'a>(&mut self, kind: ClaimKind) -> &'a str {
+        if self.below(8) == 0 {
+            return self.one(&OTHERS);
+        }
+        match kind {
+            ClaimKind::Text | ClaimKind::Gender => self.one(&TEXTS),
+            ClaimKind::Flag => self.one(&FLAGS),
+            ClaimKind::Moment => self.one(&MOMENTS),
+            ClaimKind::Address => self.one(&ADDRESSES),
+        }
+    }
+
+    fn claim(&mut self) -> Claim {
+        match Claim::ALL.get(self.below(Claim::ALL.len())) {
+            Some(claim) => *claim,
+            None => Claim::Subject,
+        }
+    }
+
+    // Appends a member of some claim.
+    fn member(&mut self, text: &mut String) -> Result<(), AllocError> {
+        let claim = self.claim();
+        text.push_str(",\"")?;
+        text.push_str(claim.name())?;
+        text.push_str(self.one(&TAGS))?;
+        text.push_str("\":")?;
+        text.push_str(self.value(claim.kind()))?;
+        Ok(())
+    }
+
+    // An object of up to eight members, most often with a subject.
     fn object(&mut self, alloc: Global) -> Result<String, AllocError> {
-        let first = self.one(&FIRST);
-        let mut text = String::from_str(alloc, first)?;
-        for _ in 0..self.below(6) {
-            text.push_str(",\"")?;
-            text.push_str(self.one(&NAMES))?;
-            text.push_str("\":")?;
-            text.push_str(self.one(&VALUES))?;
+        let mut text = String::from_str(alloc, "{\"zz#en\":0")?;
+        if self.below(8) > 0 {
+            text.push_str(",\"sub\":\"a\"")?;
+        }
+        for _ in 0..self.below(7) {
+            self.member(&mut text)?;
         }
         text.push_str("}")?;
         Ok(text)

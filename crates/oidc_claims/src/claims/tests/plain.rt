@@ -178,40 +178,84 @@ fn variants<M: Marker>(
     }
 }
 
-fn country(alloc: Global, members: &[Member]) -> Result<Option<AddressClaim>, AllocError> {
+fn part<M: Marker>(
+    alloc: Global,
+    parts: &[Member],
+    name: &str,
+) -> Result<Option<Text<M>>, AllocError> {
+    for part in parts {
+        if part.name() == name {
+            return match part.value().as_str() {
+                Some(value) => Ok(Some(text(alloc, value)?)),
+                None => Ok(None),
+            };
+        }
+    }
+    Ok(None)
+}
+
+fn address(alloc: Global, members: &[Member]) -> Result<Option<AddressClaim>, AllocError> {
     let Some(member) = lone(members, Claim::Address) else {
         return Ok(None);
     };
-    let mut address = AddressClaim::default();
-    if let Some(country) = member
-        .value()
-        .get("country")
-        .and_then(|value| value.as_str())
-    {
-        address.country = Some(text(alloc, country)?);
-    }
-    Ok(Some(address))
+    let Ok(parts) = Members::split(alloc, member.text()) else {
+        return Err(AllocError);
+    };
+    Ok(Some(AddressClaim {
+        formatted: part(alloc, parts.as_slice(), "formatted")?,
+        street_address: part(alloc, parts.as_slice(), "street_address")?,
+        locality: part(alloc, parts.as_slice(), "locality")?,
+        region: part(alloc, parts.as_slice(), "region")?,
+        postal_code: part(alloc, parts.as_slice(), "postal_code")?,
+        country: part(alloc, parts.as_slice(), "country")?,
+    }))
 }
 
-/// The claims of a list without a fault. Of an address it knows the country alone, and of the claims
-/// those that the generated lists have.
-pub(crate) fn claims_of(alloc: Global, members: &[Member]) -> Result<Claims, AllocError> {
-    let subject = lone_text(alloc, members, Claim::Subject)?;
-    let claims = match subject {
-        Some(subject) => StandardClaims::new(subject),
-        None => StandardClaims::new(text(alloc, "")?),
-    };
-    let verified = lone(members, Claim::EmailVerified).and_then(|m| m.value().as_bool());
-    let updated = lone(members, Claim::UpdatedAt).and_then(moment_of);
+fn flag(members: &[Member], claim: Claim) -> Option<bool> {
+    lone(members, claim)?.value().as_bool()
+}
+
+fn with_names(alloc: Global, members: &[Member], claims: Claims) -> Result<Claims, AllocError> {
     Ok(
         claims
             .set_name(variants(alloc, members, Claim::Name)?)
-            .set_website(variants(alloc, members, Claim::Website)?)
+            .set_given_name(variants(alloc, members, Claim::GivenName)?)
+            .set_family_name(variants(alloc, members, Claim::FamilyName)?)
+            .set_middle_name(variants(alloc, members, Claim::MiddleName)?)
+            .set_nickname(variants(alloc, members, Claim::Nickname)?)
+            .set_profile(variants(alloc, members, Claim::Profile)?)
+            .set_picture(variants(alloc, members, Claim::Picture)?)
+            .set_website(variants(alloc, members, Claim::Website)?),
+    )
+}
+
+fn with_texts(alloc: Global, members: &[Member], claims: Claims) -> Result<Claims, AllocError> {
+    Ok(
+        claims
+            .set_preferred_username(lone_text(alloc, members, Claim::PreferredUsername)?)
             .set_email(lone_text(alloc, members, Claim::Email)?)
             .set_gender(lone_text(alloc, members, Claim::Gender)?)
+            .set_birthday(lone_text(alloc, members, Claim::Birthday)?)
+            .set_birthdate(lone_text(alloc, members, Claim::Birthdate)?)
+            .set_zoneinfo(lone_text(alloc, members, Claim::Zoneinfo)?)
             .set_locale(lone_text(alloc, members, Claim::Locale)?)
-            .set_address(country(alloc, members)?)
-            .set_email_verified(verified)
-            .set_updated_at(updated),
+            .set_phone_number(lone_text(alloc, members, Claim::PhoneNumber)?),
+    )
+}
+
+/// The claims of a list without a fault.
+pub(crate) fn claims_of(alloc: Global, members: &[Member]) -> Result<Claims, AllocError> {
+    let claims = match lone_text(alloc, members, Claim::Subject)? {
+        Some(subject) => StandardClaims::new(subject),
+        None => StandardClaims::new(text(alloc, "")?),
+    };
+    let claims = with_names(alloc, members, claims)?;
+    let claims = with_texts(alloc, members, claims)?;
+    Ok(
+        claims
+            .set_email_verified(flag(members, Claim::EmailVerified))
+            .set_phone_number_verified(flag(members, Claim::PhoneNumberVerified))
+            .set_address(address(alloc, members)?)
+            .set_updated_at(lone(members, Claim::UpdatedAt).and_then(moment_of)),
     )
 }
