@@ -4,7 +4,7 @@ use Rattle.std.specs.List.{list_any}
 use Rattle.std.specs.Str.{bytes_eq}
 use Rattle.oidc_claims.specs.declared.home.Home.{Home}
 use Rattle.oidc_claims.specs.declared.home.Home.TheVariants as home
-use Rattle.oidc_claims.specs.Table.{claim_of, base_of}
+use Rattle.oidc_claims.specs.Table.{claim_of, key_of}
 
 -- the fields of an ID token beside its claims
 abbrev pub id_token_fields : List (List ℕ)
@@ -22,7 +22,7 @@ home_by is_token_field is_standard =
     else home.Additional
 
 abbrev pub home_of : List ℕ → List (List ℕ) → Home
-home_of name fields = home_by (list_any (λ field. bytes_eq field name) fields) (is_some (claim_of (base_of name)))
+home_of name fields = home_by (list_any (λ field. bytes_eq field name) fields) (is_some (claim_of (key_of name).0))
 
 abbrev pub is_additional_home : Home → Bool
 is_additional_home home.TokenField = false

@@ -103,8 +103,11 @@ fn write_variants<M: Marker>(
         Some(variants) => {
             for (tag, text) in variants.iter() {
                 let name = FieldName::new(tagged_name(alloc, claim, tag)?);
-                let value = text_value(alloc, text.as_str())?;
-                out.push(OutMember { name, value })?;
+                let variant = OutMember {
+                    name,
+                    value: text_value(alloc, text.as_str())?,
+                };
+                out.push(variant)?;
             }
             Ok(())
         }
