@@ -48,7 +48,7 @@ pub trait MemberReader: Drop {
     /// Takes the next member. It refuses exactly a faulty one; after an error nothing is said of
     /// what is kept, and the pass ends.
     fn take(&mut self, alloc: Global, member: &Member) -> Result<(), ParseError>
-        ensures took { (before : List SeenMember) → self.old ≡ state before
+        ensures { (before : List SeenMember) → self.old ≡ state before
             → Took (fault before member.now) result (self.new ≡ state (before ++ member.now ∷ [])) };
 }
 
