@@ -9,6 +9,14 @@ use Rattle.oidc_claims.specs.Kinds.{text_read, flag_read, moment_read, plain}
 use Rattle.oidc_claims.specs.Address.{address_read}
 use Rattle.oidc_claims.specs.Claims.{own, variants, unless_empty, first_fault}
 
+-- the subject, where `sub` is there
+abbrev pub subject_of : List SeenMember → Option (List ℕ)
+subject_of members = plain false text_read (own Subject members)
+
+-- why a list without `sub` is refused
+abbrev pub missing_subject : Refusal
+missing_subject = record { kind = Missing; field = codes "sub" }
+
 module _ {GC : Type 0} (gender_read : SeenMember → Result GC Refusal) where
   -- each claim is the value of its member, or the map of the values of its members
   unfoldable pub with_subject : List ℕ → List SeenMember → SeenClaims GC
@@ -38,12 +46,12 @@ module _ {GC : Type 0} (gender_read : SeenMember → Result GC Refusal) where
 
   -- Without `sub` the list is refused at the place behind its last member.
   abbrev pub complete : Option (List ℕ) → List SeenMember → Result (SeenClaims GC) (ℕ × Refusal)
-  complete None members = Err (length members, record { kind = Missing; field = codes "sub" })
+  complete None members = Err (length members, missing_subject)
   complete (Some subject) members = Ok (with_subject subject members)
 
   abbrev pub unless_refused : Option (ℕ × Refusal) → List SeenMember → Result (SeenClaims GC) (ℕ × Refusal)
   unless_refused (Some fault) members = Err fault
-  unless_refused None members = complete (plain false text_read (own Subject members)) members
+  unless_refused None members = complete (subject_of members) members
 
   -- the first faulty place with its refusal, then a missing `sub`, else the claims
   abbrev pub claims_of : List SeenMember → Result (SeenClaims GC) (ℕ × Refusal)

@@ -50,15 +50,50 @@ lines_end : (all : List (List ℕ)) → Ends (fault_in all) (lines_report all)
 lines_end [] = here 1
 lines_end (first ∷ later) = client_ends (event_of first) later
 
-long_ends : (long : Bool) (fault : Option ℕ) (text : List ℕ) → Ends fault text
-    → Ends (if long then Some 0 else fault) (if long then fault_line 0 else text)
-long_ends true fault text ends = here 0
-long_ends false fault text ends = ends
+-- ---- no line of a script has number 0
 
-report_ends : (script : List ℕ) → Ends (fault_of script) (report script)
+same_number : (a b : ℕ) → Some a ≡ Some b → a ≡ b
+same_number a b e = cc
+
+step_number : (step : Bool) (n : ℕ) (fault : Option ℕ) (number : ℕ) → (fault ≡ Some number → n + 1 ≤ number)
+    → (if step then fault else Some n) ≡ Some number → n ≤ number
+step_number true n fault number later e = let far = later e in omega arith
+step_number false n fault number later e = let same = same_number n number e in omega arith
+
+steps_number : (n : ℕ) (all : List (List ℕ)) (number : ℕ) → fault_from n all ≡ Some number → n ≤ number
+steps_number n [] number e = no_number number e
+steps_number n (line ∷ later) number e =
+    step_number (is_step (event_of line)) n (fault_from (n + 1) later) number (steps_number (n + 1) later number) e
+
+client_number : (client : Bool) (fault : Option ℕ) (number : ℕ) → (fault ≡ Some number → 2 ≤ number)
+    → (if client then fault else Some 1) ≡ Some number → 1 ≤ number
+client_number true fault number later e = let far = later e in omega arith
+client_number false fault number later e = let same = same_number 1 number e in omega arith
+
+line_number : (all : List (List ℕ)) (number : ℕ) → fault_in all ≡ Some number → 1 ≤ number
+line_number [] number e = let same = same_number 1 number e in omega arith
+line_number (first ∷ later) number e =
+    client_number (is_client (event_of first)) (fault_from 2 later) number (steps_number 2 later number) e
+
+-- ---- scripts
+
+-- a fault, and a text that ends in its line, or is its line where the number is 0
+abbrev EndsAlone : Option ℕ → List ℕ → Type 0
+EndsAlone fault text =
+    (number : ℕ) → fault ≡ Some number → (earlier : List ℕ) × ((text ≡ earlier ++ fault_line number) × (number ≡ 0 → earlier ≡ []))
+
+long_ends : (long : Bool) (fault : Option ℕ) (text : List ℕ) → Ends fault text → ((number : ℕ) → fault ≡ Some number → 1 ≤ number)
+    → EndsAlone (if long then Some 0 else fault) (if long then fault_line 0 else text)
+long_ends true fault text ends least number e = ([], (ap fault_line (same_number 0 number e), λ zero_is. refl))
+long_ends false fault text ends least number e =
+    let rest = ends number e in (rest.0, (rest.1, λ zero_is. absurd (let some = least number e in omega arith)))
+
+report_ends : (script : List ℕ) → EndsAlone (fault_of script) (report script)
 unfolding fault_of report
-report_ends script = long_ends (nat_lt limit (length script)) (fault_in (lines script)) (lines_report (lines script)) (lines_end (lines script))
+report_ends script =
+    long_ends (nat_lt limit (length script)) (fault_in (lines script)) (lines_report (lines script)) (lines_end (lines script)) (line_number (lines script))
 
 pub ends_in_fault : (script : List ℕ) (number : ℕ) → fault_of script ≡ Some number → EndsInFault script
 ends_in_fault script number fault =
-    let ends = report_ends script number fault in record { number = number; first_fault = fault; earlier = ends.0; ends = ends.1 }
+    let ends = report_ends script number fault in
+    record { number = number; first_fault = fault; earlier = ends.0; ends = ends.1.0; alone = ends.1.1 }

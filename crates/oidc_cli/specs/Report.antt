@@ -75,7 +75,8 @@ abbrev pub signed_list : SeenSignedIn → List (List ℕ × List ℕ)
 signed_list signed =
     (codes "access_token", signed.access_token) ∷ (codes "claims", object_text (written signed.id_token.claims)) ∷ []
 
--- no key of a shared secret means want of memory, and so it has no word here
+-- No key's verdict on a signature is want of memory: that is a law of keys. So `Memory` never stands in a
+-- verdict, and has no word here.
 abbrev pub signature_word : SignatureVerificationError → List ℕ
 signature_word signature.AmbiguousKeyId = codes "ambiguous_key"
 signature_word signature.CryptoError = codes "crypto_error"

@@ -2,7 +2,8 @@
 use Rattle.std.specs.Prelude.{ℕ, ◌==◌, List, [], ◌∷◌, length, Option, None, Some, option_and_then, option_map, if◌then◌else◌, codes}
 use Rattle.std.specs.Str.{bytes_eq}
 use Rattle.oidc_pairs.specs.Pairs.{pairs, values_in, only_of}
-use Rattle.oidc_cli.specs.Values.{url_of, algorithms_of, moment_of, status_of, content_type_of}
+use Rattle.oidc_login.specs.IdTokens.{url_of_text}
+use Rattle.oidc_cli.specs.Values.{algorithms_of, moment_of, status_of, content_type_of}
 use Rattle.oidc_cli.specs.Events.{SeenClientLine, SeenBeginLine, SeenCallbackLine}
 use Rattle.oidc_cli.specs.declared.script.Event.{Event}
 use Rattle.oidc_cli.specs.declared.script.Event.TheVariants.{Client, Begin, Callback}
@@ -34,9 +35,9 @@ client_values line =
       algorithms = algorithms;
     })
     (read_in algorithms_of line (codes "algs")))
-    (read_in url_of line (codes "token")))
-    (read_in url_of line (codes "auth")))
-    (read_in url_of line (codes "issuer")))
+    (read_in url_of_text line (codes "token")))
+    (read_in url_of_text line (codes "auth")))
+    (read_in url_of_text line (codes "issuer")))
     (text_in line (codes "secret")))
     (text_in line (codes "id"))
 

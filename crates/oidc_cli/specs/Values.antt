@@ -1,20 +1,13 @@
 -- The kinds of values on the lines of a script.
-use Rattle.std.specs.Prelude.{ℕ, ◌==◌, nat_lt, nat_le, ℤ, pos, neg_ℤ, ◌*ℤ◌, int_le, List, [], ◌∷◌, length, Bool, ◌&&◌, Option, None, Some, option_and_then, option_map, Ok, Err, if◌then◌else◌}
+use Rattle.std.specs.Prelude.{ℕ, ◌==◌, nat_lt, nat_le, ℤ, pos, neg_ℤ, List, [], ◌∷◌, length, Bool, ◌&&◌, Option, None, Some, option_and_then, option_map, if◌then◌else◌}
 use Rattle.std.specs.List.{list_all, slice_split}
 use Rattle.std.specs.Str.{all_ascii_digits}
 use Rattle.std.specs.Str.Parse.{digits_value}
 use Rattle.http_header.specs.Token.{is_visible_or_blank}
-use Rattle.url.specs.Parser.{parse_url}
-use Rattle.oidc_types.specs.UrlTexts.{TextAndUrl}
 use Rattle.oidc_types.specs.declared.core_algorithms.CoreJwsSigningAlgorithm.{CoreJwsSigningAlgorithm}
 use Rattle.oidc_types.specs.SigningAlgorithms.{signing_text, signing_algorithms}
 use Rattle.oidc_types.specs.Words.{find_word}
-
--- ---- URLs
-
--- a text that the URL Standard takes, and the URL that it reads
-abbrev pub url_of : List ℕ → Option TextAndUrl
-url_of text = elim (parse_url None text) [ Ok url ↦ Some (record { text = text; url = url }) | Err refusal ↦ None ]
+use Rattle.oidc_login.specs.IdTokens.{moment_at}
 
 -- ---- signing algorithms
 
@@ -41,14 +34,7 @@ whole_of [] = None
 whole_of (b ∷ text) =
     if b == 45 then option_map (λ n. neg_ℤ (pos n)) (decimal_of text) else option_map pos (decimal_of (b ∷ text))
 
--- A moment at whole seconds since the Unix epoch, as nanoseconds. It is one that has a date within the
--- years -9999 to 9999 at each offset from UTC.
-abbrev pub moment_at : ℤ → Option ℤ
-moment_at second =
-    if int_le (neg_ℤ (pos 377_705_023_201)) second && int_le second (pos 253_402_207_200)
-    then Some (second *ℤ pos 1_000_000_000)
-    else None
-
+-- a moment at whole seconds since the Unix epoch, as nanoseconds
 unfoldable pub moment_of : List ℕ → Option ℤ
 moment_of text = option_and_then moment_at (whole_of text)
 

@@ -5,9 +5,11 @@ ghost use Rattle.oidc_cli.specs.Told.{HasRisen};
 ghost use Rattle.oidc_cli.specs.Calls.{fails_next, after_success, after_fault};
 
 use std::marker::Model;
+use thiserror::Error;
 
 /// A call of a source or a sink failed. Nothing more is known of it: the object counts it.
-#[derive(Clone, Copy, Debug, PartialEq, Eq)]
+#[derive(Clone, Copy, Debug, PartialEq, Eq, Error)]
+#[error("the call failed")]
 pub struct Failed;
 
 /// Which calls fail, how many were made, and how many of them failed. Both counts stop at `u64::MAX`.

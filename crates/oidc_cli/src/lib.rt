@@ -2,8 +2,10 @@
 //!
 //! - [`run`] is the whole program but for its words and its adapters. It reads a script of a
 //!   [`Source`], runs its events through a store of pending logins of `oidc_login`, and puts the report
-//!   into a [`Sink`]. Its contract says each of its statuses by its cause, and that what it wrote is the
-//!   report of the script, or begins it.
+//!   into a [`Sink`]. Its contract says that 2 comes exactly for wrong words, that on 1 and 4 the sink
+//!   and the source has failed, and, where the source tells its bytes, that on 0 the script has no fault
+//!   and on 3 it has one. 5 is free. Where source and sink tell, what it wrote is the report of the
+//!   script, or begins it.
 //! - [`Source`] gives the bytes of a script and [`Sink`] takes those of a report. Each tells its bytes,
 //!   or doesn't, and counts its faults. [`MemorySource`] and [`MemorySink`] are in memory and fail where
 //!   they are told to; [`ReadSource`] and [`WriteSink`] are over a reader and a writer of std.

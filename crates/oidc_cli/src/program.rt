@@ -34,10 +34,10 @@ pub const NO_MEMORY: u8 = 5;
 /// Runs the program: reads a script of the source, runs it through a store of pending logins, and
 /// writes the report to the sink. The result is the exit status.
 ///
-/// Nothing is written before the source was read to its end, or until more than 67,108,864 bytes were
-/// read. Each line of the report is one call of the sink. What the clauses say of bytes, they say of a
-/// source that tells them; a sink that tells nothing tells nothing after the call either. For want of
-/// memory the status may be 5 wherever the words are right.
+/// The body reads first, to the end of the source or past 67,108,864 bytes, and then writes, a line of
+/// the report at a call of the sink. No clause says in which order it reads and writes. What the clauses
+/// say of bytes, they say of a source that tells them; a sink that tells nothing tells nothing after the
+/// call either. For want of memory the status may be 5 wherever the words are right.
 pub fn run<S: Source, O: Sink>(alloc: Global, words: &[String], source: &mut S, sink: &mut O) -> u8
     ensures status { result ≤ 5 }
 
@@ -59,7 +59,8 @@ pub fn run<S: Source, O: Sink>(alloc: Global, words: &[String], source: &mut S, 
     ensures reported { (script : List ℕ) → S.told source.old ≡ Some script → result ≡ 0
         → Puts (O.told sink.old) (O.told sink.new) (report script) }
 
-    // On 3 the script has a fault, and its report ends in the line of the first.
+    // On 3 the script has a fault, and its report ends in the line of the first. An over-long script has
+    // that line alone.
     ensures fault { (script : List ℕ) → S.told source.old ≡ Some script → result ≡ 3
         → EndsInFault script }
     ensures fault_reported { (script : List ℕ) → S.told source.old ≡ Some script → result ≡ 3

@@ -1,4 +1,7 @@
 //! What no clause says: that the calls succeed, and what the objects over std do.
+mod callbacks;
+mod limits;
+mod many;
 mod scripts;
 mod texts;
 
@@ -101,5 +104,12 @@ fn writers(rt: HostRuntime) -> Result<(), Fail> {
     let mut short = WriteSink::new(Short { calls: 0 });
     assert_eq!(rt; short.put(b"abc"), Ok(()));
     assert_eq!(rt; short.put(b"d"), Err(Failed));
+    Ok(())
+}
+
+#[test]
+fn failed_call(rt: HostRuntime) -> Result<(), Fail> {
+    let shown = format!(in rt.alloc(); "{Failed}")?;
+    assert_eq!(rt; shown.as_str(), "the call failed");
     Ok(())
 }

@@ -1,5 +1,8 @@
 //! What checking a signature and hashing refuse.
 
+#[cfg(test)]
+mod tests;
+
 /// Why a signature isn't accepted.
 #[derive(Clone, Copy, Debug, PartialEq, Eq, thiserror::Error)]
 pub enum SignatureVerificationError {

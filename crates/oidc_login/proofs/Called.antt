@@ -3,7 +3,7 @@ use Rattle.std.proofs.Common.{◌≡◌, ◌≢◌, ℕ, ℤ, List, [], ◌∷�
 use Rattle.std.specs.Prelude.{option_and_then, option_map, unwrap_or, codes, ◌⊎◌, IsSome, IfOk}
 use Rattle.std.specs.Result.{result_unwrap_or}
 use Rattle.oidc_pairs.specs.Pairs.{pairs, values_in, only_of}
-use Rattle.oidc_login.specs.Transport.{SeenRequest, SeenResponse, SeenAnswer}
+use Rattle.oidc_login.specs.Transport.{SeenRequest, SeenResponse, SeenAnswer, Wire}
 use Rattle.oidc_login.specs.Clients.{SeenClient}
 use Rattle.oidc_login.specs.Pending.{SeenLogin, Pending}
 use Rattle.oidc_login.specs.CodeRequest.{code_request}
@@ -12,7 +12,7 @@ use Rattle.oidc_login.specs.IdTokens.{SeenToken, token_of}
 use Rattle.oidc_login.specs.SignedIns.{SeenSignedIn}
 use Rattle.oidc_login.specs.Verification.{first_failure}
 use Rattle.oidc_login.specs.Outcome.{Run, refused, named, opening, unless_error, with_code, or_unbuilt, login_in, or_claims, judged, run_of_request, outcome}
-use Rattle.oidc_login.specs.Callbacks.{Replies, Asks, IsSignedIn, LacksCode, IsUnbuilt, FailsCheck}
+use Rattle.oidc_login.specs.Callbacks.{Replies, after, Asks, SendsItsRequest, IsSignedIn, LacksCode, IsUnbuilt, FailsCheck}
 use Rattle.oidc_login.specs.declared.tokens.verification.ClaimsVerificationError.{ClaimsVerificationError}
 use Rattle.oidc_login.specs.declared.errors.LoginError.{LoginError}
 use Rattle.oidc_login.specs.declared.errors.LoginError.TheVariants.{State, Callback, Unbuilt, Claims}
@@ -201,7 +201,7 @@ module _ (client : SeenClient) (login : SeenLogin) where
   opening_opened query wanted e = errors_opened (values_in query (codes "error")) (only_of (values_in query (codes "code"))) wanted e
 
   -- and the other way round
-  opening-asks : (pending : Pending) (query : List ℕ) (asked : Asks client pending query login) → opening client login (pairs query) ≡ Ok asked.request
+  pub opening-asks : (pending : Pending) (query : List ℕ) (asked : Asks client pending query login) → opening client login (pairs query) ≡ Ok asked.request
   unfolding opening
   opening-asks pending query asked = rw (asked.no_error, asked.one_code, asked.request_made) refl
 
@@ -212,6 +212,12 @@ module _ (client : SeenClient) (pending : Pending) (query : List ℕ) (now : ℤ
   asks request is =
       let opened = opening_opened client login (pairs query) request is in
       record { login_named = is_named; no_error = opened.0; code = opened.1.0; one_code = opened.1.1; request = request; request_made = opened.1.2 }
+
+  -- a request that is opened, once it was handed over
+  pub sends : (request : SeenRequest) (old new : Wire) → opening client login (pairs query) ≡ Ok request → new ≡ after old (request ∷ [])
+      → SendsItsRequest client pending query old new
+  unfolding asks
+  sends request old new is handed = record { login = login; asked = asks request is; handed_over = handed }
 
   accepted_run : (opened : Result SeenRequest LoginError) (signed : SeenSignedIn) → opening client login (pairs query) ≡ opened
       → (run_of_request client login.nonce now answer opened).reply ≡ Ok signed → IsSignedIn client pending query now answer signed

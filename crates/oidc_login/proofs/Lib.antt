@@ -4,6 +4,8 @@ pub mod Extended
 pub mod Sent
 pub mod Begun
 pub mod Called
+pub mod Causes
+pub mod Handed
 pub mod Members
 pub mod Verification
 pub mod TokenParts

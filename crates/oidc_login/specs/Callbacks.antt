@@ -1,5 +1,5 @@
 -- What a callback leaves, and what an answer that signs in rests on.
-use Rattle.std.specs.Prelude.{◌≡◌, ◌≢◌, ◌⊎◌, ℕ, ℤ, List, [], ◌++◌, take, drop, length, None, Some, IsSome, option_and_then, true, false, Result, Err, codes}
+use Rattle.std.specs.Prelude.{◌≡◌, ◌≢◌, ◌⊎◌, ℕ, ℤ, List, [], ◌∷◌, ◌++◌, take, drop, length, None, Some, IsSome, option_and_then, true, false, Result, Err, codes}
 use Rattle.oidc_pairs.specs.Pairs.{pairs, values, only_of}
 use Rattle.oidc_login.specs.Transport.{SeenRequest, SeenResponse, SeenAnswer, Wire}
 use Rattle.oidc_login.specs.Pending.{SeenLogin, Pending}
@@ -40,6 +40,12 @@ pub record Asks (client : SeenClient) (pending : Pending) (query : List ℕ) (lo
   pub request : SeenRequest
   pub request_made : code_request client login.verifier code ≡ Some request
 
+-- the token request of a callback was handed over, and nothing else
+pub record SendsItsRequest (client : SeenClient) (pending : Pending) (query : List ℕ) (old new : Wire) : Type 0 where
+  pub login : SeenLogin
+  pub asked : Asks client pending query login
+  pub handed_over : new ≡ after old (asked.request ∷ [])
+
 -- A user who is signed in: the token request was made, its answer was plain, the ID token is the one
 -- in it, and it is accepted with the named login's nonce at this moment.
 pub record IsSignedIn (client : SeenClient) (pending : Pending) (query : List ℕ) (now : ℤ) (answer : SeenAnswer) (signed : SeenSignedIn) : Type 0 where
@@ -73,13 +79,14 @@ pub record HasNoRequest (client : SeenClient) (pending : Pending) (query : List 
   pub one_code : only_of (values query (codes "code")) ≡ Some code
   pub no_request : code_request client login.verifier code ≡ None
 
--- the token request was made, and its answer isn't plain
+-- the token request was made, and its answer is a fault of the transport, or a response that isn't plain
 pub record IsNotPlain (client : SeenClient) (pending : Pending) (query : List ℕ) (answer : SeenAnswer) : Type 0 where
   pub login : SeenLogin
   pub asked : Asks client pending query login
   pub not_plain : option_and_then login_in answer ≡ None
 
--- what isn't built yet
+-- what isn't built yet: an `error` in the query, no request that can be made, a fault of the transport,
+-- or a response that isn't plain
 abbrev pub IsUnbuilt : SeenClient → Pending → List ℕ → SeenAnswer → Type 0
 IsUnbuilt client pending query answer =
     HasError pending query ⊎ (HasNoRequest client pending query ⊎ IsNotPlain client pending query answer)

@@ -49,8 +49,8 @@ pub enum LoginError {
     /// The query hasn't one `code`.
     #[error("the query hasn't one code")]
     Callback,
-    /// The query has an `error`, the token endpoint's address isn't one that is sent to, or the
-    /// answer of the token endpoint isn't plain.
+    /// The query has an `error`, the token endpoint's address isn't one that is sent to, the
+    /// transport faulted, or the answer of the token endpoint isn't plain.
     #[error("not built yet")]
     Unbuilt,
     /// The ID token isn't accepted.

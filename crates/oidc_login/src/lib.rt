@@ -10,10 +10,13 @@
 //!
 //! What is promised: a callback signs in only with the claims of the ID token in the answer to its
 //! own token request, accepted at the given moment with the named login's nonce. It sends at most
-//! that one request, and the named login is removed before anything is sent. A callback leaves every
-//! other login as it was.
-//! Every refusal but want of memory has its cause. The contracts of `begin` and `callback` say so by
-//! the definitions in `specs/`, whose whole is `outcome` in `specs/Outcome.antt`.
+//! that one request, and where it sends one the named login is gone afterwards. A callback leaves
+//! every other login as it was. Every refusal but want of memory has its cause. The contracts of
+//! `begin` and `callback` say so by the definitions in `specs/`, whose whole is `outcome` in
+//! `specs/Outcome.antt`.
+//!
+//! No contract says in which order things are done. That the login is removed before anything is
+//! sent, the body of `callback` shows: it takes the login out first, and hands the request over then.
 //!
 //! The standards: RFC 6749 (sections 2.3.1, 4.1 and 5.1), RFC 7636, RFC 7515 section 7.1, and
 //! OpenID Connect Core 1.0 (sections 2, 3.1.2.1 and 3.1.3.7). The modules `client`, `oauth2` and

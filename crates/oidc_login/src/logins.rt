@@ -1,6 +1,6 @@
 //! The pending logins of one client.
 
-ghost use Rattle.std.specs.Prelude.{◌≡◌, ◌≢◌, ◌↔◌, ◌≤◌, ◌+◌, ◌∷◌, [], IfOk, IfErr, OnOk, OnErr, IsErrOf, IsTrue, IsNone, IsSome, Ok, not, is_some, true, length, None, if◌then◌else◌};
+ghost use Rattle.std.specs.Prelude.{◌≡◌, ◌≢◌, ◌↔◌, ◌⊎◌, ◌≤◌, ◌+◌, ◌∷◌, [], IfOk, IfErr, IfSome, OnOk, OnErr, IsErrOf, IsTrue, IsNone, IsSome, Ok, not, is_some, true, false, length, None, if◌then◌else◌};
 ghost use Rattle.std.specs.FinMap as finite;
 ghost use Rattle.oidc_pairs.specs.Pairs.{pairs};
 ghost use Rattle.oidc_login.specs.Pkce.{is_verifier, s256};
@@ -10,10 +10,12 @@ ghost use Rattle.oidc_login.specs.Verification.{first_failure as failure_of};
 ghost use Rattle.oidc_login.specs.Outcome.{begin_reply, with_login, named, callback_store, outcome, opening as opening_of, login_in, or_claims, judged, reply_to, run_of_request};
 ghost use Rattle.oidc_login.specs.Begins.{Begins};
 ghost use Rattle.oidc_login.specs.Spent.{spent_of, is_spent_by};
-ghost use Rattle.oidc_login.specs.Callbacks.{Replies, HandsOver, IsSignedIn, LacksCode, IsUnbuilt, FailsCheck};
+ghost use Rattle.oidc_login.specs.Callbacks.{Replies, HandsOver, SendsItsRequest, IsSignedIn, LacksCode, IsUnbuilt, FailsCheck};
 ghost use Rattle.oidc_login.specs.SignedIns.{SeenSignedIn};
 ghost use Rattle.oidc_login.specs.Steps.{Judges, Opens, Runs};
+ghost use Rattle.oidc_keys.specs.declared.refusals.SignatureVerificationError.TheVariants as signature;
 ghost use Rattle.oidc_login.specs.declared.tokens.verification.ClaimsVerificationError.{ClaimsVerificationError};
+ghost use Rattle.oidc_login.specs.declared.tokens.verification.ClaimsVerificationError.TheVariants.{SignatureVerification};
 
 use crate::client::Client;
 use crate::client::authorization::{AuthorizationRequest, authorize_url};
@@ -121,9 +123,9 @@ impl<'c> Logins<'c> {
     /// The login is removed before anything is sent. `LoginError::spent` tells whether it was. The
     /// errors are, in this order: `State`, where the query hasn't one `state` of a pending login;
     /// `Unbuilt`, where it has an `error`; `Callback`, where it hasn't one `code`; `Unbuilt`, where
-    /// no request can be made or the answer isn't plain; `Claims`, where a check of the ID token
-    /// fails; `Memory` may come at any point (RFC 6749 sections 4.1.2 to 4.1.4, OpenID Connect Core
-    /// 1.0 section 3.1.3).
+    /// no request can be made, the transport faults or the answer isn't plain; `Claims`, where a
+    /// check of the ID token fails; `Memory` may come at any point (RFC 6749 sections 4.1.2 to
+    /// 4.1.4, OpenID Connect Core 1.0 section 3.1.3).
     pub fn callback(
         &mut self,
         query: &[u8],
@@ -145,14 +147,30 @@ impl<'c> Logins<'c> {
             → Replies result (Ok signed) }
         ensures at_most_one_request { length http.new.requests ≤ length http.old.requests + 1 }
 
-        // What `spent` tells is so: a login that was removed was pending and named.
+        // What was handed over is nothing, or exactly the request that the named login and the query
+        // ask for. Behind an Ok it is that request.
+        ensures only_its_request { (http.new ≡ http.old) ⊎ SendsItsRequest self.old.client self.old.pending query.now http.old http.new }
+        ensures own_request { OnOk result (SendsItsRequest self.old.client self.old.pending query.now http.old http.new) }
+
+        // What `spent` tells is so: a login that was removed was pending and named, and where none was
+        // removed, nothing was sent either.
         ensures removed { IsTrue (is_spent_by result) → IsSome (named self.old.pending (pairs query.now)) }
+        ensures unspent { is_spent_by result ≡ false → (http.new ≡ http.old) × (self.new.pending ≡ self.old.pending) }
 
         // Each refusal has its cause.
         ensures state { result ≡ Err LoginError.State → named self.old.pending (pairs query.now) ≡ None }
         ensures callback { result ≡ Err LoginError.Callback → LacksCode self.old.pending query.now }
         ensures unbuilt { result ≡ Err LoginError.Unbuilt → IsUnbuilt self.old.client self.old.pending query.now (next_of http.old.left) }
         ensures claims { (kind : ClaimsVerificationError) → result ≡ Err (LoginError.Claims kind) → FailsCheck self.old.client self.old.pending query.now now.nanosecond (next_of http.old.left) kind }
+
+        // Each cause has its refusal, where there is memory.
+        ensures no_state { named self.old.pending (pairs query.now) ≡ None → Replies result (Err LoginError.State) }
+        ensures lacks_code { LacksCode self.old.pending query.now → Replies result (Err LoginError.Callback) }
+        ensures is_unbuilt { IsUnbuilt self.old.client self.old.pending query.now (next_of http.old.left) → Replies result (Err LoginError.Unbuilt) }
+        ensures fails_check { (kind : ClaimsVerificationError) → FailsCheck self.old.client self.old.pending query.now now.nanosecond (next_of http.old.left) kind → Replies result (Err (LoginError.Claims kind)) }
+
+        // Want of memory is `Memory`, and never a failed check of a signature.
+        ensures no_inner_memory { result ≢ Err (LoginError.Claims (SignatureVerification signature.Memory)) }
     {
         let Ok(pairs) = Pairs::parse(self.alloc, query) else {
             return Err(LoginError::Memory { spent: false });
@@ -180,6 +198,7 @@ fn challenge_of(alloc: Global, verifier: &PkceCodeVerifier) -> Result<PkceCodeCh
 // Takes the login that a query names by its one state.
 fn take_named(pending: &mut Store, query: &Pairs) -> Option<Login>
     ensures login { result ≡ named pending.old query.now }
+    ensures verifier { IfSome result (λ l. IsTrue (is_verifier l.verifier)) }
     ensures rest { pending.new ≡ (if is_some result then callback_store pending.old query.now else pending.old) }
 {
     match query.only("state") {

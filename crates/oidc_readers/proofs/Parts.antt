@@ -34,7 +34,6 @@ record OneMember (xs : List ℕ) (a e : ℕ) (m : OutSeen) (tail : List ℕ) : T
   level : (k : ℕ) → a ≤ k → k < e → ltb 0 (level xs k) ≡ true
   halves : halves xs (places a e) ≡ half_of m
 
-
 one_member : (xs : List ℕ) (a c e : ℕ) (m : OutSeen) (tail : List ℕ) → a ≤ length xs → c ≡ a + length (quoted m.name) → e ≡ (c + 1) + length (compact_text m.value)
     → has_float m.value ≡ false → drop a xs ≡ quoted m.name ++ 58 ∷ (compact_text m.value ++ tail) → At xs a outer → OneMember xs a e m tail
 one_member xs a c e m tail low far further whole is at =

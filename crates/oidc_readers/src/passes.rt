@@ -28,7 +28,7 @@ pub enum PlacedError {
 impl PlacedError {
     /// The error at a place. It takes no memory.
     pub fn at(place: usize, error: ParseError) -> PlacedError
-        ensures { result ≡ placed_at place error }
+        ensures placed { result ≡ placed_at place error }
     {
         match error {
             ParseError::Refused(refusal) => PlacedError::Refused { place, refusal },
@@ -60,7 +60,7 @@ pub fn read_members<R: MemberReader>(
     members: &[Member],
 ) -> Result<R, PlacedError>
     requires { reader ≡ R.state [] }
-    ensures { PlacedAnswers (read_by R.fault R.state members.now) result }
+    ensures answer { PlacedAnswers (read_by R.fault R.state members.now) result }
 {
     for (place, member) in members.iter().enumerate() {
         match reader.take(alloc, member) {

@@ -1,9 +1,11 @@
 // The reader of the standard claims: one slot a claim.
-ghost use Rattle.std.specs.Prelude.{◌≡◌, []};
+ghost use Rattle.std.specs.Prelude.{◌≡◌, ℕ, List, [], length, Some, None, Ok, Err};
+ghost use Rattle.oidc_members.specs.declared.refusal.Refusal.{Refusal};
 ghost use Rattle.oidc_readers.specs.Passes.{PlacedAnswers};
-ghost use Rattle.oidc_claims.specs.Claims.{fault_at};
+ghost use Rattle.oidc_claims.specs.Claims.{fault_at, first_fault};
+ghost use Rattle.oidc_claims.specs.Seen.{SeenClaims};
 ghost use Rattle.oidc_claims.specs.Reader.{reader_of, finished, finished_claims};
-ghost use Rattle.oidc_claims.specs.Standard.{claims_of};
+ghost use Rattle.oidc_claims.specs.Standard.{claims_of, subject_of, missing_subject, with_subject};
 
 use crate::claim::Claim;
 use crate::claims::slots::{Languages, Once};
@@ -172,8 +174,27 @@ impl<GC: GenderClaim> MemberReader for ClaimsReader<GC> {
 /// value isn't of its claim's kind (`WrongType`; `Moment` for a whole number out of range; the kind
 /// and the field that stand inside for `address` and `gender`). A null of an optional claim counts
 /// for repeats and is else absent (OpenID Connect Core 1.0 sections 5.1 and 5.2).
-#[tactic(auto, using(crate::proofs::Moves::ended))]
 pub fn read_standard<GC: GenderClaim>(
+    alloc: Global,
+    members: &Members,
+) -> Result<StandardClaims<GC>, PlacedError>
+    ensures answer { PlacedAnswers (claims_of GC.read_of members.now) result }
+
+    // Where there is memory: the first faulty member refuses the list, then a missing `sub`, and
+    // else each claim is read of its own members.
+    ensures faulty { (place : ℕ) (refusal : Refusal) → first_fault GC.read_of members.now ≡ Some (place, refusal)
+        → PlacedAnswers {A = SeenClaims GC} (Err (place, refusal)) result }
+    ensures missing { first_fault GC.read_of members.now ≡ None → subject_of members.now ≡ None
+        → PlacedAnswers {A = SeenClaims GC} (Err (length members.now, missing_subject)) result }
+    ensures claims { (subject : List ℕ) → first_fault GC.read_of members.now ≡ None
+        → subject_of members.now ≡ Some subject
+        → PlacedAnswers (Ok (with_subject GC.read_of subject members.now)) result }
+{
+    standard_of(alloc, members)
+}
+
+#[tactic(auto, using(crate::proofs::Moves::ended))]
+fn standard_of<GC: GenderClaim>(
     alloc: Global,
     members: &Members,
 ) -> Result<StandardClaims<GC>, PlacedError>

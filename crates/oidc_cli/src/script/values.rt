@@ -5,7 +5,8 @@ ghost use Rattle.std.specs.Option.{option_map_or};
 ghost use Rattle.http_header.specs.Token.{is_visible_or_blank};
 ghost use Rattle.oidc_types.specs.SigningAlgorithms.{signing_text, signing_algorithms};
 ghost use Rattle.oidc_types.specs.Words.{find_word};
-ghost use Rattle.oidc_cli.specs.Values.{url_of as url_in, algorithms_of as algorithms_in, moment_at, moment_of as moment_in, status_of as status_in, content_type_of as content_type_in};
+ghost use Rattle.oidc_login.specs.IdTokens.{url_of_text, moment_at};
+ghost use Rattle.oidc_cli.specs.Values.{algorithms_of as algorithms_in, moment_of as moment_in, status_of as status_in, content_type_of as content_type_in};
 ghost use Rattle.oidc_cli.specs.Script.{read_in};
 
 use http::StatusCode;
@@ -21,7 +22,7 @@ pub fn url_named<M: Marker>(
     line: &Pairs,
     name: &str,
 ) -> Result<Option<UrlText<M>>, AllocError>
-    ensures { IfOk result (λ url. url ≡ read_in url_in line.now name.now) }
+    ensures { IfOk result (λ url. url ≡ read_in url_of_text line.now name.now) }
 {
     match line.only(name) {
         Some(text) => url_of(alloc, text),
@@ -31,7 +32,7 @@ pub fn url_named<M: Marker>(
 
 // A URL text, where the URL Standard takes it.
 fn url_of<M: Marker>(alloc: Global, text: &str) -> Result<Option<UrlText<M>>, AllocError>
-    ensures { IfOk result (λ url. url ≡ url_in text.now) }
+    ensures { IfOk result (λ url. url ≡ url_of_text text.now) }
 {
     match UrlText::new(alloc, String::from_str(alloc, text)?) {
         Ok(url) => Ok(Some(url)),

@@ -1,28 +1,28 @@
 //! Scripts, their statuses and their reports.
 use crate::tests::texts::{
-    BEGIN, BEGIN_42, BEGIN_43, BEGIN_128, BEGIN_129, BEGIN_AGAIN_42, BEGIN_OK, BEGIN_OK_43,
-    BEGIN_OK_128, CALLBACK, CALLBACK_HS384, CALLBACK_HS512, CLIENT, ERROR_PAIR, EXPIRED, NO_CODE,
-    OTHER_AUDIENCE, OTHER_ISSUER, OTHER_NONCE, OTHER_SECRET, OTHER_TYPE, REQUEST, SIGNED,
-    STATUS_400, TWO_STATES,
+    BEGIN, BEGIN_42, BEGIN_43, BEGIN_128, BEGIN_129, BEGIN_AGAIN_42, BEGIN_CR, BEGIN_OK,
+    BEGIN_OK_43, BEGIN_OK_128, BEGIN_OK_CR, CALLBACK, CALLBACK_HS384, CALLBACK_HS512, CLIENT,
+    REQUEST, SIGNED,
 };
 use crate::{
-    DONE, MemorySink, MemorySource, SCRIPT_FAULT, SINK_FAULT, SOURCE_FAULT, WRONG_WORDS, run,
+    DONE, MemorySink, MemorySource, SCRIPT_FAULT, SINK_FAULT, SOURCE_FAULT, Source, WRONG_WORDS,
+    run,
 };
 use std::alloc::{AllocError, Global};
 use std::process::Abort;
 use std::test::Fail;
 
-const ROOM: usize = 65_536;
+pub const ROOM: usize = 65_536;
 
 // What a run left: its status, and what the sink holds.
 #[derive(Drop)]
-struct Replayed {
-    status: u8,
-    sink: MemorySink,
+pub struct Replayed {
+    pub status: u8,
+    pub sink: MemorySink,
 }
 
 // The lines, each with a line feed.
-fn text_of(alloc: Global, lines: &[&str]) -> Result<String, AllocError> {
+pub fn text_of(alloc: Global, lines: &[&str]) -> Result<String, AllocError> {
     let mut text = String::new(alloc);
     for line in lines {
         text.push_str(line)?;
@@ -31,14 +31,14 @@ fn text_of(alloc: Global, lines: &[&str]) -> Result<String, AllocError> {
     Ok(text)
 }
 
-fn word(alloc: Global, word: &str) -> Result<Vec<String>, AllocError> {
+pub fn word(alloc: Global, word: &str) -> Result<Vec<String>, AllocError> {
     let mut words = Vec::new(alloc);
     words.push(String::from_str(alloc, word)?)?;
     Ok(words)
 }
 
 // Runs these words over these bytes. The source and the sink fail at these calls.
-fn ran(
+pub fn ran(
     alloc: Global,
     words: &[String],
     script: &[u8],
@@ -54,7 +54,7 @@ fn ran(
 }
 
 // Checks the status and the report of a script.
-fn check(
+pub fn check(
     rt: &impl Abort,
     alloc: Global,
     script: &[&str],
@@ -74,114 +74,6 @@ fn check(
     )?;
     assert_eq!(rt; ran.status, status, "{text}");
     assert_eq!(rt; ran.sink.bytes(), wanted.as_str().as_bytes(), "{text}");
-    Ok(())
-}
-
-// Checks what a callback is answered after a begin, behind its client line.
-fn check_callback(
-    rt: &impl Abort,
-    alloc: Global,
-    callback: &str,
-    verdict: &[&str],
-) -> Result<(), AllocError> {
-    let text = text_of(alloc, &[CLIENT, BEGIN, callback])?;
-    let mut wanted = text_of(alloc, &["client ok", BEGIN_OK])?;
-    let last = text_of(alloc, verdict)?;
-    wanted.push_str(last.as_str())?;
-    let words = word(alloc, "replay")?;
-    let ran = ran(
-        alloc,
-        words.as_slice(),
-        text.as_str().as_bytes(),
-        &[],
-        &[],
-        ROOM,
-    )?;
-    assert_eq!(rt; ran.status, DONE, "{callback}");
-    assert_eq!(rt; ran.sink.bytes(), wanted.as_str().as_bytes(), "{callback}");
-    Ok(())
-}
-
-#[test]
-fn callbacks(rt: HostRuntime) -> Result<(), Fail> {
-    check_callback(&rt, rt.alloc(), CALLBACK, &[REQUEST, SIGNED, "pending 0"])?;
-    check_callback(
-        &rt,
-        rt.alloc(),
-        NO_CODE,
-        &["callback refused callback", "pending 0"],
-    )?;
-    check_callback(
-        &rt,
-        rt.alloc(),
-        TWO_STATES,
-        &["callback refused state", "pending 1"],
-    )?;
-    check_callback(
-        &rt,
-        rt.alloc(),
-        ERROR_PAIR,
-        &["callback refused unbuilt", "pending 0"],
-    )?;
-    check_callback(
-        &rt,
-        rt.alloc(),
-        STATUS_400,
-        &[REQUEST, "callback refused unbuilt", "pending 0"],
-    )?;
-    check_callback(
-        &rt,
-        rt.alloc(),
-        OTHER_TYPE,
-        &[REQUEST, "callback refused unbuilt", "pending 0"],
-    )?;
-    check_callback(
-        &rt,
-        rt.alloc(),
-        EXPIRED,
-        &[REQUEST, "callback refused claims expired", "pending 0"],
-    )?;
-    Ok(())
-}
-
-#[test]
-fn claims(rt: HostRuntime) -> Result<(), Fail> {
-    check_callback(
-        &rt,
-        rt.alloc(),
-        OTHER_ISSUER,
-        &[
-            REQUEST,
-            "callback refused claims invalid_issuer",
-            "pending 0",
-        ],
-    )?;
-    check_callback(
-        &rt,
-        rt.alloc(),
-        OTHER_AUDIENCE,
-        &[
-            REQUEST,
-            "callback refused claims invalid_audience",
-            "pending 0",
-        ],
-    )?;
-    check_callback(
-        &rt,
-        rt.alloc(),
-        OTHER_SECRET,
-        &[REQUEST, "callback refused claims crypto_error", "pending 0"],
-    )?;
-    check_callback(
-        &rt,
-        rt.alloc(),
-        OTHER_NONCE,
-        &[
-            REQUEST,
-            "callback refused claims invalid_nonce",
-            "pending 0",
-        ],
-    )?;
     Ok(())
 }
 
@@ -209,7 +101,7 @@ fn begins(rt: HostRuntime) -> Result<(), Fail> {
     check(
         &rt,
         rt.alloc(),
-        &[CLIENT, BEGIN_42, BEGIN_43, BEGIN_128, BEGIN_129],
+        &[CLIENT, BEGIN_42, BEGIN_43, BEGIN_128, BEGIN_129, BEGIN_CR],
         DONE,
         &[
             "client ok",
@@ -217,7 +109,8 @@ fn begins(rt: HostRuntime) -> Result<(), Fail> {
             BEGIN_OK_43,
             BEGIN_OK_128,
             "begin refused verifier",
-            "pending 2",
+            BEGIN_OK_CR,
+            "pending 3",
         ],
     )?;
     check(
@@ -429,34 +322,39 @@ fn algorithms(rt: HostRuntime) -> Result<(), Fail> {
     Ok(())
 }
 
+// Checks that words are wrong: nothing is read, and nothing is written.
+fn check_wrong(rt: &impl Abort, alloc: Global, wrong: &[&str]) -> Result<(), AllocError> {
+    let mut words = Vec::new(alloc);
+    for word in wrong {
+        words.push(String::from_str(alloc, word)?)?;
+    }
+    let mut source = MemorySource::new(CLIENT.as_bytes().to_vec(alloc)?, Vec::new(alloc));
+    let mut sink = MemorySink::new(alloc, ROOM, Vec::new(alloc))?;
+    let status = run(alloc, words.as_slice(), &mut source, &mut sink);
+    assert_eq!(rt; status, WRONG_WORDS);
+    assert!(rt; sink.bytes().is_empty());
+    let mut left = [0u8; 9];
+    assert_eq!(rt; source.take(&mut left), Ok(9));
+    assert_eq!(rt; &left, b"op=client");
+    Ok(())
+}
+
 #[test]
 fn words(rt: HostRuntime) -> Result<(), Fail> {
-    let alloc = rt.alloc();
-    let text = text_of(alloc, &[CLIENT])?;
-    let script = text.as_str().as_bytes();
     for wrong in ["", "Replay", "drill", "--help", "--version", "replay "] {
-        let words = word(alloc, wrong)?;
-        let ran = ran(alloc, words.as_slice(), script, &[], &[], ROOM)?;
-        assert_eq!(rt; ran.status, WRONG_WORDS);
-        assert!(rt; ran.sink.bytes().is_empty());
+        check_wrong(&rt, rt.alloc(), &[wrong])?;
     }
-    let none = Vec::new(alloc);
-    assert_eq!(rt;
-        ran(alloc, none.as_slice(), script, &[], &[], ROOM)?.status,
-        WRONG_WORDS
-    );
-    let mut drill = word(alloc, "drill")?;
-    drill.push(String::from_str(alloc, "3")?)?;
-    assert_eq!(rt;
-        ran(alloc, drill.as_slice(), script, &[], &[], ROOM)?.status,
-        WRONG_WORDS
-    );
-    let mut twice = word(alloc, "replay")?;
-    twice.push(String::from_str(alloc, "x")?)?;
-    assert_eq!(rt;
-        ran(alloc, twice.as_slice(), script, &[], &[], ROOM)?.status,
-        WRONG_WORDS
-    );
+    for (first, second) in [
+        ("drill", "0"),
+        ("drill", "3"),
+        ("drill", "4097"),
+        ("replay", "replay"),
+        ("replay", "x"),
+        ("x", "replay"),
+    ] {
+        check_wrong(&rt, rt.alloc(), &[first, second])?;
+    }
+    check_wrong(&rt, rt.alloc(), &[])?;
     Ok(())
 }
 
@@ -525,48 +423,5 @@ fn odd_bytes(rt: HostRuntime) -> Result<(), Fail> {
         ],
     )?;
     assert_eq!(rt; ran.sink.bytes(), wanted.as_str().as_bytes());
-    Ok(())
-}
-
-const MANY: usize = 10_000;
-
-// A begin and a callback of each of many logins: the begins, and then the callbacks.
-fn many(alloc: Global) -> Result<String, AllocError> {
-    let mut text = text_of(alloc, &[CLIENT])?;
-    for i in 0..MANY {
-        let line = format!(in alloc;
-            "op=begin&state=s{i}&nonce=n{i}&verifier=0123456789012345678901234567890123456789012\n"
-        )?;
-        text.push_str(line.as_str())?;
-    }
-    for i in 0..MANY {
-        let line = format!(in alloc;
-            "op=callback&now=1000&query=code%3Dc{i}%26state%3Ds{i}&token_status=400&token_type=&token_body=\n"
-        )?;
-        text.push_str(line.as_str())?;
-    }
-    Ok(text)
-}
-
-#[test]
-fn many_logins(rt: HostRuntime) -> Result<(), Fail> {
-    let alloc = rt.alloc();
-    let words = word(alloc, "replay")?;
-    let text = many(alloc)?;
-    let ran = ran(
-        alloc,
-        words.as_slice(),
-        text.as_str().as_bytes(),
-        &[],
-        &[],
-        16_777_216,
-    )?;
-    assert_eq!(rt; ran.status, DONE);
-    let report = ran.sink.bytes();
-    assert_eq!(rt;
-        report.iter().filter(|b| **b == b'\n').count(),
-        3 * MANY + 2
-    );
-    assert!(rt; report.ends_with(b"callback refused unbuilt\npending 0\n"));
     Ok(())
 }

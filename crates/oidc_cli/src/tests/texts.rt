@@ -12,15 +12,6 @@ pub const BEGIN: &str =
 pub const CALLBACK: &str =
     "op=callback&now=1000&query=code%3Dc1%26state%3DCSRF123&token_status=200&token_type=application/json&token_body=%7B%22access_token%22%3A%22abc%22%2C%22token_type%22%3A%22Bearer%22%2C%22id_token%22%3A%22eyJhbGciOiJIUzI1NiJ9.eyJpc3MiOiJodHRwczovL2V4YW1wbGUiLCJhdWQiOlsiYWFhIl0sImV4cCI6MjAwMCwiaWF0Ijo5MDAsIm5vbmNlIjoiTk9OQ0U0NTYiLCJzdWIiOiJ1MSJ9.IbKOHKcOistKb08I8l-Mg1J9VjU5wB0TABvvRtT4QqI%22%7D";
 
-pub const NO_CODE: &str =
-    "op=callback&now=1000&query=state%3DCSRF123&token_status=200&token_type=application/json&token_body=%7B%22access_token%22%3A%22abc%22%2C%22token_type%22%3A%22Bearer%22%2C%22id_token%22%3A%22eyJhbGciOiJIUzI1NiJ9.eyJpc3MiOiJodHRwczovL2V4YW1wbGUiLCJhdWQiOlsiYWFhIl0sImV4cCI6MjAwMCwiaWF0Ijo5MDAsIm5vbmNlIjoiTk9OQ0U0NTYiLCJzdWIiOiJ1MSJ9.IbKOHKcOistKb08I8l-Mg1J9VjU5wB0TABvvRtT4QqI%22%7D";
-
-pub const EXPIRED: &str =
-    "op=callback&now=2000&query=code%3Dc1%26state%3DCSRF123&token_status=200&token_type=application/json&token_body=%7B%22access_token%22%3A%22abc%22%2C%22token_type%22%3A%22Bearer%22%2C%22id_token%22%3A%22eyJhbGciOiJIUzI1NiJ9.eyJpc3MiOiJodHRwczovL2V4YW1wbGUiLCJhdWQiOlsiYWFhIl0sImV4cCI6MjAwMCwiaWF0Ijo5MDAsIm5vbmNlIjoiTk9OQ0U0NTYiLCJzdWIiOiJ1MSJ9.IbKOHKcOistKb08I8l-Mg1J9VjU5wB0TABvvRtT4QqI%22%7D";
-
-pub const STATUS_400: &str =
-    "op=callback&now=1000&query=code%3Dc1%26state%3DCSRF123&token_status=400&token_type=application/json&token_body=%7B%22access_token%22%3A%22abc%22%2C%22token_type%22%3A%22Bearer%22%2C%22id_token%22%3A%22eyJhbGciOiJIUzI1NiJ9.eyJpc3MiOiJodHRwczovL2V4YW1wbGUiLCJhdWQiOlsiYWFhIl0sImV4cCI6MjAwMCwiaWF0Ijo5MDAsIm5vbmNlIjoiTk9OQ0U0NTYiLCJzdWIiOiJ1MSJ9.IbKOHKcOistKb08I8l-Mg1J9VjU5wB0TABvvRtT4QqI%22%7D";
-
 pub const CALLBACK_HS384: &str =
     "op=callback&now=1000&query=code%3Dc1%26state%3DCSRF123&token_status=200&token_type=application/json&token_body=%7B%22access_token%22%3A%22abc%22%2C%22token_type%22%3A%22Bearer%22%2C%22id_token%22%3A%22eyJhbGciOiJIUzM4NCJ9.eyJpc3MiOiJodHRwczovL2V4YW1wbGUiLCJhdWQiOlsiYWFhIl0sImV4cCI6MjAwMCwiaWF0Ijo5MDAsIm5vbmNlIjoiTk9OQ0U0NTYiLCJzdWIiOiJ1MSJ9.07c9mUVU3BEvMcu_YCD_Xd9J1jbd_vVELB7dkMy0KWlGeaGsRt5V05CCsI__mB9W%22%7D";
 
@@ -39,29 +30,12 @@ pub const BEGIN_128: &str =
 pub const BEGIN_129: &str =
     "op=begin&state=s129&nonce=n&verifier=vvvvvvvvvvvvvvvvvvvvvvvvvvvvvvvvvvvvvvvvvvvvvvvvvvvvvvvvvvvvvvvvvvvvvvvvvvvvvvvvvvvvvvvvvvvvvvvvvvvvvvvvvvvvvvvvvvvvvvvvvvvvvvvvv";
 
+/// Its verifier is 42 bytes and the carriage return at the end of its line.
+pub const BEGIN_CR: &str =
+    "op=begin&state=cr&nonce=n&verifier=vvvvvvvvvvvvvvvvvvvvvvvvvvvvvvvvvvvvvvvvvv\r";
+
 pub const BEGIN_AGAIN_42: &str =
     "op=begin&state=CSRF123&nonce=n&verifier=vvvvvvvvvvvvvvvvvvvvvvvvvvvvvvvvvvvvvvvvvv";
-
-pub const ERROR_PAIR: &str =
-    "op=callback&now=1000&query=error%3Daccess_denied%26state%3DCSRF123&token_status=200&token_type=application/json&token_body=%7B%22access_token%22%3A%22abc%22%2C%22token_type%22%3A%22Bearer%22%2C%22id_token%22%3A%22eyJhbGciOiJIUzI1NiJ9.eyJpc3MiOiJodHRwczovL2V4YW1wbGUiLCJhdWQiOlsiYWFhIl0sImV4cCI6MjAwMCwiaWF0Ijo5MDAsIm5vbmNlIjoiTk9OQ0U0NTYiLCJzdWIiOiJ1MSJ9.IbKOHKcOistKb08I8l-Mg1J9VjU5wB0TABvvRtT4QqI%22%7D";
-
-pub const TWO_STATES: &str =
-    "op=callback&now=1000&query=code%3Dc1%26state%3DCSRF123%26state%3DCSRF123&token_status=200&token_type=application/json&token_body=%7B%22access_token%22%3A%22abc%22%2C%22token_type%22%3A%22Bearer%22%2C%22id_token%22%3A%22eyJhbGciOiJIUzI1NiJ9.eyJpc3MiOiJodHRwczovL2V4YW1wbGUiLCJhdWQiOlsiYWFhIl0sImV4cCI6MjAwMCwiaWF0Ijo5MDAsIm5vbmNlIjoiTk9OQ0U0NTYiLCJzdWIiOiJ1MSJ9.IbKOHKcOistKb08I8l-Mg1J9VjU5wB0TABvvRtT4QqI%22%7D";
-
-pub const OTHER_ISSUER: &str =
-    "op=callback&now=1000&query=code%3Dc1%26state%3DCSRF123&token_status=200&token_type=application/json&token_body=%7B%22access_token%22%3A%22abc%22%2C%22token_type%22%3A%22Bearer%22%2C%22id_token%22%3A%22eyJhbGciOiJIUzI1NiJ9.eyJpc3MiOiJodHRwczovL290aGVyIiwiYXVkIjpbImFhYSJdLCJleHAiOjIwMDAsImlhdCI6OTAwLCJub25jZSI6Ik5PTkNFNDU2Iiwic3ViIjoidTEifQ.idERqMmuX5Jmzo9CCYXpH9v78fSrn6eoww7jIpIlSkc%22%7D";
-
-pub const OTHER_AUDIENCE: &str =
-    "op=callback&now=1000&query=code%3Dc1%26state%3DCSRF123&token_status=200&token_type=application/json&token_body=%7B%22access_token%22%3A%22abc%22%2C%22token_type%22%3A%22Bearer%22%2C%22id_token%22%3A%22eyJhbGciOiJIUzI1NiJ9.eyJpc3MiOiJodHRwczovL2V4YW1wbGUiLCJhdWQiOlsiYWFhIiwiY2NjIl0sImV4cCI6MjAwMCwiaWF0Ijo5MDAsIm5vbmNlIjoiTk9OQ0U0NTYiLCJzdWIiOiJ1MSJ9.X_3IIBa_qmfG9n61DHcMoaREYNgRH7vOmGY-R4_ApMs%22%7D";
-
-pub const OTHER_NONCE: &str =
-    "op=callback&now=1000&query=code%3Dc1%26state%3DCSRF123&token_status=200&token_type=application/json&token_body=%7B%22access_token%22%3A%22abc%22%2C%22token_type%22%3A%22Bearer%22%2C%22id_token%22%3A%22eyJhbGciOiJIUzI1NiJ9.eyJpc3MiOiJodHRwczovL2V4YW1wbGUiLCJhdWQiOlsiYWFhIl0sImV4cCI6MjAwMCwiaWF0Ijo5MDAsIm5vbmNlIjoiTk9OQ0U0NTciLCJzdWIiOiJ1MSJ9.mQvix147GecnRUKeOoxX408EhbiCx4YyW0TrDYGBcjY%22%7D";
-
-pub const OTHER_SECRET: &str =
-    "op=callback&now=1000&query=code%3Dc1%26state%3DCSRF123&token_status=200&token_type=application/json&token_body=%7B%22access_token%22%3A%22abc%22%2C%22token_type%22%3A%22Bearer%22%2C%22id_token%22%3A%22eyJhbGciOiJIUzI1NiJ9.eyJpc3MiOiJodHRwczovL2V4YW1wbGUiLCJhdWQiOlsiYWFhIl0sImV4cCI6MjAwMCwiaWF0Ijo5MDAsIm5vbmNlIjoiTk9OQ0U0NTYiLCJzdWIiOiJ1MSJ9.hlCQxMdCBkO6arHphIdBySQW-WAce8AzhRMiKjHwA5w%22%7D";
-
-pub const OTHER_TYPE: &str =
-    "op=callback&now=1000&query=code%3Dc1%26state%3DCSRF123&token_status=200&token_type=application/json;charset=utf-8&token_body=%7B%22access_token%22%3A%22abc%22%2C%22token_type%22%3A%22Bearer%22%2C%22id_token%22%3A%22eyJhbGciOiJIUzI1NiJ9.eyJpc3MiOiJodHRwczovL2V4YW1wbGUiLCJhdWQiOlsiYWFhIl0sImV4cCI6MjAwMCwiaWF0Ijo5MDAsIm5vbmNlIjoiTk9OQ0U0NTYiLCJzdWIiOiJ1MSJ9.IbKOHKcOistKb08I8l-Mg1J9VjU5wB0TABvvRtT4QqI%22%7D";
 
 pub const BEGIN_OK: &str =
     "begin ok https://example/authorize?response_type=code&client_id=aaa&state=CSRF123&code_challenge=E9Melhoa2OwvFrEMTJguCHaoeK1t8URWbuGJSstw-cM&code_challenge_method=S256&scope=openid&nonce=NONCE456";
@@ -77,3 +51,6 @@ pub const BEGIN_OK_43: &str =
 
 pub const BEGIN_OK_128: &str =
     "begin ok https://example/authorize?response_type=code&client_id=aaa&state=s128&code_challenge=2fg163orV16mNEJIV2ZOofT-GzVJN5qnoGaAjqRUEKM&code_challenge_method=S256&scope=openid&nonce=n";
+
+pub const BEGIN_OK_CR: &str =
+    "begin ok https://example/authorize?response_type=code&client_id=aaa&state=cr&code_challenge=UX4oQXsxZjDMYCuCWiX1RTAbDhEHDvVgNSokW3HgRic&code_challenge_method=S256&scope=openid&nonce=n";

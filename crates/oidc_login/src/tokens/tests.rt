@@ -3,8 +3,9 @@
 use crate::client::Client;
 use crate::tokens::id_token::IdToken;
 use crate::tokens::verification::{ClaimsVerificationError, first_failure};
+use base64::engine::general_purpose::URL_SAFE_NO_PAD;
 use jiff::Timestamp;
-use oidc_keys::SignatureVerificationError;
+use oidc_keys::{CoreHmacKey, PrivateSigningKey, SignatureVerificationError};
 use oidc_members::write_object;
 use oidc_types::{AuthUrl, ClientId, ClientSecret, CoreJwsSigningAlgorithm, IssuerUrl, Nonce};
 use std::alloc::Global;
@@ -142,7 +143,7 @@ const OURS: Case = Case {
     wanted: None,
 };
 
-const CASES: [Case; 8] = [
+const CASES: [Case; 9] = [
     OURS,
     Case {
         second: 2000,
@@ -162,6 +163,14 @@ const CASES: [Case; 8] = [
     Case {
         text: BY_HS384,
         second: 2000,
+        wanted: Some(ClaimsVerificationError::SignatureVerification(
+            SignatureVerificationError::DisallowedAlg,
+        )),
+        ..OURS
+    },
+    Case {
+        text: BY_HS384,
+        secret: "bbc",
         wanted: Some(ClaimsVerificationError::SignatureVerification(
             SignatureVerificationError::DisallowedAlg,
         )),
@@ -251,6 +260,36 @@ fn writes_claims(rt: HostRuntime) -> Result<(), Fail> {
     for (text, written) in WRITTEN.iter() {
         let object = rewritten(alloc, text)?;
         assert_eq!(rt; object.as_slice(), written.as_bytes());
+    }
+    Ok(())
+}
+
+// Headers, payloads and secrets, and the tokens that Python makes of them.
+const SIGNED: [(&str, &str, &str, &str); 1] = [(
+    r#"{"alg":"HS256"}"#,
+    r#"{"iss":"https://example","aud":["aaa"],"exp":2000,"iat":900,"nonce":"NONCE456","sub":"u1"}"#,
+    "bbb",
+    ISSUED,
+)];
+
+// The token of a header and a payload, by HMAC-SHA-256 under a secret (RFC 7515 section 5.1).
+fn signed(alloc: Global, header: &str, payload: &str, secret: &str) -> Result<String, Fail> {
+    let mut text = URL_SAFE_NO_PAD.encode(alloc, header.as_bytes())?;
+    text.push_str(".")?;
+    URL_SAFE_NO_PAD.encode_string(payload.as_bytes(), &mut text)?;
+    let key = CoreHmacKey::new(Vec::from_slice(alloc, secret.as_bytes())?);
+    let algorithm = CoreJwsSigningAlgorithm::HmacSha256;
+    let signature = key.sign(alloc, &algorithm, text.as_str().as_bytes())?;
+    text.push_str(".")?;
+    URL_SAFE_NO_PAD.encode_string(signature.as_slice(), &mut text)?;
+    Ok(text)
+}
+
+#[test]
+fn the_own_key_signs_the_same_token(rt: HostRuntime) -> Result<(), Fail> {
+    let alloc = rt.alloc();
+    for (header, payload, secret, token) in SIGNED.iter() {
+        assert_eq!(rt; signed(alloc, header, payload, secret)?.as_str(), *token);
     }
     Ok(())
 }

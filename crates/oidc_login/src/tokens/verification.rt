@@ -89,7 +89,10 @@ fn verdict_under(
 {
     let key = Vec::from_slice(alloc, secret.secret().as_bytes())?;
     let key = CoreJsonWebKey::new_symmetric(key);
-    Ok(key.verify_signature(&token.algorithm(), token.message(), token.signature()))
+    match key.verify_signature(&token.algorithm(), token.message(), token.signature()) {
+        Err(SignatureVerificationError::Memory) => Err(AllocError),
+        verdict => Ok(verdict),
+    }
 }
 
 // The first of the last two checks that fails: the expiration, then the nonce.

@@ -2,6 +2,8 @@ use Rattle.std.proofs.Common.{refl, sym, ◌∙◌, Err}
 use Rattle.oidc_login.specs.declared.errors.LoginError.TheVariants.{State}
 use Rattle.oidc_login.proofs.Sent.{after_nothing}
 use Rattle.oidc_login.proofs.Called.{outcome-unnamed, outcome-named, called_accepted, called_unbuilt, called_callback, called_claims, signs_in}
+use Rattle.oidc_login.proofs.Causes.{replies_callback, replies_unbuilt, replies_claims, never_memory}
+use Rattle.oidc_login.proofs.Handed.{sent_own, answered_own}
 use Rattle.oidc_login.proofs.logins.Logins.callback.Goals as goal
 
 pub returns-in-None-clause-reply : goal.returns-in-None-clause-reply
@@ -62,3 +64,31 @@ returns-clause-signs_in c =
     let runs = rw c.in-Ok.ensures at c.finish.ensures.run in
     rw (← c.self.view_is) (λ signed. signs_in c.self.inside.client.now c.self.inside.pending c.args.query.now _ _ signed _
     (rw (outcome-named c.self.inside.client.now c.self.inside.pending c.args.query.now _ _ _ named) runs.0))
+
+-- ---- the request
+
+pub returns-clause-only_its_request : goal.returns-clause-only_its_request
+returns-clause-only_its_request c =
+    let named = rw c.in-Ok.ensures at (sym c.take_named.ensures.login ∙ c.in-Some.is) in
+    let runs = rw c.in-Ok.ensures at c.finish.ensures.run in
+    rw (← c.self.view_is) (sent_own c.self.inside.client.now c.self.inside.pending c.args.query.now _ _ _ named _ _ _ runs.1)
+
+pub returns-clause-own_request : goal.returns-clause-own_request
+returns-clause-own_request c =
+    let named = rw c.in-Ok.ensures at (sym c.take_named.ensures.login ∙ c.in-Some.is) in
+    let runs = rw c.in-Ok.ensures at c.finish.ensures.run in
+    rw (← c.self.view_is) (answered_own c.self.inside.client.now c.self.inside.pending c.args.query.now _ _ _ named _ _ _ runs.0 runs.1)
+
+-- ---- each cause has its refusal
+
+pub returns-clause-lacks_code : goal.returns-clause-lacks_code
+returns-clause-lacks_code c = replies_callback _ _ _ _ _ _ (returns-clause-reply c)
+
+pub returns-clause-is_unbuilt : goal.returns-clause-is_unbuilt
+returns-clause-is_unbuilt c = replies_unbuilt _ _ _ _ _ _ (returns-clause-reply c)
+
+pub returns-clause-fails_check : goal.returns-clause-fails_check
+returns-clause-fails_check c = replies_claims _ _ _ _ _ _ (returns-clause-reply c)
+
+pub returns-clause-no_inner_memory : goal.returns-clause-no_inner_memory
+returns-clause-no_inner_memory c = λ is. never_memory _ _ _ _ (returns-clause-claims c _ is).check_failed
