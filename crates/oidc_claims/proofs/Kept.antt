@@ -1,7 +1,7 @@
 -- Additional members are kept whole.
-use Rattle.std.proofs.Common.{◌≡◌, List, map, Bool, true, Ok, refl, sym, ap, ◌∙◌}
+use Rattle.std.proofs.Common.{◌≡◌, List, map, true, Ok, refl, sym, ap, ◌∙◌}
 use Rattle.oidc_members.specs.Seen.{SeenMember, OutSeen}
-use Rattle.oidc_claims.specs.Additional.{are_additional, are_written_additional, out_of}
+use Rattle.oidc_claims.specs.Additional.{are_additional, out_of}
 use Rattle.oidc_claims.specs.Others.{Others, list_of, others_of, others_of-list, read_others}
 use Rattle.oidc_claims.proofs.Homes.{outs_are_additional}
 

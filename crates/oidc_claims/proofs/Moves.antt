@@ -1,5 +1,5 @@
 -- how the readers go on from one member to the next
-use Rattle.std.proofs.Common.{◌≡◌, ℕ, List, [], ◌∷◌, ◌++◌, Option, None, Some, Result, Ok, Err, refl, sym, ap, ◌∙◌, cond, Bool, true, false, filter, length}
+use Rattle.std.proofs.Common.{◌≡◌, ℕ, List, [], ◌∷◌, ◌++◌, Option, None, Some, Result, Ok, Err, refl, sym, ap, ◌∙◌, cond, Bool, true, false, length}
 use Rattle.std.specs.Option.{option_map_or}
 use Rattle.std.specs.Str.{bytes_eq}
 use Rattle.std.proofs.lemmas.List.Elements.{filter-append}
@@ -7,17 +7,16 @@ use Rattle.oidc_members.specs.Seen.{SeenMember}
 use Rattle.oidc_members.specs.declared.refusal.Refusal.{Refusal}
 use Rattle.oidc_members.specs.declared.refusal.ParseError.{ParseError}
 use Rattle.oidc_members.specs.declared.refusal.ParseError.TheVariants.{Refused, Memory}
-use Rattle.oidc_readers.specs.Passes.{Took, unless_faulty}
+use Rattle.oidc_readers.specs.Passes.{Took}
 use Rattle.oidc_claims.specs.declared.claim.Claim.{Claim}
 use Rattle.oidc_claims.specs.declared.claim.Claim.TheVariants.{Subject}
 use Rattle.oidc_claims.specs.declared.claims.part.AddressPart.{AddressPart}
-use Rattle.oidc_claims.specs.declared.claims.part.AddressReader.{AddressReader}
 use Rattle.oidc_claims.specs.declared.claims.reader.ClaimsReader.{ClaimsReader}
 use Rattle.oidc_claims.specs.Table.{name_of, claim_of, base_of, kind_of}
 use Rattle.oidc_claims.specs.Kinds.{plain, text_read}
 use Rattle.oidc_claims.specs.Address.{part_name, part_of, is_part, own_part, part_judged, part_fault, part_fault_by}
 use Rattle.oidc_claims.specs.Claims.{own, is_of, fault_of_kind, fault_by, fault_at}
-use Rattle.oidc_claims.specs.Standard.{complete, with_subject, unless_refused}
+use Rattle.oidc_claims.specs.Standard.{complete, with_subject}
 use Rattle.oidc_claims.specs.Reader.{address_slots, address_reader_of, claim_slots, reader_of, finished, finished_by, finished_claims}
 
 append_none : {A : Type 0} (xs : List A) → xs ++ [] ≡ xs

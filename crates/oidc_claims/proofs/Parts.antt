@@ -1,22 +1,17 @@
 -- The parts of an address, put into an object one by one, and read back.
-use Rattle.std.proofs.Common.{◌≡◌, ℕ, List, [], ◌∷◌, ◌++◌, map, Option, None, Some, Bool, true, String, string_bytes, Global, codes, ap, sym, refl, ◌∙◌, append-nil, Ok, Result}
+use Rattle.std.proofs.Common.{◌≡◌, ℕ, List, [], ◌∷◌, ◌++◌, map, Option, None, Some, Bool, true, String, string_bytes, Global, codes, ap, sym, refl, ◌∙◌, append-nil, Ok}
 use Rattle.std.specs.List.{flat_map}
 use Rattle.std.proofs.lemmas.List.{map-append}
 use Rattle.std.specs.Str.{bytes_eq}
-use Rattle.std.specs.Ordering.{nat_cmp, match_ordering}
-use Rattle.std.specs.Cmp.Lexicographic.{slice_cmp}
-use Rattle.std.specs.declared.cmp.Ordering.TheVariants.{Less}
 use Rattle.std.specs.String.{string_cmp}
 use Rattle.std.specs.BTreeMap.{insert_entry}
-use Rattle.serde_json.specs.Data.{Data, string, object, Members, no_members, member, put}
+use Rattle.serde_json.specs.Data.{string, put}
 use Rattle.serde_json.specs.View.{view, members_view}
 use Rattle.serde_json.specs.declared.value.Value.{Value}
 use Rattle.serde_json.proofs.Views.{Entry, members_view-insert_entry}
 use Rattle.oidc_members.specs.Seen.{SeenMember, OutSeen}
-use Rattle.oidc_members.specs.Written.{data_of}
 use Rattle.oidc_members.specs.Objects.{members_of, loose_members_of, members_or_refusal, split_of}
 use Rattle.oidc_members.specs.declared.refusal.Refusal.{Refusal}
-use Rattle.oidc_readers.specs.Passes.{first_by}
 use Rattle.oidc_claims.specs.declared.claims.address.AddressClaim.{AddressClaim}
 use Rattle.oidc_claims.specs.declared.claims.part.AddressPart.{AddressPart}
 use Rattle.oidc_claims.specs.declared.claims.part.AddressPart.TheVariants.{Formatted, StreetAddress, Locality, Region, PostalCode, Country}
@@ -25,7 +20,7 @@ use Rattle.oidc_claims.specs.Table.{name_of}
 use Rattle.oidc_claims.specs.Kinds.{text_read, plain}
 use Rattle.oidc_claims.specs.Address.{part_name, part_of, part_judged, part_fault, part_fault_by, own_part, address_of, address_unless, address_in, address_read}
 use Rattle.oidc_claims.specs.PutParts.{put_part}
-use Rattle.oidc_claims.specs.Written.{text_member, part_members, parts_in_order, address_members, address_data}
+use Rattle.oidc_claims.specs.Written.{text_member, part_members, parts_in_order, address_data}
 use Rattle.oidc_claims.proofs.Standing.{read_with, AddressStands}
 use Rattle.oidc_claims.proofs.Apart.{IsPart, JudgesOwn, apart_from, own_among, no_fault}
 

@@ -1,29 +1,26 @@
 -- Claims that were written are read back.
-use Rattle.std.proofs.Common.{◌≡◌, ◌≢◌, ℕ, ℤ, pos, negsuc, List, [], ◌∷◌, ◌++◌, map, Option, None, Some, option_map, option_and_then, Result, Ok, Err, Bool, true, false, not, ◌&&◌, cond, refl, sym, ap, subst, ◌∙◌, append-nil, is_some}
+use Rattle.std.proofs.Common.{◌≡◌, ◌≢◌, ℕ, ℤ, pos, negsuc, List, [], ◌∷◌, map, Option, None, Some, option_map, Result, Ok, true, false, ◌&&◌, cond, refl, ap, subst, ◌∙◌, append-nil, is_some}
 use Rattle.std.specs.List.{flat_map}
 use Rattle.std.specs.Result.{result_ok, result_err}
 use Rattle.serde_json.specs.Data.{Data, null, boolean, number, string, array, object}
-use Rattle.serde_json.specs.Find.{as_null, as_number, as_integer, of_integer}
-use Rattle.oidc_types.specs.Variants.{Variants}
+use Rattle.serde_json.specs.Find.{as_null, as_integer, of_integer}
 use Rattle.oidc_members.specs.Seen.{SeenMember, OutSeen}
 use Rattle.oidc_members.specs.declared.refusal.Refusal.{Refusal}
 use Rattle.oidc_members.specs.declared.refusal.ParseKind.TheVariants.{Moment}
-use Rattle.oidc_readers.specs.Passes.{first_by}
 use Rattle.oidc_claims.specs.declared.claim.Claim.{Claim}
 use Rattle.oidc_claims.specs.declared.claim.Claim.TheVariants.{Subject, Name, GivenName, FamilyName, MiddleName, Nickname, PreferredUsername, Profile, Picture, Website, Email, EmailVerified, Gender, Birthday, Birthdate, Zoneinfo, Locale, PhoneNumber, PhoneNumberVerified, Address, UpdatedAt}
-use Rattle.oidc_claims.specs.declared.claim.ClaimKind.TheVariants as kind
 use Rattle.oidc_claims.specs.declared.claims.address.AddressClaim.{AddressClaim}
 use Rattle.oidc_claims.specs.Seen.{SeenClaims}
 use Rattle.oidc_claims.specs.Gender.{GenderReadsBack, GenderIsValue}
 use Rattle.oidc_claims.specs.Table.{name_of, claim_of, all_claims, base_of, tag_of}
 use Rattle.oidc_claims.specs.Kinds.{of_member, or_refused, text_read, flag_read, moment_read, moment_at, seconds_read, misfit, held, plain}
 use Rattle.oidc_claims.specs.Address.{address_read}
-use Rattle.oidc_claims.specs.Claims.{own, variants, unless_empty, fault_of_kind, fault_by, fault_at, first_fault, judged}
+use Rattle.oidc_claims.specs.Claims.{own, variants, unless_empty, fault_by, fault_at, first_fault}
 use Rattle.oidc_claims.specs.Standard.{claims_of, with_subject, complete, unless_refused}
-use Rattle.oidc_claims.specs.Written.{written, claim_members, plain_member, variant_members, with_tag, address_data, seconds_data, seconds_of}
+use Rattle.oidc_claims.specs.Written.{written, claim_members, plain_member, with_tag, address_data, seconds_data, seconds_of}
 use Rattle.oidc_claims.specs.RoundTrip.{IsTag, IsInRange, IsWholeSecond}
 use Rattle.oidc_claims.proofs.Standing.{AddressStands, read_with}
-use Rattle.oidc_claims.proofs.Apart.{JudgesOwn, Apart, apart_from, own_among, no_fault}
+use Rattle.oidc_claims.proofs.Apart.{JudgesOwn, apart_from, own_among, no_fault}
 use Rattle.oidc_claims.proofs.Parts.{map_flat, address_reads_back}
 use Rattle.oidc_claims.proofs.Seconds.{whole_second}
 use Rattle.oidc_claims.proofs.VariantsBack.{key, same, judge, IsClaimPart, Named, variants_are_part, variants_back}

@@ -1,5 +1,5 @@
 -- A whole number of seconds, rounded down, is that number.
-use Rattle.std.proofs.Common.{◌≡◌, ℕ, suc, ◌+◌, ◌*◌, ◌/◌, ℤ, pos, negsuc, ◌*ℤ◌, neg_ℤ, ◌&&◌, Bool, true, false, cond, int_le, Option, Some, None, sym, ap, ◌∙◌, arith}
+use Rattle.std.proofs.Common.{◌≡◌, ℕ, suc, ◌+◌, ◌*◌, ◌/◌, ℤ, pos, negsuc, ◌*ℤ◌, neg_ℤ, Bool, true, false, cond, Some, None, sym, ap, ◌∙◌, arith}
 use Rattle.std.proofs.Math.IntN.{pos-*ℤ-pos, negsuc-*ℤ-pos, negsuc-eq, pos-+ℤ-pos, one}
 use Rattle.std.specs.Int.{int_div_euclid}
 use Rattle.oidc_claims.specs.Kinds.{moment_at}

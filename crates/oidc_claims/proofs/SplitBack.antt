@@ -1,5 +1,5 @@
 -- Claims are read back from the text of the object that they are written as.
-use Rattle.std.proofs.Common.{◌≡◌, ◌≤◌, ◌<◌, ℕ, zero, suc, max, List, [], ◌∷◌, ◌++◌, map, drop, length, get_or, All, Option, None, Some, option_map, Result, Ok, ap, ◌∙◌, arith}
+use Rattle.std.proofs.Common.{◌≡◌, ◌≤◌, ℕ, zero, suc, List, [], ◌∷◌, ◌++◌, drop, All, Option, None, Some, option_map, Result, Ok, ap, ◌∙◌, arith}
 use Rattle.std.specs.List.{flat_map}
 use Rattle.serde_json.specs.Data.{Data, members_depth}
 use Rattle.serde_json.specs.Read.{max_depth}

@@ -4,14 +4,11 @@ use Rattle.std.specs.Prelude.{T}
 use Rattle.std.specs.FinMap as finite
 use Rattle.std.specs.FinMap.Entries.{is_sorted, below_all}
 use Rattle.std.specs.List.{list_any}
-use Rattle.std.specs.Result.{result_err}
 use Rattle.std.specs.Str.{bytes_eq}
 use Rattle.std.specs.declared.cmp.Ordering.{Ordering}
 use Rattle.std.specs.declared.cmp.Ordering.TheVariants.{Equal, Less, Greater}
 use Rattle.std.specs.Ordering.{is_lt, is_eq}
 use Rattle.std.specs.Cmp.{eq_by_cmp_equiv}
-use Rattle.serde_json.specs.Find.{as_null}
-use Rattle.serde_json.specs.Data.{string}
 use Rattle.oidc_types.specs.Variants.{Variants, tag_cmp}
 use Rattle.oidc_types.proofs.Entries.{tags_total}
 use Rattle.oidc_types.proofs.Copies.{push, later, remade}
@@ -22,7 +19,7 @@ use Rattle.oidc_claims.specs.declared.claim.Claim.{Claim}
 use Rattle.oidc_claims.specs.declared.claim.ClaimKind.TheVariants as kind
 use Rattle.oidc_claims.specs.Table.{name_of, claim_of, is_localized, is_optional, kind_of, base_of, tag_of}
 use Rattle.oidc_claims.specs.Kinds.{of_member, text_read, held, misfit}
-use Rattle.oidc_claims.specs.Claims.{fault_of_kind, fault_at, same_tag, judged, with_value, variants, unless_empty, is_nil}
+use Rattle.oidc_claims.specs.Claims.{fault_of_kind, fault_at, same_tag, with_value, variants, unless_empty, is_nil}
 use Rattle.oidc_claims.specs.Written.{with_tag, variant_member, variant_members}
 use Rattle.oidc_claims.specs.RoundTrip.{IsTag, AreTagged, HasVariants}
 use Rattle.oidc_claims.proofs.Standing.{read_with}

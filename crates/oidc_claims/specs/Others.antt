@@ -2,7 +2,7 @@
 use Rattle.std.specs.Prelude.{◌≡◌, List, [], map, Bool, true, false, refl, Result, Ok}
 use Rattle.std.specs.Coded.{Coded, coded_list, code_by}
 use Rattle.std.proofs.Math.Bool.{Bool-set}
-use Rattle.std.proofs.Common.{subst, sym, ap, ◌∙◌}
+use Rattle.std.proofs.Common.{subst, sym, ◌∙◌}
 use Rattle.std.proofs.lemmas.Bool.{true≢false}
 use Rattle.oidc_members.specs.Seen.{SeenMember, OutSeen}
 use Rattle.oidc_members.specs.SeenCode.{out_seen_code}

@@ -1,12 +1,11 @@
 -- Equality of addresses and of standard claims is symmetric and transitive.
-use Rattle.std.specs.Prelude.{◌≡◌, ℕ, List, Option, Some, None, Bool, true, false, refl, nat_eq}
+use Rattle.std.specs.Prelude.{◌≡◌, Option, Some, None, Bool, true, refl, nat_eq}
 use Rattle.std.specs.Bool.{beq}
 use Rattle.std.specs.Ordering.{int_eq}
 use Rattle.std.specs.Option.{option_eq}
 use Rattle.std.specs.FinMap as finite
 use Rattle.std.specs.Cmp.{IsPartialEquivalence, IsEquivalence, partial_equiv_from_equiv, and_per, on_per, and_equiv, on_equiv, nat_eq_equiv, int_eq_equiv, bool_eq_equiv}
 use Rattle.std.specs.Cmp.Lexicographic.{pointwise, lists_equiv, options_equiv}
-use Rattle.oidc_claims.specs.Seen.{SeenClaims}
 use Rattle.oidc_claims.specs.SameClaims.{same_text, same_localized, same_address, same_names, same_pages, same_person, same_rest, same_claims}
 
 texts : IsEquivalence (pointwise nat_eq)

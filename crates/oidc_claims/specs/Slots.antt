@@ -1,5 +1,5 @@
 -- What the reader of a claim keeps, after the members of that claim that came.
-use Rattle.std.specs.Prelude.{ℕ, not, List, Bool, Option, Result, fold}
+use Rattle.std.specs.Prelude.{not, List, Bool, Result, fold}
 use Rattle.std.specs.FinMap as finite
 use Rattle.oidc_types.specs.Variants.{Variants}
 use Rattle.oidc_members.specs.Seen.{SeenMember}
