@@ -7,11 +7,6 @@ use Rattle.oidc_members.specs.declared.refusal.ParseError.TheVariants as ParseEr
 use Rattle.oidc_readers.specs.declared.passes.PlacedError.{PlacedError}
 use Rattle.oidc_readers.specs.declared.passes.PlacedError.TheVariants.{Refused, Memory}
 
--- the first of two refusals
-abbrev pub first_of : Option Refusal → Option Refusal → Option Refusal
-first_of (Some refusal) other = Some refusal
-first_of None other = other
-
 -- a fault at a place, or else what comes later
 abbrev pub placed : Option Refusal → ℕ → Option (ℕ × Refusal) → Option (ℕ × Refusal)
 placed (Some refusal) place later = Some (place, refusal)

@@ -3,11 +3,10 @@
 mod generated;
 mod plain;
 
+use crate::claim::Claim;
 use crate::{AddressClaim, PlacedError, StandardClaims, read_standard};
 use oidc_members::{Members, ParseError};
-use oidc_types::{
-    AddressCountry, CoreGenderClaim, LanguageTag, LocalizedClaim, Marker, SubjectIdentifier, Text,
-};
+use oidc_types::{AddressCountry, CoreGenderClaim, LanguageTag, Marker, SubjectIdentifier, Text};
 use std::alloc::{AllocError, Global};
 use std::test::Fail;
 
@@ -195,18 +194,28 @@ fn nulls_are_absent(rt: HostRuntime) -> Result<(), Fail> {
     Ok(())
 }
 
+// The name at a tag.
+fn name_at<'a>(claims: &'a Claims, tag: Option<&LanguageTag>) -> Option<&'a str> {
+    Some(claims.name()?.get(tag)?.as_str())
+}
+
+fn count_names(claims: &Claims) -> usize {
+    match claims.name() {
+        Some(name) => name.iter().count(),
+        None => 0,
+    }
+}
+
 #[test]
 fn variants_stand_by_their_tags(rt: HostRuntime) -> Result<(), Fail> {
-    let alloc = rt.alloc();
     let claims = read(
-        alloc,
+        rt.alloc(),
         r#"{"sub":"a","name#de":"x","name#":"y","name#b":null,"zz":1}"#,
     )?;
-    let name = claims.name().ok_or("a name")?;
-    let tag: LanguageTag = text(alloc, "de")?;
-    assert_eq!(rt; name.get(Some(&tag)).ok_or("a variant")?.as_str(), "x");
-    assert_eq!(rt; name.get(None).ok_or("the untagged one")?.as_str(), "y");
-    assert_eq!(rt; name.iter().count(), 2);
+    let tag: LanguageTag = text(rt.alloc(), "de")?;
+    assert_eq!(rt; name_at(&claims, Some(&tag)), Some("x"));
+    assert_eq!(rt; name_at(&claims, None), Some("y"));
+    assert_eq!(rt; count_names(&claims), 2);
     Ok(())
 }
 
@@ -218,59 +227,63 @@ const FULL: &str = r#"{"updated_at":1311280970,"address":{"formatted":"f","stree
 "nickname":"n","middle_name":"m","family_name":"Doe","given_name":"Jane","name":"Jane Doe",
 "sub":"248289761001"}"#;
 
-// The texts that the getters give, in the order of the table.
-fn texts_of<'a>(claims: &'a Claims) -> Option<[&'a str; 17]> {
-    Some([
-        claims.subject().as_str(),
-        claims.name()?.get(None)?.as_str(),
-        claims.given_name()?.get(None)?.as_str(),
-        claims.family_name()?.get(None)?.as_str(),
-        claims.middle_name()?.get(None)?.as_str(),
-        claims.nickname()?.get(None)?.as_str(),
-        claims.preferred_username()?.as_str(),
-        claims.profile()?.get(None)?.as_str(),
-        claims.picture()?.get(None)?.as_str(),
-        claims.website()?.get(None)?.as_str(),
-        claims.email()?.as_str(),
-        claims.gender()?.as_str(),
-        claims.birthday()?.as_str(),
-        claims.birthdate()?.as_str(),
-        claims.zoneinfo()?.as_str(),
-        claims.locale()?.as_str(),
-        claims.phone_number()?.as_str(),
-    ])
+// The text that a getter gives, the untagged one of a claim in several languages, and the country of
+// the address.
+fn text_at(claims: &Claims, claim: Claim) -> Option<&str> {
+    match claim {
+        Claim::Subject => Some(claims.subject().as_str()),
+        Claim::Name => Some(claims.name()?.get(None)?.as_str()),
+        Claim::GivenName => Some(claims.given_name()?.get(None)?.as_str()),
+        Claim::FamilyName => Some(claims.family_name()?.get(None)?.as_str()),
+        Claim::MiddleName => Some(claims.middle_name()?.get(None)?.as_str()),
+        Claim::Nickname => Some(claims.nickname()?.get(None)?.as_str()),
+        Claim::PreferredUsername => Some(claims.preferred_username()?.as_str()),
+        Claim::Profile => Some(claims.profile()?.get(None)?.as_str()),
+        Claim::Picture => Some(claims.picture()?.get(None)?.as_str()),
+        Claim::Website => Some(claims.website()?.get(None)?.as_str()),
+        Claim::Email => Some(claims.email()?.as_str()),
+        Claim::Gender => Some(claims.gender()?.as_str()),
+        Claim::Birthday => Some(claims.birthday()?.as_str()),
+        Claim::Birthdate => Some(claims.birthdate()?.as_str()),
+        Claim::Zoneinfo => Some(claims.zoneinfo()?.as_str()),
+        Claim::Locale => Some(claims.locale()?.as_str()),
+        Claim::PhoneNumber => Some(claims.phone_number()?.as_str()),
+        Claim::Address => Some(claims.address()?.country.as_ref()?.as_str()),
+        Claim::EmailVerified | Claim::PhoneNumberVerified | Claim::UpdatedAt => None,
+    }
 }
 
-const FULL_TEXTS: [&str; 17] = [
-    "248289761001",
-    "Jane Doe",
-    "Jane",
-    "Doe",
-    "m",
-    "n",
-    "j.doe",
-    "o",
-    "i",
-    "w",
-    "janedoe@example.com",
-    "female",
-    "1990",
-    "1990-12-31",
-    "Europe/Paris",
-    "en-US",
-    "+1 (310) 123-4567",
+const FULL_TEXTS: [(Claim, &str); 18] = [
+    (Claim::Subject, "248289761001"),
+    (Claim::Name, "Jane Doe"),
+    (Claim::GivenName, "Jane"),
+    (Claim::FamilyName, "Doe"),
+    (Claim::MiddleName, "m"),
+    (Claim::Nickname, "n"),
+    (Claim::PreferredUsername, "j.doe"),
+    (Claim::Profile, "o"),
+    (Claim::Picture, "i"),
+    (Claim::Website, "w"),
+    (Claim::Email, "janedoe@example.com"),
+    (Claim::Gender, "female"),
+    (Claim::Birthday, "1990"),
+    (Claim::Birthdate, "1990-12-31"),
+    (Claim::Zoneinfo, "Europe/Paris"),
+    (Claim::Locale, "en-US"),
+    (Claim::PhoneNumber, "+1 (310) 123-4567"),
+    (Claim::Address, "c"),
 ];
 
 #[test]
 fn getters_give_the_claims(rt: HostRuntime) -> Result<(), Fail> {
     let claims = read(rt.alloc(), FULL)?;
-    assert!(rt; texts_of(&claims) == Some(FULL_TEXTS));
+    for (claim, want) in FULL_TEXTS {
+        assert_eq!(rt; text_at(&claims, claim), Some(want), "{want}");
+    }
     assert_eq!(rt; claims.email_verified(), Some(true));
     assert_eq!(rt; claims.phone_number_verified(), Some(false));
-    let moment = claims.updated_at().ok_or("a moment")?;
-    assert_eq!(rt; moment.as_second(), 1_311_280_970);
-    let address = claims.address().ok_or("an address")?;
-    assert_eq!(rt; address.country.as_ref().ok_or("a country")?.as_str(), "c");
+    let moment = claims.updated_at().map(|moment| moment.as_second());
+    assert_eq!(rt; moment, Some(1_311_280_970));
     Ok(())
 }
 
@@ -299,35 +312,37 @@ fn without_claims(claims: Claims) -> Claims {
 }
 
 #[test]
-fn setters_and_copies(rt: HostRuntime) -> Result<(), Fail> {
-    let alloc = rt.alloc();
-    let full = read(alloc, FULL)?;
-    let copy = full.clone_in(alloc)?;
+fn a_copy_equals_its_source(rt: HostRuntime) -> Result<(), Fail> {
+    let full = read(rt.alloc(), FULL)?;
+    let copy = full.clone_in(rt.alloc())?;
     assert!(rt; copy == full);
-    let changed = copy.set_email_verified(Some(false));
-    assert!(rt; changed != full);
-    assert!(rt; changed.set_email_verified(Some(true)) == full);
-    let subject: SubjectIdentifier = text(alloc, "b")?;
-    let bare: Claims = StandardClaims::new(subject.clone_in(alloc)?);
-    assert!(rt; without_claims(full).set_subject(subject) == bare);
+    assert!(rt; copy.set_email_verified(Some(false)) != full);
     Ok(())
 }
 
 #[test]
-fn addresses(rt: HostRuntime) -> Result<(), Fail> {
-    let alloc = rt.alloc();
-    let country: AddressCountry = text(alloc, "c")?;
-    let address = AddressClaim {
+fn setters_change_their_claims(rt: HostRuntime) -> Result<(), Fail> {
+    let bare: Claims = StandardClaims::new(text(rt.alloc(), "b")?);
+    let subject: SubjectIdentifier = text(rt.alloc(), "b")?;
+    let full = read(rt.alloc(), FULL)?;
+    assert!(rt; without_claims(full).set_subject(subject) == bare);
+    Ok(())
+}
+
+fn of_country(country: AddressCountry) -> AddressClaim {
+    AddressClaim {
         country: Some(country),
         ..AddressClaim::default()
-    };
-    let copy = address.clone_in(alloc)?;
+    }
+}
+
+#[test]
+fn addresses(rt: HostRuntime) -> Result<(), Fail> {
+    let address = of_country(text(rt.alloc(), "c")?);
+    let copy = address.clone_in(rt.alloc())?;
     assert!(rt; copy == address && copy != AddressClaim::default());
-    let claims = read(
-        alloc,
-        r#"{"sub":"a","address":{"region":null,"country":"c"}}"#,
-    )?;
-    assert!(rt; claims.address() == Some(&address));
+    let text = r#"{"sub":"a","address":{"region":null,"country":"c"}}"#;
+    assert!(rt; read(rt.alloc(), text)?.address() == Some(&address));
     Ok(())
 }
 
@@ -343,10 +358,8 @@ fn many(alloc: Global, last: &str) -> Result<String, Fail> {
 
 #[test]
 fn many_variants(rt: HostRuntime) -> Result<(), Fail> {
-    let alloc = rt.alloc();
-    let claims = read(alloc, many(alloc, "}")?.as_str())?;
-    let name: &LocalizedClaim<_> = claims.name().ok_or("a name")?;
-    assert_eq!(rt; name.iter().count(), 300_000);
+    let claims = read(rt.alloc(), many(rt.alloc(), "}")?.as_str())?;
+    assert_eq!(rt; count_names(&claims), 300_000);
     Ok(())
 }
 

@@ -53,7 +53,7 @@ impl Choices {
         }
     }
 
-    fn one<'a>(&mut self, texts: &[&'a str]) -> &'a str {
+    fn one(&mut self, texts: &[&'static str]) -> &'static str {
         match texts.get(self.below(texts.len())) {
             Some(text) => text,
             None => "",
@@ -61,7 +61,7 @@ impl Choices {
     }
 
     // A value, mostly one of that kind.
-    fn value<'a>(&mut self, kind: ClaimKind) -> &'a str {
+    fn value(&mut self, kind: ClaimKind) -> &'static str {
         if self.below(8) == 0 {
             return self.one(&OTHERS);
         }
