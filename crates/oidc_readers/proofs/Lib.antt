@@ -1,0 +1,6 @@
+pub mod First
+pub mod Parts
+pub mod ReadBack
+pub mod Scans
+pub mod Values
+pub mod WrittenBack
