@@ -1,0 +1,12 @@
+pub mod Apart
+pub mod Homes
+pub mod Kept
+pub mod Moves
+pub mod Parts
+pub mod ReadsBack
+pub mod Seconds
+pub mod SplitBack
+pub mod Standing
+pub mod Steps
+pub mod Tags
+pub mod VariantsBack

@@ -1,0 +1,185 @@
+// The table of the standard claims.
+ghost use Rattle.std.specs.Prelude.{◌≡◌};
+ghost use Rattle.oidc_claims.specs.Table.{name_of, is_localized, is_optional, kind_of, claim_of, base_of};
+
+use crate::name::base_of_name;
+use oidc_members::Member;
+
+/// A standard claim (OpenID Connect Core 1.0 section 5.1).
+#[derive(Clone, Copy, Debug, Drop, PartialEq, Eq)]
+pub(crate) enum Claim {
+    /// `sub`
+    Subject,
+    /// `name`
+    Name,
+    /// `given_name`
+    GivenName,
+    /// `family_name`
+    FamilyName,
+    /// `middle_name`
+    MiddleName,
+    /// `nickname`
+    Nickname,
+    /// `preferred_username`
+    PreferredUsername,
+    /// `profile`
+    Profile,
+    /// `picture`
+    Picture,
+    /// `website`
+    Website,
+    /// `email`
+    Email,
+    /// `email_verified`
+    EmailVerified,
+    /// `gender`
+    Gender,
+    /// `birthday`
+    Birthday,
+    /// `birthdate`
+    Birthdate,
+    /// `zoneinfo`
+    Zoneinfo,
+    /// `locale`
+    Locale,
+    /// `phone_number`
+    PhoneNumber,
+    /// `phone_number_verified`
+    PhoneNumberVerified,
+    /// `address`
+    Address,
+    /// `updated_at`
+    UpdatedAt,
+}
+
+/// What a claim's value is.
+#[derive(Clone, Copy, Debug, Drop, PartialEq, Eq)]
+pub(crate) enum ClaimKind {
+    /// A text.
+    Text,
+    /// True or false.
+    Flag,
+    /// A whole number of seconds since the Unix epoch.
+    Moment,
+    /// An object of texts (OpenID Connect Core 1.0 section 5.1.1).
+    Address,
+    /// What the caller's `GenderClaim` reads.
+    Gender,
+}
+
+impl Claim {
+    /// Every claim, in the order in which they are written.
+    pub const ALL: [Claim; 21] = [
+        Claim::Subject,
+        Claim::Name,
+        Claim::GivenName,
+        Claim::FamilyName,
+        Claim::MiddleName,
+        Claim::Nickname,
+        Claim::PreferredUsername,
+        Claim::Profile,
+        Claim::Picture,
+        Claim::Website,
+        Claim::Email,
+        Claim::EmailVerified,
+        Claim::Gender,
+        Claim::Birthday,
+        Claim::Birthdate,
+        Claim::Zoneinfo,
+        Claim::Locale,
+        Claim::PhoneNumber,
+        Claim::PhoneNumberVerified,
+        Claim::Address,
+        Claim::UpdatedAt,
+    ];
+
+    /// The name of its member.
+    pub fn name(self) -> &'static str
+        ensures { result.now ≡ name_of self }
+    {
+        match self {
+            Claim::Subject => "sub",
+            Claim::Name => "name",
+            Claim::GivenName => "given_name",
+            Claim::FamilyName => "family_name",
+            Claim::MiddleName => "middle_name",
+            Claim::Nickname => "nickname",
+            Claim::PreferredUsername => "preferred_username",
+            Claim::Profile => "profile",
+            Claim::Picture => "picture",
+            Claim::Website => "website",
+            Claim::Email => "email",
+            Claim::EmailVerified => "email_verified",
+            Claim::Gender => "gender",
+            Claim::Birthday => "birthday",
+            Claim::Birthdate => "birthdate",
+            Claim::Zoneinfo => "zoneinfo",
+            Claim::Locale => "locale",
+            Claim::PhoneNumber => "phone_number",
+            Claim::PhoneNumberVerified => "phone_number_verified",
+            Claim::Address => "address",
+            Claim::UpdatedAt => "updated_at",
+        }
+    }
+
+    /// Whether it may be absent or null. `sub` alone may not.
+    pub fn is_optional(self) -> bool
+        ensures { result ≡ is_optional self }
+    {
+        !matches!(self, Claim::Subject)
+    }
+
+    /// Whether it may stand in several languages (OpenID Connect Core 1.0 section 5.2).
+    pub fn is_localized(self) -> bool
+        ensures { result ≡ is_localized self }
+    {
+        matches!(
+            self,
+            Claim::Name
+                | Claim::GivenName
+                | Claim::FamilyName
+                | Claim::MiddleName
+                | Claim::Nickname
+                | Claim::Profile
+                | Claim::Picture
+                | Claim::Website
+        )
+    }
+
+    /// What its value is.
+    pub fn kind(self) -> ClaimKind
+        ensures { result ≡ kind_of self }
+    {
+        match self {
+            Claim::EmailVerified | Claim::PhoneNumberVerified => ClaimKind::Flag,
+            Claim::UpdatedAt => ClaimKind::Moment,
+            Claim::Address => ClaimKind::Address,
+            Claim::Gender => ClaimKind::Gender,
+            _ => ClaimKind::Text,
+        }
+    }
+
+    /// The claim that a base names, if it names one.
+    pub fn of_base(base: &str) -> Option<Claim>
+        ensures { result ≡ claim_of base.now }
+    {
+        Claim::ALL
+            .iter()
+            .copied()
+            .find(|claim| claim.name() == base)
+    }
+
+    /// The claim that a member's name is of: that of its base, whatever its tag.
+    pub fn of_name(name: &str) -> Option<Claim>
+        ensures { result ≡ claim_of (base_of name.now) }
+    {
+        Claim::of_base(base_of_name(name))
+    }
+
+    // The claim that a member is of.
+    pub(crate) fn of_member(member: &Member) -> Option<Claim>
+        ensures { result ≡ claim_of (base_of member.now.name) }
+    {
+        Claim::of_name(member.name())
+    }
+}

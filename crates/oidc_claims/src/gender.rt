@@ -1,0 +1,80 @@
+//! The claim `gender` (OpenID Connect Core 1.0 section 5.1).
+
+ghost use Rattle.std.specs.Prelude.{◌≡◌, Result, IfOk};
+ghost use Rattle.serde_json.specs.Data.{Data};
+ghost use Rattle.serde_json.specs.View.{view};
+ghost use Rattle.oidc_members.specs.Answers.{Answers};
+ghost use Rattle.oidc_members.specs.Seen.{SeenMember};
+ghost use Rattle.oidc_members.specs.declared.refusal.Refusal.{Refusal};
+ghost use Rattle.oidc_claims.specs.Gender.{GenderReadsBack, GenderIsValue};
+
+use oidc_members::{Member, ParseError, ParseKind, Refusal};
+use oidc_types::CoreGenderClaim;
+use serde_json::Value;
+use std::alloc::{AllocError, Global};
+
+/// What a user's gender is told by. A value's meanings are what a member reads as, and what the
+/// value is written as.
+///
+/// It may be let go, so that code which is generic over it can drop what it read.
+pub trait GenderClaim: Drop {
+    // What a member of this claim reads as, or why it is refused.
+    ghost read_of: { SeenMember → Result Self Refusal };
+
+    // The value that is written.
+    ghost write_of: { Self → Data };
+
+    /// Reads the value of the member. It is not asked about a null, which stands for an absent
+    /// claim. The answer is the meaning, with the kind and the field that it names, or `Memory`.
+    fn read(alloc: Global, member: &Member) -> Result<Self, ParseError>
+        ensures answer { Answers (read_of member.now) result };
+
+    /// The value that stands for this one. `AllocError` is want of memory, the one error.
+    fn write(&self, alloc: Global) -> Result<Value, AllocError>
+        ensures value { IfOk result (λ value. view value ≡ write_of self.now) };
+
+    /// A copy, which equals its source. `AllocError` is want of memory, the one error.
+    fn clone_in(&self, alloc: Global) -> Result<Self, AllocError>
+        ensures copy { IfOk result (λ copy. copy ≡ self.now) };
+
+    // What is written reads back, in each member that has it as its value.
+    ghost reads_back: { GenderReadsBack read_of write_of };
+
+    // What is written isn't null, and is one that a member may have.
+    ghost written_is_value: { GenderIsValue write_of };
+}
+
+/// A text, kept as it is given. Another value is refused as `WrongType` of the member's name.
+impl GenderClaim for CoreGenderClaim {
+    ghost use Rattle.std.proofs.Common.{ap, refl, lit≤};
+    ghost use Rattle.serde_json.specs.Find.{as_str};
+    ghost use Rattle.serde_json.specs.Data.{string};
+    ghost use Rattle.oidc_claims.specs.Kinds.{text_read, or_refused, of_member};
+    ghost use Rattle.oidc_members.specs.declared.refusal.ParseKind.TheVariants.{WrongType};
+
+    ghost read_of = { text_read };
+
+    ghost write_of = { string };
+
+    ghost reads_back = { λ _ member is. ap (λ value. or_refused (as_str value) (of_member WrongType member)) is };
+
+    ghost written_is_value = { λ _. (λ e. Prim.cc, (refl, lit≤ tt)) };
+
+    fn read(alloc: Global, member: &Member) -> Result<CoreGenderClaim, ParseError> {
+        match member.value() {
+            Value::String(text) => {
+                let text = String::from_str(alloc, text.as_str())?;
+                Ok(CoreGenderClaim::new(text))
+            }
+            _ => Err(Refusal::of_field(alloc, ParseKind::WrongType, member.name())?.into()),
+        }
+    }
+
+    fn write(&self, alloc: Global) -> Result<Value, AllocError> {
+        Ok(Value::String(String::from_str(alloc, self.as_str())?))
+    }
+
+    fn clone_in(&self, alloc: Global) -> Result<CoreGenderClaim, AllocError> {
+        self.clone_in(alloc)
+    }
+}

@@ -1,0 +1,244 @@
+//! The standard claims, written as members.
+
+ghost use Rattle.std.specs.Prelude.{◌≡◌, ◌++◌, Some, IfOk, OnOk, option_map};
+ghost use Rattle.std.specs.String.{string_bytes};
+ghost use Rattle.std.specs.Option.{option_copied};
+ghost use Rattle.serde_json.specs.Data.{string, boolean};
+ghost use Rattle.serde_json.specs.View.{view, members_view};
+ghost use Rattle.oidc_claims.specs.Table.{name_of};
+ghost use Rattle.oidc_claims.specs.Written.{written, claim_members, plain_member, variant_members, with_tag, address_data, seconds_data};
+ghost use Rattle.oidc_claims.specs.PutParts.{put_part};
+
+use crate::claim::Claim;
+use crate::claims::{AddressClaim, StandardClaims};
+use crate::gender::GenderClaim;
+use jiff::Timestamp;
+use oidc_members::{FieldName, OutMember};
+use oidc_types::{LanguageTag, LocalizedClaim, Marker, Text};
+use serde_json::{Map, Value};
+use std::alloc::{AllocError, Global};
+
+/// The standard claims as members: in the order of the table in OpenID Connect Core 1.0 section 5.1
+/// as [`Claim::ALL`] has it, absent claims left out. The variants of a claim stand in the order of
+/// `iter`, a tag behind a `#` (section 5.2). Moments are whole seconds, rounded down. The members of
+/// `address` stand in the byte order of their names. `AllocError` is want of memory, the one error.
+pub fn write_standard<GC: GenderClaim>(
+    alloc: Global,
+    claims: &StandardClaims<GC>,
+) -> Result<Vec<OutMember>, AllocError>
+    ensures members { IfOk result (λ out. out.items ≡ written GC.write_of claims.now) }
+{
+    let mut out = Vec::new(alloc);
+    for claim in Claim::ALL {
+        write_claim(alloc, &mut out, claim, claims)?;
+    }
+    Ok(out)
+}
+
+// Appends the members of one claim.
+fn write_claim<GC: GenderClaim>(
+    alloc: Global,
+    out: &mut Vec<OutMember>,
+    claim: Claim,
+    claims: &StandardClaims<GC>,
+) -> Result<(), AllocError>
+    ensures { OnOk result (out.new.items ≡ out.old.items ++ claim_members GC.write_of claims.now claim) }
+{
+    match claim {
+        Claim::Subject => write_text(alloc, out, claim, Some(&claims.subject)),
+        Claim::Name => write_variants(alloc, out, claim, claims.name.as_ref()),
+        Claim::GivenName => write_variants(alloc, out, claim, claims.given_name.as_ref()),
+        Claim::FamilyName => write_variants(alloc, out, claim, claims.family_name.as_ref()),
+        Claim::MiddleName => write_variants(alloc, out, claim, claims.middle_name.as_ref()),
+        Claim::Nickname => write_variants(alloc, out, claim, claims.nickname.as_ref()),
+        Claim::PreferredUsername => {
+            write_text(alloc, out, claim, claims.preferred_username.as_ref())
+        }
+        Claim::Profile => write_variants(alloc, out, claim, claims.profile.as_ref()),
+        Claim::Picture => write_variants(alloc, out, claim, claims.picture.as_ref()),
+        Claim::Website => write_variants(alloc, out, claim, claims.website.as_ref()),
+        Claim::Email => write_text(alloc, out, claim, claims.email.as_ref()),
+        Claim::EmailVerified => write_flag(alloc, out, claim, claims.email_verified),
+        Claim::Gender => write_gender(alloc, out, claim, claims.gender.as_ref()),
+        Claim::Birthday => write_text(alloc, out, claim, claims.birthday.as_ref()),
+        Claim::Birthdate => write_text(alloc, out, claim, claims.birthdate.as_ref()),
+        Claim::Zoneinfo => write_text(alloc, out, claim, claims.zoneinfo.as_ref()),
+        Claim::Locale => write_text(alloc, out, claim, claims.locale.as_ref()),
+        Claim::PhoneNumber => write_text(alloc, out, claim, claims.phone_number.as_ref()),
+        Claim::PhoneNumberVerified => write_flag(alloc, out, claim, claims.phone_number_verified),
+        Claim::Address => write_address(alloc, out, claim, claims.address.as_ref()),
+        Claim::UpdatedAt => write_moment(alloc, out, claim, claims.updated_at),
+    }
+}
+
+// ---- claims of each kind
+
+fn write_text<M: Marker>(
+    alloc: Global,
+    out: &mut Vec<OutMember>,
+    claim: Claim,
+    text: Option<&Text<M>>,
+) -> Result<(), AllocError>
+    ensures { OnOk result (out.new.items ≡ out.old.items ++ plain_member claim (option_map string (option_copied text.entry))) }
+{
+    match text {
+        None => Ok(()),
+        Some(text) => push(alloc, out, claim, text_value(alloc, text.as_str())?),
+    }
+}
+
+fn write_variants<M: Marker>(
+    alloc: Global,
+    out: &mut Vec<OutMember>,
+    claim: Claim,
+    variants: Option<&LocalizedClaim<Text<M>>>,
+) -> Result<(), AllocError>
+    ensures { OnOk result (out.new.items ≡ out.old.items ++ variant_members claim (option_copied variants.entry)) }
+{
+    match variants {
+        None => Ok(()),
+        Some(variants) => {
+            for (tag, text) in variants.iter() {
+                let name = FieldName::new(tagged_name(alloc, claim, tag)?);
+                let variant = OutMember {
+                    name,
+                    value: text_value(alloc, text.as_str())?,
+                };
+                out.push(variant)?;
+            }
+            Ok(())
+        }
+    }
+}
+
+fn write_flag(
+    alloc: Global,
+    out: &mut Vec<OutMember>,
+    claim: Claim,
+    flag: Option<bool>,
+) -> Result<(), AllocError>
+    ensures { OnOk result (out.new.items ≡ out.old.items ++ plain_member claim (option_map boolean flag)) }
+{
+    match flag {
+        None => Ok(()),
+        Some(flag) => push(alloc, out, claim, Value::Bool(flag)),
+    }
+}
+
+fn write_gender<GC: GenderClaim>(
+    alloc: Global,
+    out: &mut Vec<OutMember>,
+    claim: Claim,
+    gender: Option<&GC>,
+) -> Result<(), AllocError>
+    ensures { OnOk result (out.new.items ≡ out.old.items ++ plain_member claim (option_map GC.write_of (option_copied gender.entry))) }
+{
+    match gender {
+        None => Ok(()),
+        Some(gender) => push(alloc, out, claim, gender.write(alloc)?),
+    }
+}
+
+fn write_address(
+    alloc: Global,
+    out: &mut Vec<OutMember>,
+    claim: Claim,
+    address: Option<&AddressClaim>,
+) -> Result<(), AllocError>
+    ensures { OnOk result (out.new.items ≡ out.old.items ++ plain_member claim (option_map address_data (option_copied address.entry))) }
+{
+    match address {
+        None => Ok(()),
+        Some(address) => push(alloc, out, claim, address_value(alloc, address)?),
+    }
+}
+
+fn write_moment(
+    alloc: Global,
+    out: &mut Vec<OutMember>,
+    claim: Claim,
+    moment: Option<Timestamp>,
+) -> Result<(), AllocError>
+    ensures { OnOk result (out.new.items ≡ out.old.items ++ plain_member claim (option_map (λ moment. seconds_data moment.nanosecond) moment)) }
+{
+    match moment {
+        None => Ok(()),
+        Some(moment) => push(alloc, out, claim, seconds_value(moment)),
+    }
+}
+
+// ---- names and values
+
+// Appends a member without a tag.
+fn push(
+    alloc: Global,
+    out: &mut Vec<OutMember>,
+    claim: Claim,
+    value: Value,
+) -> Result<(), AllocError>
+    ensures { OnOk result (out.new.items ≡ out.old.items ++ plain_member claim (Some (view value))) }
+{
+    let name = FieldName::new(tagged_name(alloc, claim, None)?);
+    out.push(OutMember { name, value })?;
+    Ok(())
+}
+
+// A claim's name, with its tag behind a `#`.
+fn tagged_name(alloc: Global, claim: Claim, tag: Option<&LanguageTag>) -> Result<String, AllocError>
+    ensures { IfOk result (λ name. string_bytes name ≡ with_tag (name_of claim) (option_copied tag.entry)) }
+{
+    let mut name = String::from_str(alloc, claim.name())?;
+    match tag {
+        None => Ok(name),
+        Some(tag) => {
+            name.push_str("#")?;
+            name.push_str(tag.as_str())?;
+            Ok(name)
+        }
+    }
+}
+
+fn text_value(alloc: Global, text: &str) -> Result<Value, AllocError>
+    ensures { IfOk result (λ value. view value ≡ string text.now) }
+{
+    Ok(Value::String(String::from_str(alloc, text)?))
+}
+
+// `as_second` rounds toward zero, so a moment before 1970 would be a second late.
+fn seconds_value(moment: Timestamp) -> Value
+    ensures { view result ≡ seconds_data moment.nanosecond }
+{
+    Value::from(moment.as_nanosecond().div_euclid(1_000_000_000) as i64)
+}
+
+fn address_value(alloc: Global, address: &AddressClaim) -> Result<Value, AllocError>
+    ensures { IfOk result (λ value. view value ≡ address_data address.now) }
+{
+    let mut parts = Map::new(alloc);
+    insert_part(alloc, &mut parts, "street_address", &address.street_address)?;
+    insert_part(alloc, &mut parts, "region", &address.region)?;
+    insert_part(alloc, &mut parts, "postal_code", &address.postal_code)?;
+    insert_part(alloc, &mut parts, "locality", &address.locality)?;
+    insert_part(alloc, &mut parts, "formatted", &address.formatted)?;
+    insert_part(alloc, &mut parts, "country", &address.country)?;
+    Ok(Value::Object(parts))
+}
+
+fn insert_part<M: Marker>(
+    alloc: Global,
+    parts: &mut Map<String, Value>,
+    name: &str,
+    part: &Option<Text<M>>,
+) -> Result<(), AllocError>
+    ensures { OnOk result (members_view parts.new.entries ≡ put_part name.now part.now (members_view parts.old.entries)) }
+{
+    match part {
+        None => Ok(()),
+        Some(text) => {
+            let name = String::from_str(alloc, name)?;
+            let value = text_value(alloc, text.as_str())?;
+            parts.insert(name, value)?;
+            Ok(())
+        }
+    }
+}
