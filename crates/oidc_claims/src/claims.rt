@@ -10,6 +10,8 @@ mod copies;
 mod part;
 mod reader;
 mod slots;
+#[cfg(test)]
+mod tests;
 mod values;
 
 pub use crate::claims::address::AddressClaim;

@@ -13,6 +13,9 @@ use oidc_types::CoreGenderClaim;
 use serde_json::Value;
 use std::alloc::{AllocError, Global};
 
+#[cfg(test)]
+mod tests;
+
 /// What a user's gender is told by. A value's meanings are what a member reads as, and what the
 /// value is written as.
 ///

@@ -10,6 +10,9 @@ use oidc_members::{FieldName, Member, OutMember, ParseError};
 use std::alloc::{AllocError, Global};
 use std::marker::Model;
 
+#[cfg(test)]
+mod tests;
+
 /// All additional members, with their names and values in their order. Nothing is refused, and they
 /// are written as they were read.
 ///

@@ -18,6 +18,9 @@ use oidc_types::{LanguageTag, LocalizedClaim, Marker, Text};
 use serde_json::{Map, Value};
 use std::alloc::{AllocError, Global};
 
+#[cfg(test)]
+mod tests;
+
 /// The standard claims as members: in the order of the table in OpenID Connect Core 1.0 section 5.1
 /// as [`Claim::ALL`] has it, absent claims left out. The variants of a claim stand in the order of
 /// `iter`, a tag behind a `#` (section 5.2). Moments are whole seconds, rounded down. The members of
