@@ -56,6 +56,12 @@ fn with_endpoint(alloc: Global, client: Client, endpoint: &str) -> Result<Client
     Ok(client.set_token_uri(TokenUrl::new(alloc, text(alloc, endpoint)?)?))
 }
 
+// The client that the token is for, with this token endpoint. What is tried at a client stands in
+// functions that borrow it: the proof of a function that holds a client and goes on takes minutes.
+fn client_at(alloc: Global, endpoint: &str) -> Result<Client, Fail> {
+    with_endpoint(alloc, client(alloc)?, endpoint)
+}
+
 // What a begin with this state and nonce answers, as text.
 fn begun(alloc: Global, logins: &mut Logins<'_>, state: &str, nonce: &str) -> Result<String, Fail> {
     let state = CsrfToken::new(text(alloc, state)?);
@@ -155,8 +161,7 @@ fn signs_in_once(
 
 #[test]
 fn a_login_begins_and_signs_in_once(rt: HostRuntime) -> Result<(), Fail> {
-    let client = client(rt.alloc())?;
-    let client = with_endpoint(rt.alloc(), client, "https://example/token")?;
+    let client = client_at(rt.alloc(), "https://example/token")?;
     for (url, token) in LOGINS {
         signs_in_once(&rt, rt.alloc(), &client, url, token)?;
     }

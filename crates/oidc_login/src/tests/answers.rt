@@ -2,9 +2,11 @@
 //! departure from the plain answer it has (RFC 6749 section 5.1).
 
 use crate::tests::{
-    TOKEN, begun, client, client_of, plain, refusal, signs_in, transport, with_endpoint,
+    LOGINS, TOKEN, begun, client_at, client_of, plain, refusal, signs_in, transport, with_endpoint,
 };
-use crate::{Answer, Body, ClaimsVerificationError, HttpResponse, LoginError, Logins, Recorded};
+use crate::{
+    Answer, Body, ClaimsVerificationError, Client, HttpResponse, LoginError, Logins, Recorded,
+};
 use http::StatusCode;
 use http_header::{CONTENT_TYPE, HeaderValue};
 use std::alloc::Global;
@@ -133,11 +135,20 @@ fn response(alloc: Global, case: &Case) -> Result<HttpResponse, Fail> {
     Ok(response)
 }
 
-// Why a login with this answer signs nobody in. Its one request is handed over, and it is gone.
-fn verdict(rt: &impl Abort, alloc: Global, case: &Case) -> Result<Option<LoginError>, Fail> {
+// The client of a case.
+fn client_for(alloc: Global, case: &Case) -> Result<Client, Fail> {
     let client = client_of(alloc, "aaa", "bbb", case.issuer)?;
-    let client = with_endpoint(alloc, client, "https://example/token")?;
-    let mut logins = Logins::new(alloc, &client)?;
+    with_endpoint(alloc, client, "https://example/token")
+}
+
+// Why a login with this answer signs nobody in. Its one request is handed over, and it is gone.
+fn verdict(
+    rt: &impl Abort,
+    alloc: Global,
+    client: &Client,
+    case: &Case,
+) -> Result<Option<LoginError>, Fail> {
+    let mut logins = Logins::new(alloc, client)?;
     begun(alloc, &mut logins, "CSRF123", "NONCE456")?;
     let mut http = transport(alloc, Answer::Response(response(alloc, case)?))?;
     let found = refusal(&mut logins, "code=c1&state=CSRF123", &mut http)?;
@@ -146,19 +157,28 @@ fn verdict(rt: &impl Abort, alloc: Global, case: &Case) -> Result<Option<LoginEr
     Ok(found)
 }
 
+fn verdict_for(rt: &impl Abort, alloc: Global, case: &Case) -> Result<Option<LoginError>, Fail> {
+    let client = client_for(alloc, case)?;
+    verdict(rt, alloc, &client, case)
+}
+
 #[test]
 fn signs_in_by_plain_answers_alone(rt: HostRuntime) -> Result<(), Fail> {
     for case in CASES.iter() {
-        let found = verdict(&rt, rt.alloc(), case)?;
+        let found = verdict_for(&rt, rt.alloc(), case)?;
         assert_eq!(rt; found, case.wanted, "{}", case.what);
     }
     Ok(())
 }
 
 // A login whose request gets no response.
-fn is_unbuilt(rt: &impl Abort, alloc: Global, mut http: Recorded) -> Result<(), Fail> {
-    let client = with_endpoint(alloc, client(alloc)?, "https://example/token")?;
-    let mut logins = Logins::new(alloc, &client)?;
+fn is_unbuilt(
+    rt: &impl Abort,
+    alloc: Global,
+    client: &Client,
+    mut http: Recorded,
+) -> Result<(), Fail> {
+    let mut logins = Logins::new(alloc, client)?;
     begun(alloc, &mut logins, "CSRF123", "NONCE456")?;
     let found = refusal(&mut logins, "code=c1&state=CSRF123", &mut http)?;
     assert_eq!(rt; found, Some(LoginError::Unbuilt));
@@ -167,35 +187,61 @@ fn is_unbuilt(rt: &impl Abort, alloc: Global, mut http: Recorded) -> Result<(), 
     Ok(())
 }
 
+// A fault, and no answer at all.
+fn are_unbuilt(rt: &impl Abort, alloc: Global, client: &Client) -> Result<(), Fail> {
+    is_unbuilt(rt, alloc, client, transport(alloc, Answer::Fault)?)?;
+    is_unbuilt(rt, alloc, client, Recorded::new(alloc, Vec::new(alloc)))
+}
+
 #[test]
 fn a_faulted_request_spends_the_login(rt: HostRuntime) -> Result<(), Fail> {
-    let alloc = rt.alloc();
-    is_unbuilt(&rt, alloc, transport(alloc, Answer::Fault)?)?;
-    is_unbuilt(&rt, alloc, Recorded::new(alloc, Vec::new(alloc)))?;
+    let client = client_at(rt.alloc(), "https://example/token")?;
+    are_unbuilt(&rt, rt.alloc(), &client)
+}
+
+// Two logins.
+fn begin_two(rt: &impl Abort, alloc: Global, logins: &mut Logins<'_>) -> Result<(), Fail> {
+    begun(alloc, logins, "CSRF789", "NONCE789")?;
+    begun(alloc, logins, "CSRF123", "NONCE456")?;
+    assert_eq!(rt; logins.pending(), 2);
     Ok(())
 }
 
-// Two logins: the first gets a token with the nonce of the second, which signs in then.
-fn refuses_the_nonce_of_another(rt: &impl Abort, alloc: Global, token: &str) -> Result<(), Fail> {
-    let client = with_endpoint(alloc, client(alloc)?, "https://example/token")?;
-    let mut logins = Logins::new(alloc, &client)?;
-    begun(alloc, &mut logins, "CSRF789", "NONCE789")?;
-    begun(alloc, &mut logins, "CSRF123", "NONCE456")?;
-    assert_eq!(rt; logins.pending(), 2);
+// The first of the two gets a token with the nonce of the second.
+fn refuses_the_nonce_of_another(
+    rt: &impl Abort,
+    alloc: Global,
+    logins: &mut Logins<'_>,
+    token: &str,
+) -> Result<(), Fail> {
     let mut http = transport(alloc, plain(alloc, token)?)?;
-    let found = refusal(&mut logins, "code=c1&state=CSRF789", &mut http)?;
+    let found = refusal(logins, "code=c1&state=CSRF789", &mut http)?;
     assert_eq!(rt;
         found,
         Some(LoginError::Claims(ClaimsVerificationError::InvalidNonce))
     );
     assert!(rt; logins.is_pending("CSRF123") && !logins.is_pending("CSRF789"));
+    Ok(())
+}
+
+// The second of the two signs in after the first was refused.
+fn keeps_nonces_apart(
+    rt: &impl Abort,
+    alloc: Global,
+    client: &Client,
+    token: &str,
+) -> Result<(), Fail> {
+    let mut logins = Logins::new(alloc, client)?;
+    begin_two(rt, alloc, &mut logins)?;
+    refuses_the_nonce_of_another(rt, alloc, &mut logins, token)?;
     signs_in(rt, alloc, &mut logins, token)
 }
 
 #[test]
 fn each_login_has_its_own_nonce(rt: HostRuntime) -> Result<(), Fail> {
-    for case in CASES.iter().take(1) {
-        refuses_the_nonce_of_another(&rt, rt.alloc(), case.token)?;
+    let client = client_at(rt.alloc(), "https://example/token")?;
+    for (_, token) in LOGINS {
+        keeps_nonces_apart(&rt, rt.alloc(), &client, token)?;
     }
     Ok(())
 }

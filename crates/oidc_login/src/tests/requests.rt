@@ -1,6 +1,6 @@
 //! Which request a callback hands over, and which queries hand none over.
 
-use crate::tests::{begun, client, client_of, refusal, with_endpoint};
+use crate::tests::{begun, client_at, client_of, refusal, with_endpoint};
 use crate::{Client, LoginError, Logins, Recorded};
 use http_header::AUTHORIZATION;
 use std::alloc::Global;
@@ -18,17 +18,20 @@ fn called(rt: &impl Abort, alloc: Global, client: &Client) -> Result<Recorded, F
     Ok(http)
 }
 
+fn sends_to(rt: &impl Abort, alloc: Global, client: &Client, wanted: &str) -> Result<(), Fail> {
+    let http = called(rt, alloc, client)?;
+    assert_eq!(rt; http.requests().len(), 1);
+    for request in http.requests() {
+        assert_eq!(rt; request.address(), wanted);
+    }
+    Ok(())
+}
+
 // An address is the URL's own text (URL Standard, section 4.5: an empty path is written `/`).
 #[test]
 fn sends_to_the_text_of_the_url(rt: HostRuntime) -> Result<(), Fail> {
-    let alloc = rt.alloc();
-    let client = with_endpoint(alloc, client(alloc)?, "https://example")?;
-    let http = called(&rt, alloc, &client)?;
-    assert_eq!(rt; http.requests().len(), 1);
-    for request in http.requests() {
-        assert_eq!(rt; request.address(), "https://example/");
-    }
-    Ok(())
+    let client = client_at(rt.alloc(), "https://example")?;
+    sends_to(&rt, rt.alloc(), &client, "https://example/")
 }
 
 // How many bytes stand behind `https://example/` in an address, and how many requests are handed
@@ -43,14 +46,25 @@ fn address(alloc: Global, len: usize) -> Result<String, Fail> {
     Ok(address)
 }
 
+// How many requests a callback at this client hands over.
+fn sent(rt: &impl Abort, alloc: Global, client: &Client) -> Result<usize, Fail> {
+    Ok(called(rt, alloc, client)?.requests().len())
+}
+
+fn sent_to(rt: &impl Abort, alloc: Global, address: &str) -> Result<usize, Fail> {
+    let client = client_at(alloc, address)?;
+    sent(rt, alloc, &client)
+}
+
 #[test]
 fn sends_to_no_longer_address(rt: HostRuntime) -> Result<(), Fail> {
-    let alloc = rt.alloc();
     for (len, wanted) in ADDRESSES {
-        let address = address(alloc, len)?;
-        let client = with_endpoint(alloc, client(alloc)?, address.as_str())?;
-        let http = called(&rt, alloc, &client)?;
-        assert_eq!(rt; http.requests().len(), wanted, "{len}");
+        let address = address(rt.alloc(), len)?;
+        assert_eq!(rt;
+            sent_to(&rt, rt.alloc(), address.as_str())?,
+            wanted,
+            "{len}"
+        );
     }
     Ok(())
 }
@@ -62,14 +76,37 @@ const CREDENTIALS: [(&str, &str, &str); 2] = [
     ("a b", "c:d", "Basic YStiOmMlM0Fk"),
 ];
 
+// The client with these credentials.
+fn client_named(alloc: Global, id: &str, secret: &str) -> Result<Client, Fail> {
+    let client = client_of(alloc, id, secret, "https://example")?;
+    with_endpoint(alloc, client, "https://example/token")
+}
+
+// A callback at this client hands over a request with these credentials.
+fn sends_credentials(
+    rt: &impl Abort,
+    alloc: Global,
+    client: &Client,
+    wanted: &str,
+) -> Result<(), Fail> {
+    let http = called(rt, alloc, client)?;
+    assert!(rt; has_credentials(&http, wanted), "{wanted}");
+    Ok(())
+}
+
+fn sends_credentials_of(
+    rt: &impl Abort,
+    alloc: Global,
+    (id, secret, wanted): (&str, &str, &str),
+) -> Result<(), Fail> {
+    let client = client_named(alloc, id, secret)?;
+    sends_credentials(rt, alloc, &client, wanted)
+}
+
 #[test]
 fn sends_coded_credentials(rt: HostRuntime) -> Result<(), Fail> {
-    let alloc = rt.alloc();
-    for (id, secret, wanted) in CREDENTIALS {
-        let client = client_of(alloc, id, secret, "https://example")?;
-        let client = with_endpoint(alloc, client, "https://example/token")?;
-        let http = called(&rt, alloc, &client)?;
-        assert!(rt; has_credentials(&http, wanted), "{wanted}");
+    for case in CREDENTIALS {
+        sends_credentials_of(&rt, rt.alloc(), case)?;
     }
     Ok(())
 }
@@ -105,12 +142,12 @@ const QUERIES: [(&str, LoginError, usize); 8] = [
 fn refuses(
     rt: &impl Abort,
     alloc: Global,
+    client: &Client,
     query: &str,
     error: LoginError,
     pending: usize,
 ) -> Result<(), Fail> {
-    let client = with_endpoint(alloc, client(alloc)?, "https://example/token")?;
-    let mut logins = Logins::new(alloc, &client)?;
+    let mut logins = Logins::new(alloc, client)?;
     begun(alloc, &mut logins, "CSRF123", "NONCE456")?;
     let mut http = Recorded::new(alloc, Vec::new(alloc));
     assert_eq!(rt;
@@ -126,8 +163,9 @@ fn refuses(
 
 #[test]
 fn refuses_queries(rt: HostRuntime) -> Result<(), Fail> {
+    let client = client_at(rt.alloc(), "https://example/token")?;
     for (query, error, pending) in QUERIES {
-        refuses(&rt, rt.alloc(), query, error, pending)?;
+        refuses(&rt, rt.alloc(), &client, query, error, pending)?;
     }
     Ok(())
 }
