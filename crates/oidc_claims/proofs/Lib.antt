@@ -1,6 +1,7 @@
 pub mod Apart
 pub mod Homes
 pub mod Kept
+pub mod MayStand
 pub mod Moves
 pub mod Parts
 pub mod ReadsBack

@@ -1,14 +1,9 @@
 -- The claim `gender` (OpenID Connect Core 1.0 section 5.1), and the laws of a type that tells it.
-use Rattle.std.specs.Prelude.{◌≡◌, ◌≢◌, ◌≤◌, false, Result, Ok}
-use Rattle.serde_json.specs.Data.{Data, null, depth}
-use Rattle.serde_json.specs.Read.{max_depth}
-use Rattle.serde_json.specs.Written.{has_float}
+use Rattle.std.specs.Prelude.{◌≡◌, ◌≢◌, Result, Ok}
+use Rattle.serde_json.specs.Data.{Data, null}
 use Rattle.oidc_members.specs.Seen.{SeenMember}
 use Rattle.oidc_members.specs.declared.refusal.Refusal.{Refusal}
-
--- A member may have the value: it has no float, and nests at most 127 deep.
-abbrev pub MayStand : Data → Type 0
-MayStand value = (has_float value ≡ false) × (depth value ≤ max_depth)
+use Rattle.oidc_readers.specs.WrittenBack.{MayStand}
 
 module _ {Gender : Type 0} where
   -- what is written reads back, whatever the member's name and its text

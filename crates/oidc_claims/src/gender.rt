@@ -43,13 +43,14 @@ pub trait GenderClaim: Drop {
     // What is written reads back, in each member that has it as its value.
     ghost reads_back: { GenderReadsBack read_of write_of };
 
-    // What is written isn't null, and is one that a member may have.
+    // What is written isn't null, and its value may stand in an object: its numbers are whole, its
+    // objects in order, and it nests at most 127 deep.
     ghost written_is_value: { GenderIsValue write_of };
 }
 
 /// A text, kept as it is given. Another value is refused as `WrongType` of the member's name.
 impl GenderClaim for CoreGenderClaim {
-    ghost use Rattle.std.proofs.Common.{ap, refl, lit≤};
+    ghost use Rattle.std.proofs.Common.{ap, lit≤};
     ghost use Rattle.serde_json.specs.Find.{as_str};
     ghost use Rattle.serde_json.specs.Data.{string};
     ghost use Rattle.oidc_claims.specs.Kinds.{text_read, or_refused, of_member};
@@ -61,7 +62,7 @@ impl GenderClaim for CoreGenderClaim {
 
     ghost reads_back = { λ _ member is. ap (λ value. or_refused (as_str value) (of_member WrongType member)) is };
 
-    ghost written_is_value = { λ _. (λ e. Prim.cc, (refl, lit≤ tt)) };
+    ghost written_is_value = { λ _. (λ e. Prim.cc, (tt, lit≤ tt)) };
 
     fn read(alloc: Global, member: &Member) -> Result<CoreGenderClaim, ParseError> {
         match member.value() {

@@ -6,7 +6,7 @@ ghost use Rattle.std.specs.List.{All};
 ghost use Rattle.oidc_members.specs.Objects.{members_of};
 ghost use Rattle.oidc_members.specs.Seen.{SeenMember};
 ghost use Rattle.oidc_members.specs.Written.{object_text};
-ghost use Rattle.oidc_readers.specs.WrittenBack.{MayBeWritten};
+ghost use Rattle.oidc_readers.specs.WrittenBack.{IsUtf8Member};
 ghost use Rattle.oidc_claims.specs.Additional.{are_additional, out_of};
 ghost use Rattle.oidc_claims.specs.Others.{Others, list_of, read_others};
 ghost use Rattle.oidc_claims.specs.RoundTrip.{IsInRange};
@@ -17,11 +17,10 @@ ghost use Rattle.oidc_claims.specs.Written.{written};
 use crate::gender::GenderClaim;
 
 /// Claims that are written as an object's text are read back from it as equal claims. No claim in
-/// several languages may be without a value, no tag empty, and every moment is a whole second. What
-/// is written must be JSON that nests at most 127 deep; for claims of this program, whose texts are
-/// always UTF-8, that is a condition on what `GC` writes.
+/// several languages may be without a value, no tag empty, and every moment is a whole second. The
+/// texts of what is written must be UTF-8, as the texts of a program always are.
 pub fn written_claims_read_back<GC: GenderClaim>()
-    ensures { (claims : SeenClaims GC) → IsInRange claims → All MayBeWritten (written GC.write_of claims)
+    ensures { (claims : SeenClaims GC) → IsInRange claims → All IsUtf8Member (written GC.write_of claims)
         → option_map (claims_of GC.read_of) (members_of (object_text (written GC.write_of claims))) ≡ Some (Ok claims) }
 {}
 

@@ -21,9 +21,9 @@ use std::alloc::{AllocError, Global};
 #[cfg(test)]
 mod tests;
 
-/// The standard claims as members: in the order of the table in OpenID Connect Core 1.0 section 5.1
-/// as [`Claim::ALL`] has it, absent claims left out. The variants of a claim stand in the order of
-/// `iter`, a tag behind a `#` (section 5.2). Moments are whole seconds, rounded down. The members of
+/// The standard claims as members: in the order of the getters of [`StandardClaims`], which is that of
+/// the table in OpenID Connect Core 1.0 section 5.1, absent claims left out. The variants of a claim
+/// stand in the order of `iter`, a tag behind a `#` (section 5.2). Moments are whole seconds, rounded down. The members of
 /// `address` stand in the byte order of their names. `AllocError` is want of memory, the one error.
 pub fn write_standard<GC: GenderClaim>(
     alloc: Global,

@@ -1,4 +1,5 @@
 pub mod First
+pub mod JsonValues
 pub mod Parts
 pub mod ReadBack
 pub mod Scans

@@ -1,12 +1,11 @@
 -- The text of an object that was written is cut at the commas and colons that were written.
-use Rattle.std.proofs.Common.{◌≡◌, ℕ, zero, suc, ◌+◌, ◌-◌, ◌<◌, ◌≤◌, Bool, true, false, cond, eqb, ltb, ◌||◌, inl, inr, List, [], ◌∷◌, ◌++◌, length, take, drop, get_or, map, Option, Some, None, option_and_then, refl, sym, ap, ◌∙◌, subst, arith}
+use Rattle.std.proofs.Common.{◌≡◌, ℕ, ◌+◌, ◌-◌, ◌<◌, ◌≤◌, true, false, ltb, ◌||◌, inl, inr, List, [], ◌∷◌, ◌++◌, length, take, drop, get_or, map, Option, Some, refl, ap, ◌∙◌, subst, arith}
 use Rattle.std.proofs.lemmas.Bool.{or_parts, cases_lt, cases_eq, false≢true, lt-ltb}
 use Rattle.std.proofs.lemmas.List.{length-drop}
 use Rattle.std.proofs.lemmas.List.Sums.{list_all-from_AllPass}
 use Rattle.std.proofs.Math.Seq.{take-append_seam}
-use Rattle.std.specs.List.{list_all, list_any, slice_split, slice_range}
+use Rattle.std.specs.List.{list_all, slice_split}
 use Rattle.json.specs.Print.{quoted}
-use Rattle.serde_json.specs.Data.{Data, object, Members}
 use Rattle.serde_json.specs.Written.{has_float, members_have_float, compact_text, members_text}
 use Rattle.oidc_members.specs.Seen.{OutSeen}
 use Rattle.oidc_members.specs.Written.{data_of, object_text, any_float}
@@ -14,7 +13,7 @@ use Rattle.oidc_members.specs.Places.{places, level, is_at_level_one}
 use Rattle.oidc_members.specs.Objects.{Halves, is_space, between, halves, pieces, is_braced}
 use Rattle.oidc_members.proofs.Cutting.{split_cut, split_uncut, all_places, all_fails, halves_cut}
 use Rattle.oidc_members.proofs.Braces.{braced, pieces_cut}
-use Rattle.oidc_readers.proofs.Scans.{State, At, QuietAt, Passed, First, outside_at, at_start, at_step, level_at, mark_at, first_of, passes}
+use Rattle.oidc_readers.proofs.Scans.{State, At, Passed, First, outside_at, at_start, at_step, level_at, mark_at, first_of, passes}
 use Rattle.oidc_readers.proofs.Values.{quoted_runs, value_runs}
 
 abbrev outer : State

@@ -1,10 +1,9 @@
 -- A value's compact text is read as the value.
-use Rattle.std.proofs.Common.{◌≡◌, ℕ, suc, ◌^◌, ◌<◌, ◌≤◌, max, Bool, true, false, ◌||◌, pos, negsuc, eqb, List, [], ◌∷◌, ◌++◌, drop, get_or, Option, Some, None, option_map, option_and_then, Ordering, Less, Equal, Greater, nat_cmp, cond, decimal, refl, sym, ap, ap₂, ◌∙◌, subst, arith, append-nil}
-use Rattle.std.specs.Prelude.{⊤}
+use Rattle.std.proofs.Common.{◌≡◌, ℕ, suc, ◌<◌, ◌≤◌, max, Bool, true, false, pos, negsuc, eqb, List, [], ◌∷◌, ◌++◌, drop, get_or, Some, option_map, option_and_then, Less, Greater, nat_cmp, cond, decimal, refl, sym, ap, ◌∙◌, subst, arith, append-nil}
 use Rattle.std.specs.Cmp.Lexicographic.{slice_cmp}
 use Rattle.std.specs.List.{AllByRecursion}
 use Rattle.std.specs.List.Sorted.{IsStrictlySortedBy}
-use Rattle.std.specs.Ordering.{match_ordering, ordering_reverse}
+use Rattle.std.specs.Ordering.{ordering_reverse}
 use Rattle.std.specs.Str.{IsUtf8}
 use Rattle.std.proofs.lemmas.Bool.{or_from, ne_eqb}
 use Rattle.std.proofs.lemmas.Cmp.{nat_list_cmp_total}
@@ -13,7 +12,7 @@ use Rattle.std.proofs.lemmas.Str.{IsUtf8-append, IsUtf8-from_ascii}
 use Rattle.json.specs.Json as json
 use Rattle.json.specs.Tree as tree
 use Rattle.json.specs.Lex.{tokens}
-use Rattle.json.specs.Print.{IsNumber, print, quoted}
+use Rattle.json.specs.Print.{IsNumber, quoted}
 use Rattle.json.specs.Word.{head, after_whole, after_fraction, after_exponent, after_number}
 use Rattle.json.proofs.Printed.Tokens.{tokens-print}
 use Rattle.json.proofs.Printed.Trees.{value-json_tokens, ArePrintable-json_tokens}
@@ -26,10 +25,9 @@ use Rattle.serde_json.specs.Written.{number_text, outline, items_outline, member
 use Rattle.serde_json.proofs.Numbers.{number_of-decimal, number_of-negative}
 use Rattle.serde_json.proofs.Texts.{print-outline}
 use Rattle.oidc_members.specs.Objects.{read_bytes}
-use Rattle.oidc_members.specs.Seen.{OutSeen}
-use Rattle.oidc_members.specs.Written.{any_float}
 use Rattle.oidc_members.proofs.Reading.{value_read}
-use Rattle.oidc_readers.specs.WrittenBack.{IsWholeNumber, names_of, AreInOrder, IsJsonValue, ItemsAreJson, MembersAreJson}
+use Rattle.oidc_readers.specs.WrittenBack.{IsWholeNumber, names_of, AreInOrder}
+use Rattle.oidc_readers.proofs.JsonValues.{IsJsonValue, ItemsAreJson, MembersAreJson}
 
 -- ---- no float
 

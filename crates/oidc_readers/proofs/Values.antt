@@ -1,5 +1,5 @@
 -- The text of a value: one pass over it is quiet and ends as it began, and no space stands at its ends.
-use Rattle.std.proofs.Common.{◌≡◌, ◌≢◌, ℕ, zero, suc, ◌+◌, ◌-◌, ◌/◌, ◌%◌, ◌<◌, ◌≤◌, Bool, true, false, not, cond, eqb, ltb, ◌&&◌, ◌||◌, inl, inr, pos, negsuc, List, [], ◌∷◌, ◌++◌, length, take, drop, reverse, decimal, refl, sym, ap, ap₂, ◌∙◌, subst, arith, append_assoc, append-nil}
+use Rattle.std.proofs.Common.{◌≡◌, ◌≢◌, ℕ, zero, suc, ◌+◌, ◌-◌, ◌/◌, ◌%◌, ◌<◌, ◌≤◌, Bool, true, false, not, cond, eqb, ◌&&◌, inl, inr, pos, negsuc, List, [], ◌∷◌, ◌++◌, length, take, drop, reverse, decimal, refl, sym, ap, ◌∙◌, subst, arith, append_assoc}
 use Rattle.std.proofs.lemmas.Bool.{and_parts, and_from, cases_lt, cases_eq, false≢true, ne_eqb, lt-ltb, not-true, or_parts}
 use Rattle.std.proofs.lemmas.List.{reverse-append, take_all}
 use Rattle.std.specs.Prelude.{⊤}

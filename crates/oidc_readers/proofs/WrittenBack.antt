@@ -1,21 +1,21 @@
 -- What was written is split into the members that were written, where each name and each value reads back.
 use Rattle.std.specs.Prelude.{⊤}
-use Rattle.std.proofs.Common.{◌≡◌, ℕ, true, false, cond, ◌||◌, List, [], ◌∷◌, map, Option, Some, None, option_map, option_and_then, refl, sym, ap, ◌∙◌, arith}
+use Rattle.std.proofs.Common.{◌≡◌, false, cond, ◌||◌, List, [], ◌∷◌, map, Some, None, option_map, option_and_then, refl, ap, ◌∙◌, arith}
 use Rattle.std.specs.List.{list_any, All}
-use Rattle.std.specs.Str.{is_utf8, chars}
 use Rattle.std.proofs.lemmas.Bool.{or_parts, or_from}
 use Rattle.std.proofs.lemmas.List.Elements.{All-head, All-tail, All-weaker}
 use Rattle.json.specs.Print.{quoted}
 use Rattle.serde_json.specs.Data.{string, object}
 use Rattle.serde_json.specs.Written.{has_float, compact_text}
 use Rattle.oidc_members.specs.Places.{backslashes, is_unescaped_quote, is_outside, opened, closed}
-use Rattle.oidc_members.specs.Seen.{SeenMember, OutSeen}
+use Rattle.oidc_members.specs.Seen.{OutSeen}
 use Rattle.oidc_members.specs.Written.{data_of, object_text, any_float}
 use Rattle.oidc_members.specs.Objects.{trimmed, is_braced, pieces, halves, read_bytes, member_of, all_some, loose_members_of, without_floats, members_of}
 use Rattle.oidc_readers.specs.WrittenBack.{MayBeWritten, as_read}
 use Rattle.oidc_readers.proofs.Values.{trimmed_value}
+use Rattle.oidc_readers.proofs.JsonValues.{json_value}
 use Rattle.oidc_readers.proofs.ReadBack.{no_float, bytes_back}
-use Rattle.oidc_readers.proofs.Parts.{half_of, float_free, Cut, object_cut}
+use Rattle.oidc_readers.proofs.Parts.{half_of, float_free, object_cut}
 
 -- The name and the value of a member read back, each from its own text.
 pub record ReadsBack (m : OutSeen) : Type 0 where
@@ -61,11 +61,13 @@ split_back (m ∷ ms) whole back =
 -- ---- members that may be written
 
 written_back : (m : OutSeen) → MayBeWritten m → ReadsBack m
-written_back m h = record { name = bytes_back (string m.name) h.name (omega arith); value = bytes_back m.value h.value h.nests }
+written_back m h = record { name = bytes_back (string m.name) h.texts.0 (omega arith); value = bytes_back m.value (json_value m.value h.value.0 h.texts.1) h.value.1 }
 
 whole_members : (ms : List OutSeen) → All MayBeWritten ms → any_float ms ≡ false
 whole_members [] h = refl
-whole_members (m ∷ ms) h = or_from (has_float m.value) _ (no_float m.value (All-head MayBeWritten m ms h).value) (whole_members ms (All-tail MayBeWritten m ms h))
+whole_members (m ∷ ms) h =
+    let first = All-head MayBeWritten m ms h in
+    or_from (has_float m.value) _ (no_float m.value (json_value m.value first.value.0 first.texts.1)) (whole_members ms (All-tail MayBeWritten m ms h))
 
 pub written_split_back : (ms : List OutSeen) → All MayBeWritten ms → members_of (object_text ms) ≡ Some (map as_read ms)
 written_split_back ms h = split_back ms (whole_members ms h) (All-weaker MayBeWritten ReadsBack written_back ms h)

@@ -3,7 +3,6 @@ use Rattle.std.specs.Prelude.{◌≡◌, ℕ, List, [], ◌∷◌, ◌++◌, len
 use Rattle.oidc_members.specs.Seen.{SeenMember}
 use Rattle.oidc_members.specs.declared.refusal.Refusal.{Refusal}
 use Rattle.oidc_members.specs.declared.refusal.ParseError.{ParseError}
-use Rattle.oidc_members.specs.declared.refusal.ParseError.TheVariants as ParseError
 use Rattle.oidc_readers.specs.declared.passes.PlacedError.{PlacedError}
 use Rattle.oidc_readers.specs.declared.passes.PlacedError.TheVariants.{Refused, Memory}
 

@@ -24,29 +24,55 @@ names_of (member name value rest) = name ∷ names_of rest
 abbrev pub AreInOrder : Members → Type 0
 AreInOrder members = IsStrictlySortedBy (slice_cmp nat_cmp) (names_of members)
 
--- The numbers are whole, the texts and the names are UTF-8, and the members of objects inside stand in order.
+-- The numbers are whole, and the members of each object inside stand in order. `serde_json` holds no
+-- other values but for floats.
 abbrev mutual
-  pub IsJsonValue : Data → Type 0
-  IsJsonValue null = ⊤
-  IsJsonValue (boolean b) = ⊤
-  IsJsonValue (number n) = IsWholeNumber n
-  IsJsonValue (string text) = IsUtf8 text
-  IsJsonValue (array items) = ItemsAreJson items
-  IsJsonValue (object members) = AreInOrder members × MembersAreJson members
+  pub IsWhole : Data → Type 0
+  IsWhole null = ⊤
+  IsWhole (boolean b) = ⊤
+  IsWhole (number n) = IsWholeNumber n
+  IsWhole (string text) = ⊤
+  IsWhole (array items) = ItemsAreWhole items
+  IsWhole (object members) = AreInOrder members × MembersAreWhole members
 
-  pub ItemsAreJson : Items → Type 0
-  ItemsAreJson no_items = ⊤
-  ItemsAreJson (item value rest) = IsJsonValue value × ItemsAreJson rest
+  pub ItemsAreWhole : Items → Type 0
+  ItemsAreWhole no_items = ⊤
+  ItemsAreWhole (item value rest) = IsWhole value × ItemsAreWhole rest
 
-  pub MembersAreJson : Members → Type 0
-  MembersAreJson no_members = ⊤
-  MembersAreJson (member name value rest) = IsUtf8 name × IsJsonValue value × MembersAreJson rest
+  pub MembersAreWhole : Members → Type 0
+  MembersAreWhole no_members = ⊤
+  MembersAreWhole (member name value rest) = IsWhole value × MembersAreWhole rest
 
--- The name is UTF-8, and the value is one that nests at most 127 deep.
+-- The texts and the names are UTF-8, as those of a program are.
+abbrev mutual
+  pub HasTexts : Data → Type 0
+  HasTexts null = ⊤
+  HasTexts (boolean b) = ⊤
+  HasTexts (number n) = ⊤
+  HasTexts (string text) = IsUtf8 text
+  HasTexts (array items) = ItemsHaveTexts items
+  HasTexts (object members) = MembersHaveTexts members
+
+  pub ItemsHaveTexts : Items → Type 0
+  ItemsHaveTexts no_items = ⊤
+  ItemsHaveTexts (item value rest) = HasTexts value × ItemsHaveTexts rest
+
+  pub MembersHaveTexts : Members → Type 0
+  MembersHaveTexts no_members = ⊤
+  MembersHaveTexts (member name value rest) = IsUtf8 name × HasTexts value × MembersHaveTexts rest
+
+-- a value that `Members::split` takes, its texts aside: whole, and nested at most 127 deep
+abbrev pub MayStand : Data → Type 0
+MayStand value = IsWhole value × (depth value ≤ max_depth)
+
+-- The name and the texts of the value are UTF-8.
+abbrev pub IsUtf8Member : OutSeen → Type 0
+IsUtf8Member m = IsUtf8 m.name × HasTexts m.value
+
+-- A member that may be written: its texts are UTF-8, and its value may stand.
 pub record MayBeWritten (m : OutSeen) : Type 0 where
-  pub name : IsUtf8 m.name
-  pub value : IsJsonValue m.value
-  pub nests : depth m.value ≤ max_depth
+  pub texts : IsUtf8Member m
+  pub value : MayStand m.value
 
 -- The member has its name and its value, and its text is the compact one.
 abbrev pub as_read : OutSeen → SeenMember

@@ -7,6 +7,7 @@
 //!   after those before it, and `state`, what is kept of the members that came.
 //! - [`read_members`] is the pass.
 //! - [`PlacedError`] says which member was refused, and why.
+//! - [`laws`] says that what is written is read back as it was.
 //!
 //! What it promises. `read_members` answers the first faulty place with its refusal, by looking back
 //! from each member over all that stand before it, and where no member is faulty it answers what is
@@ -14,6 +15,7 @@
 //! own, and no clause says when it comes.
 #![tactic(auto)]
 
+pub mod laws;
 mod passes;
 
 pub use crate::passes::{MemberReader, PlacedError, read_members};

@@ -55,7 +55,7 @@ struct Told {
 
 impl GenderClaim for Told {
     ghost use Rattle.std.specs.Prelude.{codes, option_map};
-    ghost use Rattle.std.proofs.Common.{ap, refl, lit≤};
+    ghost use Rattle.std.proofs.Common.{ap, lit≤};
     ghost use Rattle.serde_json.specs.Data.{boolean};
     ghost use Rattle.serde_json.specs.Find.{as_bool};
     ghost use Rattle.oidc_members.specs.declared.refusal.ParseKind.TheVariants.{Additional};
@@ -69,7 +69,7 @@ impl GenderClaim for Told {
     ghost reads_back = { λ gender member is. ap
         (λ value. or_refused (option_map (λ told. record { is_told = told }) (as_bool value)) (record { kind = Additional; field = codes "told" })) is };
 
-    ghost written_is_value = { λ _. (λ e. Prim.cc, (refl, lit≤ tt)) };
+    ghost written_is_value = { λ _. (λ e. Prim.cc, (tt, lit≤ tt)) };
 
     fn read(alloc: Global, member: &Member) -> Result<Told, ParseError> {
         match member.value() {
