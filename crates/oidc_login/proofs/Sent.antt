@@ -4,10 +4,10 @@ use Rattle.std.specs.Prelude.{is_some, if◌then◌else◌}
 use Rattle.std.specs.FinMap as finite
 use Rattle.std.proofs.lemmas.List.{append-nil}
 use Rattle.oidc_login.specs.Transport.{SeenRequest, Wire}
-use Rattle.oidc_login.specs.Pending.{SeenLogin, Pending}
-use Rattle.oidc_login.specs.SignedIns.{SeenSignedIn}
+use Rattle.oidc_login.specs.Logins.{SeenLogin, Pending}
+use Rattle.oidc_login.specs.SignedIn.{SeenSignedIn}
 use Rattle.oidc_login.specs.Callbacks.{after, HandsOver}
-use Rattle.oidc_login.specs.Steps.{Judges}
+use Rattle.oidc_login.specs.Steps.{Gives}
 use Rattle.oidc_login.specs.declared.errors.LoginError.{LoginError}
 use Rattle.oidc_login.specs.declared.errors.LoginError.TheVariants.{State, Callback, Unbuilt, Claims, Memory}
 use Rattle.oidc_login.proofs.Entries.{remove_absent}
@@ -23,7 +23,7 @@ taken old new state None is rest = rest ∙ sym (remove_absent state old (sym is
 taken old new state (Some login) is rest = rest
 
 -- one request was handed over, whatever its answer is worth
-pub one_handed : (old new : Wire) (request : SeenRequest) (answer meant : Result SeenSignedIn LoginError) → Judges answer meant
+pub one_handed : (old new : Wire) (request : SeenRequest) (answer meant : Result SeenSignedIn LoginError) → Gives answer meant
     → new.requests ≡ old.requests ++ request ∷ [] → new.left ≡ drop 1 old.left → HandsOver old new answer (request ∷ [])
 one_handed old new request (Ok signed) meant j r l = λ i. record { requests = r i; left = l i }
 one_handed old new request (Err State) meant j r l = λ i. record { requests = r i; left = l i }

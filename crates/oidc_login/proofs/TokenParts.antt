@@ -10,7 +10,8 @@ use Rattle.std.proofs.lemmas.List.Splits.{length-slice_split, join_with_byte-sli
 use Rattle.base64.specs.GeneralPurpose.{decoded_of}
 use Rattle.base64.specs.Engines.{url_safe_no_pad}
 use Rattle.oidc_types.specs.declared.core_algorithms.CoreJwsSigningAlgorithm.{CoreJwsSigningAlgorithm}
-use Rattle.oidc_login.specs.IdTokens.{SeenToken, SeenClaims, token_of, token_of_split, token_of_parts, algorithm_in, claims_in, members_of_part}
+use Rattle.oidc_login.specs.IdToken.{SeenIdToken, token_of, token_of_split, token_of_parts, algorithm_in, members_of_part}
+use Rattle.oidc_login.specs.Claims.{SeenIdTokenClaims, claims_in}
 
 abbrev pub parts : List ℕ → List (List ℕ)
 parts text = slice_split (λ b. b == 46) text
@@ -53,7 +54,7 @@ length_of_three text a b c e =
     omega (arith, ap length joined, length-append {A = ℕ})
 
 -- the token of an algorithm, claims and a signature, where all are there
-abbrev pub token_from : List ℕ → List ℕ → Option CoreJwsSigningAlgorithm → Option SeenClaims → Option (List ℕ) → Option SeenToken
+abbrev pub token_from : List ℕ → List ℕ → Option CoreJwsSigningAlgorithm → Option SeenIdTokenClaims → Option (List ℕ) → Option SeenIdToken
 token_from text message algorithm claims signature =
     option_and_then (λ a. option_and_then (λ c. option_map (λ s. record {
       text = text;
@@ -63,7 +64,7 @@ token_from text message algorithm claims signature =
       signature = s;
     }) signature) claims) algorithm
 
-pub token_of_read : (text a b c : List ℕ) (algorithm : Option CoreJwsSigningAlgorithm) (claims : Option SeenClaims) (signature : Option (List ℕ))
+pub token_of_read : (text a b c : List ℕ) (algorithm : Option CoreJwsSigningAlgorithm) (claims : Option SeenIdTokenClaims) (signature : Option (List ℕ))
     → parts text ≡ a ∷ b ∷ c ∷ []
     → algorithm ≡ option_and_then algorithm_in (members_of_part a)
     → claims ≡ option_and_then claims_in (members_of_part b)

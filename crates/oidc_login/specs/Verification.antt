@@ -6,17 +6,18 @@ use Rattle.oidc_types.specs.SigningAlgorithms.{signing_text}
 use Rattle.oidc_keys.specs.declared.refusals.SignatureVerificationError.{SignatureVerificationError}
 use Rattle.oidc_keys.specs.declared.refusals.SignatureVerificationError.TheVariants.{DisallowedAlg}
 use Rattle.oidc_keys.specs.Symmetric.{symmetric_verdict}
-use Rattle.oidc_login.specs.Clients.{SeenClient}
-use Rattle.oidc_login.specs.IdTokens.{SeenClaims, SeenToken}
+use Rattle.oidc_login.specs.Client.{SeenClient}
+use Rattle.oidc_login.specs.Claims.{SeenIdTokenClaims}
+use Rattle.oidc_login.specs.IdToken.{SeenIdToken}
 use Rattle.oidc_login.specs.declared.tokens.verification.ClaimsVerificationError.{ClaimsVerificationError}
 use Rattle.oidc_login.specs.declared.tokens.verification.ClaimsVerificationError.TheVariants.{InvalidIssuer, InvalidAudience, SignatureVerification, Expired, InvalidNonce}
 
 -- what the key of a client's secret says of a token's signature
-unfoldable pub signature_verdict : List ℕ → SeenToken → Result (Unit {0}) SignatureVerificationError
+unfoldable pub signature_verdict : List ℕ → SeenIdToken → Result (Unit {0}) SignatureVerificationError
 signature_verdict secret token = symmetric_verdict secret token.algorithm token.message token.signature
 
 -- the token is accepted for a client, with this nonce, at this moment (nanoseconds since the Unix epoch)
-pub record Accepts (client : SeenClient) (nonce : List ℕ) (now : ℤ) (token : SeenToken) : Type 0 where
+pub record Accepts (client : SeenClient) (nonce : List ℕ) (now : ℤ) (token : SeenIdToken) : Type 0 where
   -- the issuer's text is the client's, byte for byte
   pub issuer : token.claims.issuer.text ≡ client.issuer.text
   -- the client is in the audience, and nobody else is
@@ -45,7 +46,7 @@ abbrev pub is_allowed : List CoreJwsSigningAlgorithm → CoreJwsSigningAlgorithm
 is_allowed allowed algorithm = list_any (λ a. bytes_eq (signing_text a) (signing_text algorithm)) allowed
 
 -- the last two checks
-abbrev pub late_failure : List ℕ → ℤ → SeenClaims → Option ClaimsVerificationError
+abbrev pub late_failure : List ℕ → ℤ → SeenIdTokenClaims → Option ClaimsVerificationError
 late_failure nonce now claims =
     if not (int_lt now claims.expiration) then Some Expired
     else if not (is_nonce claims.nonce nonce) then Some InvalidNonce
@@ -56,7 +57,7 @@ signature_failure (Ok verified) later = later
 signature_failure (Err refusal) later = Some (SignatureVerification refusal)
 
 -- the first check that fails
-unfoldable pub first_failure : SeenClient → List ℕ → ℤ → SeenToken → Option ClaimsVerificationError
+unfoldable pub first_failure : SeenClient → List ℕ → ℤ → SeenIdToken → Option ClaimsVerificationError
 first_failure client nonce now token =
     if not (bytes_eq token.claims.issuer.text client.issuer.text) then Some InvalidIssuer
     else if not (is_alone_in client.client_id token.claims.audiences) then Some InvalidAudience

@@ -20,7 +20,7 @@ pub struct Client {
 }
 
 impl Model for Client {
-    ghost use Rattle.oidc_login.specs.Clients.{SeenClient};
+    ghost use Rattle.oidc_login.specs.Client.{SeenClient};
 
     ghost Value = { SeenClient };
 

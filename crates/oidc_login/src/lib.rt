@@ -28,6 +28,7 @@ pub mod errors;
 pub mod logins;
 pub mod oauth2;
 pub mod signed_in;
+mod steps;
 mod store;
 #[cfg(test)]
 mod tests;

@@ -5,7 +5,7 @@ ghost use Rattle.std.specs.List.{list_all};
 ghost use Rattle.std.specs.String.{string_bytes};
 ghost use Rattle.http_header.specs.FieldValue.{plain_value, IsFieldValue};
 ghost use Rattle.oidc_login.specs.CodeRequest.{is_address as address_test, is_visible_byte, basic_credentials, request_headers, headers_of, code_list, code_request as request_for};
-ghost use Rattle.oidc_login.specs.Prepared.{Prepares};
+ghost use Rattle.oidc_login.specs.CodeRequest.{Prepares};
 ghost use Rattle.oidc_pairs.specs.Form.{form, escaped};
 
 use crate::client::Client;

@@ -4,9 +4,9 @@ ghost use Rattle.std.specs.Prelude.{◌≡◌, IfOk, option_map, codes};
 ghost use Rattle.std.specs.Option.{option_copied};
 ghost use Rattle.serde_json.specs.View.{view, items_view};
 ghost use Rattle.serde_json.specs.Find.{as_str};
-ghost use Rattle.oidc_login.specs.IdTokens.{url_of, texts_in, texts_of, moment_of, optional_text, read_named, claims_in};
+ghost use Rattle.oidc_login.specs.Claims.{url_of, texts_in, texts_of, moment_of, optional_text, read_named, claims_in};
 ghost use Rattle.serde_json.specs.Data.{string};
-ghost use Rattle.oidc_login.specs.WrittenClaims.{written, texts_data, seconds_data};
+ghost use Rattle.oidc_login.specs.Claims.{written, texts_data, seconds_data};
 
 use crate::tokens::members::{text_named, value_named};
 use jiff::Timestamp;
@@ -29,9 +29,9 @@ pub struct IdTokenClaims {
 }
 
 impl Model for IdTokenClaims {
-    ghost use Rattle.oidc_login.specs.IdTokens.{SeenClaims};
+    ghost use Rattle.oidc_login.specs.Claims.{SeenIdTokenClaims};
 
-    ghost Value = { SeenClaims };
+    ghost Value = { SeenIdTokenClaims };
 
     ghost view = { λ c. record {
       issuer = c.issuer;
@@ -201,7 +201,7 @@ fn subject_in(alloc: Global, members: &Members) -> Result<Option<SubjectIdentifi
 }
 
 // The claims of these members, where they are exactly the six, each once and of its kind.
-#[tactic(auto, unfolding(crate::specs::IdTokens::claims_in))]
+#[tactic(auto, unfolding(crate::specs::Claims::claims_in))]
 pub(crate) fn claims_of(
     alloc: Global,
     members: &Members,

@@ -6,7 +6,8 @@ ghost use Rattle.std.specs.Option.{option_map_or};
 ghost use Rattle.std.specs.String.{string_bytes};
 ghost use Rattle.base64.specs.GeneralPurpose.{decoded_of};
 ghost use Rattle.base64.specs.Engines.{url_safe_no_pad};
-ghost use Rattle.oidc_login.specs.IdTokens.{token_of, algorithm_in, claims_in, members_of_part};
+ghost use Rattle.oidc_login.specs.IdToken.{token_of, algorithm_in, members_of_part};
+ghost use Rattle.oidc_login.specs.Claims.{claims_in};
 
 use crate::tokens::claims::{IdTokenClaims, claims_of};
 use crate::tokens::members::{members_of, text_named};
@@ -31,9 +32,9 @@ pub struct IdToken {
 impl Model for IdToken {
     ghost use Rattle.std.specs.Prelude.{◌≤◌, take, length};
     ghost use Rattle.std.specs.String.{string_bytes};
-    ghost use Rattle.oidc_login.specs.IdTokens.{SeenToken};
+    ghost use Rattle.oidc_login.specs.IdToken.{SeenIdToken};
 
-    ghost Value = { SeenToken };
+    ghost Value = { SeenIdToken };
 
     ghost view = { λ t. record {
       text = string_bytes t.text;
@@ -150,7 +151,7 @@ fn members_in_part(alloc: Global, part: &str) -> Result<Option<Members>, AllocEr
 }
 
 // The HMAC algorithm that a header names, where that is its one member.
-#[tactic(auto, unfolding(crate::specs::IdTokens::algorithm_in))]
+#[tactic(auto, unfolding(crate::specs::IdToken::algorithm_in))]
 fn algorithm_of(members: &Members) -> Option<CoreJwsSigningAlgorithm>
     ensures { result ≡ algorithm_in members.now }
 {

@@ -1,6 +1,6 @@
 use Rattle.std.proofs.Common.{◌≡◌, ◌++◌, drop, option_map}
 use Rattle.serde_json.specs.View.{items_view}
-use Rattle.oidc_login.specs.IdTokens.{texts_in}
+use Rattle.oidc_login.specs.Claims.{texts_in}
 use Rattle.oidc_login.proofs.tokens.claims.audiences_of.Given as goal
 
 -- the texts so far stand before those of the values that are left

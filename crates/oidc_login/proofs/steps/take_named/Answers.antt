@@ -1,5 +1,5 @@
 use Rattle.oidc_login.proofs.Sent.{taken}
-use Rattle.oidc_login.proofs.logins.take_named.Goals as goal
+use Rattle.oidc_login.proofs.steps.take_named.Goals as goal
 
 pub returns-in-Some-clause-rest : goal.returns-in-Some-clause-rest
 returns-in-Some-clause-rest c =

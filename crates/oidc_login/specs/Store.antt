@@ -4,7 +4,7 @@ use Rattle.std.specs.FinMap as finite
 use Rattle.std.specs.Ordering.{nat_cmp}
 use Rattle.std.specs.Cmp.Lexicographic.{slice_cmp}
 use Rattle.std.specs.String.{string_bytes}
-use Rattle.oidc_login.specs.Pending.{SeenLogin, Pending, HasVerifiers}
+use Rattle.oidc_login.specs.Logins.{SeenLogin, Pending, HasVerifiers}
 use Rattle.oidc_login.specs.declared.store.Entry.{Entry}
 
 abbrev pub by_state : List Entry → List (List ℕ × SeenLogin)
