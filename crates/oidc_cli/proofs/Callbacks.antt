@@ -9,10 +9,10 @@ use Rattle.std.specs.Cmp.Lexicographic.{slice_cmp}
 use Rattle.std.specs.declared.cmp.Ordering.{Ordering}
 use Rattle.std.specs.declared.cmp.Ordering.TheVariants.{Less, Equal, Greater}
 use Rattle.oidc_login.specs.Transport.{SeenRequest, Wire}
-use Rattle.oidc_login.specs.Logins.{Pending}
-use Rattle.oidc_login.specs.SignedIn.{SeenSignedIn}
-use Rattle.oidc_login.specs.Outcome.{login_named_by, state_in, callback_store}
-use Rattle.oidc_login.specs.Errors.{is_spent_by}
+use Rattle.oidc_login.specs.Pending.{Pending}
+use Rattle.oidc_login.specs.SignedIns.{SeenSignedIn}
+use Rattle.oidc_login.specs.Outcome.{named, state_in, callback_store}
+use Rattle.oidc_login.specs.Spent.{is_spent_by}
 use Rattle.oidc_login.specs.Callbacks.{Replies, HandsOver, after as after_sending}
 use Rattle.oidc_login.specs.declared.errors.LoginError.{LoginError}
 use Rattle.oidc_login.specs.declared.errors.LoginError.TheVariants as login
@@ -43,7 +43,7 @@ unnamed pending (Some state) lacks =
 
 pub store_of_refusal : (pending : Pending) (query : List (List ℕ × List ℕ)) (refusal : LoginError) (after : Pending)
     → ((spent : Bool) → refusal ≡ login.Memory spent → ⊥)
-    → (◌≡◌ {A = Result SeenSignedIn LoginError} (Err refusal) (Err login.State) → login_named_by pending query ≡ None)
+    → (◌≡◌ {A = Result SeenSignedIn LoginError} (Err refusal) (Err login.State) → named pending query ≡ None)
     → after ≡ (if is_spent_by {A = SeenSignedIn} (Err refusal) then callback_store pending query else pending)
     → after ≡ callback_store pending query
 store_of_refusal pending query login.State after memory state left = left ∙ sym (unnamed pending (state_in query) (state refl))

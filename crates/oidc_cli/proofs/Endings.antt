@@ -2,8 +2,8 @@
 use Rattle.std.proofs.Common.{◌≡◌, ◌⊎◌, inl, inr, ℕ, ◌+◌, ◌<◌, ◌≤◌, nat_lt, codes, length, List, [], ◌∷◌, ◌++◌, Option, None, Some, Bool, true, false, Result, Ok, Err, refl, sym, ap, ◌∙◌, arith, append_assoc}
 use Rattle.std.specs.Prelude.{if◌then◌else◌}
 use Rattle.std.specs.FinMap as finite
-use Rattle.oidc_login.specs.Client.{SeenClient}
-use Rattle.oidc_login.specs.Logins.{Pending}
+use Rattle.oidc_login.specs.Clients.{SeenClient}
+use Rattle.oidc_login.specs.Pending.{Pending}
 use Rattle.oidc_cli.specs.Lines.{lines}
 use Rattle.oidc_cli.specs.Script.{event_of}
 use Rattle.oidc_cli.specs.Faults.{limit, is_client, is_step, fault_from, fault_in, fault_of}

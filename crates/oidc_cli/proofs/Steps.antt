@@ -4,8 +4,8 @@ use Rattle.std.specs.Prelude.{if◌then◌else◌}
 use Rattle.std.specs.FinMap as finite
 use Rattle.std.proofs.lemmas.Bool.{false≢true}
 use Rattle.std.proofs.lemmas.Bool.Decides.{nat_tests}
-use Rattle.oidc_login.specs.Client.{SeenClient}
-use Rattle.oidc_login.specs.Logins.{Pending}
+use Rattle.oidc_login.specs.Clients.{SeenClient}
+use Rattle.oidc_login.specs.Pending.{Pending}
 use Rattle.oidc_cli.specs.Script.{event_of}
 use Rattle.oidc_cli.specs.Events.{SeenClientLine}
 use Rattle.oidc_cli.specs.Lines.{lines}

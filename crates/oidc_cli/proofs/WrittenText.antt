@@ -6,8 +6,8 @@ use Rattle.serde_json.specs.Find.{of_integer}
 use Rattle.serde_json.specs.View.{items_of}
 use Rattle.serde_json.specs.Written.{has_float}
 use Rattle.oidc_members.specs.Write.{any_float}
-use Rattle.oidc_login.specs.Claims.{SeenIdTokenClaims}
-use Rattle.oidc_login.specs.Claims.{written, texts_data, seconds_data, nonce_member, member_of}
+use Rattle.oidc_login.specs.IdTokens.{SeenClaims}
+use Rattle.oidc_login.specs.WrittenClaims.{written, texts_data, seconds_data, nonce_member, member_of}
 
 no_float_in_texts : (texts : List (List ℕ)) → has_float (texts_data texts) ≡ false
 no_float_in_texts [] = refl
@@ -24,7 +24,7 @@ no_float_behind : (nonce : Option (List ℕ)) (subject : List ℕ) → any_float
 no_float_behind None subject = refl
 no_float_behind (Some nonce) subject = refl
 
-pub no_float : (claims : SeenIdTokenClaims) → any_float (written claims) ≡ false
+pub no_float : (claims : SeenClaims) → any_float (written claims) ≡ false
 no_float claims =
     four _ _ _ _ (no_float_in_texts claims.audiences)
     (no_float_in_number (int_div_euclid claims.expiration (pos 1_000_000_000)))

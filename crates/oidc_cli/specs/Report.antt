@@ -16,11 +16,11 @@ use Rattle.oidc_login.specs.declared.errors.BeginError.TheVariants as begin
 use Rattle.oidc_login.specs.declared.errors.LoginError.{LoginError}
 use Rattle.oidc_login.specs.declared.errors.LoginError.TheVariants as login
 use Rattle.oidc_login.specs.Transport.{SeenRequest, SeenAnswer}
-use Rattle.oidc_login.specs.Client.{SeenClient}
+use Rattle.oidc_login.specs.Clients.{SeenClient}
 use Rattle.oidc_login.specs.Authorization.{SeenAuthorization}
-use Rattle.oidc_login.specs.Logins.{Pending}
-use Rattle.oidc_login.specs.SignedIn.{SeenSignedIn}
-use Rattle.oidc_login.specs.Claims.{written}
+use Rattle.oidc_login.specs.Pending.{Pending}
+use Rattle.oidc_login.specs.SignedIns.{SeenSignedIn}
+use Rattle.oidc_login.specs.WrittenClaims.{written}
 use Rattle.oidc_login.specs.Outcome.{Run, begin_reply, begin_store, callback_store, outcome}
 use Rattle.oidc_cli.specs.Lines.{lines}
 use Rattle.oidc_cli.specs.Events.{SeenClientLine, SeenBeginLine, SeenCallbackLine}

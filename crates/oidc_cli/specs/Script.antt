@@ -2,7 +2,7 @@
 use Rattle.std.specs.Prelude.{ℕ, ◌==◌, List, [], ◌∷◌, length, Option, None, Some, option_and_then, option_map, if◌then◌else◌, codes}
 use Rattle.std.specs.Str.{bytes_eq}
 use Rattle.oidc_pairs.specs.Pairs.{pairs, values_in, only_of}
-use Rattle.oidc_login.specs.Claims.{url_of_text}
+use Rattle.oidc_login.specs.IdTokens.{url_of_text}
 use Rattle.oidc_cli.specs.Values.{algorithms_of, moment_of, status_of, content_type_of}
 use Rattle.oidc_cli.specs.Events.{SeenClientLine, SeenBeginLine, SeenCallbackLine}
 use Rattle.oidc_cli.specs.declared.script.Event.{Event}

@@ -1,6 +1,6 @@
 -- What the reply to a callback rests on.
 use Rattle.std.proofs.Common.{◌≡◌, ◌≢◌, ℕ, ℤ, List, [], ◌∷◌, Option, None, Some, Result, Ok, Err, refl, sym, ap, ◌∙◌, subst, inl, inr, ⊎_elim}
-use Rattle.std.specs.Prelude.{option_and_then, option_map, unwrap_or, codes, ◌⊎◌, IsSome, IfOk}
+use Rattle.std.specs.Prelude.{option_and_then, unwrap_or, codes, ◌⊎◌, IsSome, IfOk}
 use Rattle.std.specs.Result.{result_unwrap_or}
 use Rattle.oidc_pairs.specs.Pairs.{pairs, values_in, only_of}
 use Rattle.oidc_login.specs.Transport.{SeenRequest, SeenResponse, SeenAnswer, Wire}
@@ -8,6 +8,7 @@ use Rattle.oidc_login.specs.Client.{SeenClient}
 use Rattle.oidc_login.specs.Logins.{SeenLogin, Pending}
 use Rattle.oidc_login.specs.CodeRequest.{code_request}
 use Rattle.oidc_login.specs.TokenAnswer.{Tokens, plain_tokens}
+use Rattle.oidc_login.specs.Reading.{◌>>=◌}
 use Rattle.oidc_login.specs.IdToken.{SeenIdToken, token_of}
 use Rattle.oidc_login.specs.SignedIn.{SeenSignedIn}
 use Rattle.oidc_login.specs.Verification.{first_failure}
@@ -82,10 +83,6 @@ answer_read : (answer : SeenAnswer) (signed : SeenSignedIn) → option_and_then 
 answer_read None signed e = cc
 answer_read (Some response) signed e = (response, refl, e)
 
-abbrev with_token : Tokens → Option SeenIdToken → Option SeenSignedIn
-with_token tokens None = None
-with_token tokens (Some token) = Some (record { id_token = token; access_token = tokens.access_token })
-
 -- the tokens of an answer, and the ID token in it
 pub record IsRead (response : SeenResponse) (signed : SeenSignedIn) : Type 0 where
   pub tokens : Tokens
@@ -97,7 +94,7 @@ same_some : {A : Type 0} (x y : A) → Some x ≡ Some y → x ≡ y
 same_some x y e = ap (λ o. unwrap_or o x) e
 
 token_read : (response : SeenResponse) (tokens : Tokens) (token : Option SeenIdToken) (signed : SeenSignedIn) → plain_tokens response ≡ Some tokens
-    → token_of tokens.id_token ≡ token → option_map (λ t. record { id_token = t; access_token = tokens.access_token }) token ≡ Some signed → IsRead response signed
+    → token_of tokens.id_token ≡ token → (token >>= λ t. Some (record { id_token = t; access_token = tokens.access_token })) ≡ Some signed → IsRead response signed
 token_read response tokens None signed plain is e = cc
 token_read response tokens (Some token) signed plain is e =
     let same : ◌≡◌ {A = SeenSignedIn} (record { id_token = token; access_token = tokens.access_token }) signed = same_some _ signed e in
@@ -109,7 +106,7 @@ token_read response tokens (Some token) signed plain is e =
     }
 
 tokens_read : (response : SeenResponse) (found : Option Tokens) (signed : SeenSignedIn) → plain_tokens response ≡ found
-    → option_and_then (λ tokens. option_map (λ token. record { id_token = token; access_token = tokens.access_token }) (token_of tokens.id_token)) found ≡ Some signed
+    → (found >>= λ tokens. token_of tokens.id_token >>= λ token. Some (record { id_token = token; access_token = tokens.access_token })) ≡ Some signed
     → IsRead response signed
 tokens_read response None signed plain e = cc
 tokens_read response (Some tokens) signed plain e = token_read response tokens (token_of tokens.id_token) signed plain refl e
@@ -199,7 +196,6 @@ module _ (client : SeenClient) (login : SeenLogin) where
       → (values_in query (codes "error") ≡ []) × Made (only_of (values_in query (codes "code"))) wanted
   unfolding token_request_for
   opening_opened query wanted e = errors_opened (values_in query (codes "error")) (only_of (values_in query (codes "code"))) wanted e
-
 
 -- and the other way round
 pub opening-asks : (a : Attempt) (login : SeenLogin) (asked : Asks a login) → token_request_for a.client login (pairs a.query) ≡ Ok asked.request

@@ -1,13 +1,16 @@
 -- The claims of an ID token: RFC 7519 section 4.1, OpenID Connect Core 1.0 section 2.
-use Rattle.std.specs.Prelude.{ℕ, ◌==◌, ℤ, pos, neg_ℤ, ◌*ℤ◌, int_le, List, [], ◌∷◌, ◌++◌, map, length, Option, None, Some, option_and_then, option_map, ◌&&◌, if◌then◌else◌, codes, Ok, Err}
-use Rattle.std.specs.Int.{int_div_euclid}
-use Rattle.url.specs.Parser.{parse_url}
-use Rattle.serde_json.specs.Data.{Data, null, number, string, array, Items, no_items, item}
-use Rattle.serde_json.specs.Find.{as_str, as_number, as_array, as_i64, of_integer}
+use Rattle.std.specs.Prelude.{ℕ, ◌==◌, ℤ, List, [], ◌∷◌, ◌++◌, map, length, Option, None, if◌then◌else◌, codes, Result, Ok}
+use Rattle.std.specs.Result.{result_ok}
+use Rattle.serde_json.specs.Data.{Data, string, array}
 use Rattle.serde_json.specs.View.{items_of}
 use Rattle.oidc_members.specs.Seen.{SeenMember, OutSeen}
+use Rattle.oidc_members.specs.declared.refusal.Refusal.{Refusal}
 use Rattle.oidc_types.specs.UrlTexts.{TextAndUrl}
-use Rattle.oidc_login.specs.TokenAnswer.{value_named, both}
+use Rattle.oidc_readers.specs.Moments.{seconds_data}
+use Rattle.oidc_readers.specs.Kinds.{text_kind, url_kind, texts_kind, moment_kind, or_null}
+use Rattle.oidc_readers.specs.Fields.{Field, field, judged}
+use Rattle.oidc_readers.specs.Records.{◌>>=◌, Rule, by_table, faultless, required}
+use Rattle.oidc_readers.specs.Writing.{one_member, text_member}
 
 -- the claims of an ID token. Moments are nanoseconds since the Unix epoch.
 pub record SeenIdTokenClaims : Type 0 where
@@ -18,73 +21,52 @@ pub record SeenIdTokenClaims : Type 0 where
   pub nonce : Option (List ℕ)
   pub subject : List ℕ
 
--- ---- kinds of values
+-- ---- the table of the claims
 
--- a text that the URL Standard takes, and the URL that it reads
-abbrev pub url_of_text : List ℕ → Option TextAndUrl
-url_of_text text = elim (parse_url None text) [ Ok url ↦ Some (record { text = text; url = url }) | Err e ↦ None ]
+abbrev pub iss : Field TextAndUrl
+iss = field (codes "iss") url_kind
 
-abbrev pub url_of : Data → Option TextAndUrl
-url_of value = option_and_then url_of_text (as_str value)
+abbrev pub aud : Field (List (List ℕ))
+aud = field (codes "aud") texts_kind
 
--- each of them a text
-abbrev pub texts_in : Items → Option (List (List ℕ))
-texts_in no_items = Some []
-texts_in (item value rest) = option_map (λ p. p.0 ∷ p.1) (both (as_str value) (texts_in rest))
+abbrev pub exp : Field ℤ
+exp = field (codes "exp") moment_kind
 
--- an array of texts
-abbrev pub texts_of : Data → Option (List (List ℕ))
-texts_of value = option_and_then texts_in (as_array value)
+abbrev pub iat : Field ℤ
+iat = field (codes "iat") moment_kind
 
--- seconds since the Unix epoch, of a moment that has a date within the years -9999 to 9999 at each
--- offset from UTC, as nanoseconds
-abbrev pub moment_at : ℤ → Option ℤ
-moment_at second =
-    if int_le (neg_ℤ (pos 377_705_023_201)) second && int_le second (pos 253_402_207_200)
-    then Some (second *ℤ pos 1_000_000_000)
-    else None
+-- a null stands for no nonce
+abbrev pub nonce : Field (Option (List ℕ))
+nonce = field (codes "nonce") (or_null text_kind)
 
--- a whole number of seconds
-abbrev pub moment_of : Data → Option ℤ
-moment_of value = option_and_then moment_at (option_and_then as_i64 (as_number value))
+abbrev pub sub : Field (List ℕ)
+sub = field (codes "sub") text_kind
 
--- a text, or null for none
-abbrev pub optional_text : Data → Option (Option (List ℕ))
-optional_text null = Some None
-optional_text value = option_map Some (as_str value)
+abbrev pub claims_rule : Rule
+claims_rule = by_table (judged iss ∷ judged aud ∷ judged exp ∷ judged iat ∷ judged nonce ∷ judged sub ∷ [])
 
--- ---- the claims
+-- each of them once, and of its kind
+unfoldable pub claim_set_of : List SeenMember → Result SeenIdTokenClaims Refusal
+claim_set_of members = do
+  u ← faultless claims_rule members
+  issuer ← required iss members
+  audiences ← required aud members
+  expiration ← required exp members
+  issue_time ← required iat members
+  sent ← required nonce members
+  subject ← required sub members
+  Ok (record {
+    issuer = issuer;
+    audiences = audiences;
+    expiration = expiration;
+    issue_time = issue_time;
+    nonce = sent;
+    subject = subject;
+  })
 
--- the value of the one member of that name, read as a kind
-abbrev pub read_named : {A : Type 0} → (Data → Option A) → List ℕ → List SeenMember → Option A
-read_named kind name members = option_and_then kind (value_named name members)
-
--- the claims that these members give, each once and of its kind
-abbrev pub claims_named : List SeenMember → Option SeenIdTokenClaims
-claims_named members =
-    option_and_then (λ issuer.
-    option_and_then (λ audiences.
-    option_and_then (λ expiration.
-    option_and_then (λ issue_time.
-    option_and_then (λ nonce.
-    option_map (λ subject. record {
-      issuer = issuer;
-      audiences = audiences;
-      expiration = expiration;
-      issue_time = issue_time;
-      nonce = nonce;
-      subject = subject;
-    })
-    (read_named as_str (codes "sub") members))
-    (read_named optional_text (codes "nonce") members))
-    (read_named moment_of (codes "iat") members))
-    (read_named moment_of (codes "exp") members))
-    (read_named texts_of (codes "aud") members))
-    (read_named url_of (codes "iss") members)
-
--- exactly the six members `iss`, `aud`, `exp`, `iat`, `nonce` and `sub`
+-- exactly these six members
 unfoldable pub claims_in : List SeenMember → Option SeenIdTokenClaims
-claims_in members = if length members == 6 then claims_named members else None
+claims_in members = if length members == 6 then result_ok (claim_set_of members) else None
 
 -- ---- the claims as members, in the order in which they are written
 
@@ -92,23 +74,11 @@ claims_in members = if length members == 6 then claims_named members else None
 abbrev pub texts_data : List (List ℕ) → Data
 texts_data texts = array (items_of (map string texts))
 
--- nanoseconds as whole seconds, rounded down
-abbrev pub seconds_data : ℤ → Data
-seconds_data nanosecond = number (of_integer (int_div_euclid nanosecond (pos 1_000_000_000)))
-
-abbrev pub member_of : List ℕ → Data → OutSeen
-member_of name value = record { name = name; value = value }
-
--- the nonce, where there is one
-abbrev pub nonce_member : Option (List ℕ) → List OutSeen
-nonce_member None = []
-nonce_member (Some nonce) = member_of (codes "nonce") (string nonce) ∷ []
-
 abbrev pub written : SeenIdTokenClaims → List OutSeen
 written claims =
-    member_of (codes "iss") (string claims.issuer.text)
-    ∷ member_of (codes "aud") (texts_data claims.audiences)
-    ∷ member_of (codes "exp") (seconds_data claims.expiration)
-    ∷ member_of (codes "iat") (seconds_data claims.issue_time)
-    ∷ nonce_member claims.nonce
-    ++ member_of (codes "sub") (string claims.subject) ∷ []
+    one_member (codes "iss") (string claims.issuer.text)
+    ++ one_member (codes "aud") (texts_data claims.audiences)
+    ++ one_member (codes "exp") (seconds_data claims.expiration)
+    ++ one_member (codes "iat") (seconds_data claims.issue_time)
+    ++ text_member (codes "nonce") claims.nonce
+    ++ one_member (codes "sub") (string claims.subject)

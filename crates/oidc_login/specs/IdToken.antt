@@ -1,14 +1,13 @@
 -- ID tokens: RFC 7515 sections 3 and 7.1, RFC 7519 section 3, OpenID Connect Core 1.0 section 2.
-use Rattle.std.specs.Prelude.{ℕ, ◌==◌, List, [], ◌∷◌, ◌++◌, length, Option, None, Some, option_and_then, option_map, if◌then◌else◌, codes}
+use Rattle.std.specs.Prelude.{ℕ, ◌==◌, List, [], ◌∷◌, ◌++◌, Option, None, Some, codes}
 use Rattle.std.specs.List.{slice_split}
 use Rattle.base64.specs.GeneralPurpose.{decoded_of}
 use Rattle.base64.specs.Engines.{url_safe_no_pad}
 use Rattle.oidc_members.specs.Seen.{SeenMember}
 use Rattle.oidc_members.specs.Objects.{members_of}
 use Rattle.oidc_types.specs.declared.core_algorithms.CoreJwsSigningAlgorithm.{CoreJwsSigningAlgorithm}
-use Rattle.oidc_types.specs.SigningAlgorithms.{signing_text, signing_algorithms, signs_with_secret}
-use Rattle.oidc_types.specs.Words.{find_word}
-use Rattle.oidc_login.specs.TokenAnswer.{text_named}
+use Rattle.oidc_login.specs.Reading.{◌>>=◌}
+use Rattle.oidc_login.specs.Header.{algorithm_in}
 use Rattle.oidc_login.specs.Claims.{SeenIdTokenClaims, claims_in}
 
 -- a token: its text, and what the text says
@@ -19,33 +18,46 @@ pub record SeenIdToken : Type 0 where
   pub message : List ℕ
   pub signature : List ℕ
 
--- an HMAC algorithm
-abbrev pub keyed_algorithm : List ℕ → Option CoreJwsSigningAlgorithm
-keyed_algorithm text = option_and_then (λ algorithm. if signs_with_secret algorithm then Some algorithm else None) (find_word signing_text signing_algorithms text)
+-- what the three parts of a token say
+pub record SeenContents : Type 0 where
+  pub algorithm : CoreJwsSigningAlgorithm
+  pub claims : SeenIdTokenClaims
+  pub signature : List ℕ
 
--- exactly the member `alg`, with the text of an HMAC algorithm
-unfoldable pub algorithm_in : List SeenMember → Option CoreJwsSigningAlgorithm
-algorithm_in members =
-    if length members == 1 then option_and_then keyed_algorithm (text_named (codes "alg") members) else None
-
--- the members of a part of a token: base64url without padding, strictly (RFC 4648 sections 3.5 and 5)
+-- the members of a part: base64url without padding, strictly (RFC 4648 sections 3.5 and 5)
 abbrev pub members_of_part : List ℕ → Option (List SeenMember)
-members_of_part part = option_and_then members_of (decoded_of url_safe_no_pad part)
+members_of_part part = do
+  bytes ← decoded_of url_safe_no_pad part
+  members_of bytes
 
+abbrev pub algorithm_of_part : List ℕ → Option CoreJwsSigningAlgorithm
+algorithm_of_part header = do
+  members ← members_of_part header
+  algorithm_in members
+
+abbrev pub claims_of_part : List ℕ → Option SeenIdTokenClaims
+claims_of_part payload = do
+  members ← members_of_part payload
+  claims_in members
+
+abbrev pub contents_of : List ℕ → List ℕ → List ℕ → Option SeenContents
+contents_of header payload signature = do
+  algorithm ← algorithm_of_part header
+  claims ← claims_of_part payload
+  signed ← decoded_of url_safe_no_pad signature
+  Some (record { algorithm = algorithm; claims = claims; signature = signed })
+
+-- the message that is signed is the first two parts, with the dot between them
 abbrev pub token_of_parts : List ℕ → List ℕ → List ℕ → List ℕ → Option SeenIdToken
-token_of_parts text header payload signature =
-    option_and_then (λ algorithm.
-    option_and_then (λ claims.
-    option_map (λ signed. record {
-      text = text;
-      algorithm = algorithm;
-      claims = claims;
-      message = header ++ codes "." ++ payload;
-      signature = signed;
-    })
-    (decoded_of url_safe_no_pad signature))
-    (option_and_then claims_in (members_of_part payload)))
-    (option_and_then algorithm_in (members_of_part header))
+token_of_parts text header payload signature = do
+  contents ← contents_of header payload signature
+  Some (record {
+    text = text;
+    algorithm = contents.algorithm;
+    claims = contents.claims;
+    message = header ++ codes "." ++ payload;
+    signature = contents.signature;
+  })
 
 -- the token of the parts between its dots, where there are three
 abbrev pub token_of_split : List ℕ → List (List ℕ) → Option SeenIdToken

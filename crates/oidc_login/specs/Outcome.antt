@@ -1,5 +1,5 @@
 -- What a begin and a callback answer, what a callback sends, and what they leave of the store.
-use Rattle.std.specs.Prelude.{◌≡◌, ℕ, ℤ, List, [], ◌∷◌, Option, None, Some, option_and_then, option_map, Result, Ok, Err, not, if◌then◌else◌, codes}
+use Rattle.std.specs.Prelude.{◌≡◌, ℕ, ℤ, List, [], ◌∷◌, Option, None, Some, option_and_then, Result, Ok, Err, not, if◌then◌else◌, codes}
 use Rattle.std.specs.FinMap as finite
 use Rattle.url.specs.Parts.{Parts}
 use Rattle.oidc_pairs.specs.Pairs.{pairs, values_in, only_of}
@@ -10,6 +10,7 @@ use Rattle.oidc_login.specs.Logins.{SeenLogin, Pending, SeenLogins}
 use Rattle.oidc_login.specs.Authorization.{SeenAuthorization, auth_url}
 use Rattle.oidc_login.specs.CodeRequest.{code_request}
 use Rattle.oidc_login.specs.TokenAnswer.{plain_tokens}
+use Rattle.oidc_login.specs.Reading.{◌>>=◌}
 use Rattle.oidc_login.specs.IdToken.{token_of}
 use Rattle.oidc_login.specs.SignedIn.{SeenSignedIn}
 use Rattle.oidc_login.specs.Verification.{first_failure}
@@ -108,9 +109,10 @@ token_request_for client login query =
 
 -- the user whom a response would sign in: the tokens of a plain answer, with its ID token read
 unfoldable pub candidate_in : SeenResponse → Option SeenSignedIn
-candidate_in response =
-    option_and_then (λ tokens. option_map (λ token. record { id_token = token; access_token = tokens.access_token })
-    (token_of tokens.id_token)) (plain_tokens response)
+candidate_in response = do
+  tokens ← plain_tokens response
+  token ← token_of tokens.id_token
+  Some (record { id_token = token; access_token = tokens.access_token })
 
 -- no check of the ID token fails
 abbrev pub unless_failed : SeenSignedIn → Option ClaimsVerificationError → Result SeenSignedIn LoginError

@@ -30,8 +30,6 @@ pub mod oauth2;
 pub mod signed_in;
 mod steps;
 mod store;
-#[cfg(test)]
-mod tests;
 pub mod tokens;
 
 pub use client::Client;

@@ -54,7 +54,8 @@ impl<'c> Logins<'c> {
     /// The empty store over a client. `TokenEndpoint` exactly where the client has no token
     /// endpoint. It takes no memory.
     pub fn new(alloc: Global, client: &'c Client) -> Result<Self, NewLoginsError>
-        ensures empty { IfOk result (λ logins. logins ≡ record { client = client.now; pending = finite.empty }) }
+        ensures empty { IfOk result (λ logins.
+            logins ≡ record { client = client.now; pending = finite.empty }) }
         ensures token_endpoint { IsErrOf result NewLoginsError.TokenEndpoint ↔ IsNone client.now.token_endpoint }
     {
         if client.token_endpoint().is_none() {
@@ -90,8 +91,7 @@ impl<'c> Logins<'c> {
         request: AuthorizationRequest,
         verifier: PkceCodeVerifier,
     ) -> Result<Url, BeginError>
-        ensures reply {
-            Begins result (begin_reply self.old.client self.old.pending request verifier) }
+        ensures reply { Begins result (begin_reply self.old.client self.old.pending request verifier) }
         ensures client { self.new.client ≡ self.old.client }
         ensures recorded { OnOk result (self.new.pending ≡ with_login self.old.pending request verifier) }
         ensures unchanged { OnErr result (self.new.pending ≡ self.old.pending) }
@@ -130,36 +130,29 @@ impl<'c> Logins<'c> {
         now: Timestamp,
     ) -> Result<SignedIn, LoginError>
         // The reply, the requests and the store are those of the one definition.
-        ensures reply {
-            let a = attempt self.old query.now now.nanosecond http.old in
+        ensures reply { let a = attempt self.old query.now now.nanosecond http.old in
             Replies result (outcome a).reply }
-        ensures sent {
-            let a = attempt self.old query.now now.nanosecond http.old in
+        ensures sent { let a = attempt self.old query.now now.nanosecond http.old in
             HandsOver http.old http.new result (outcome a).sent }
         ensures store { self.new.pending ≡ (if is_spent_by result
             then callback_store self.old.pending (pairs query.now) else self.old.pending) }
-        ensures left {
-            Leaves result self.new.pending (callback_store self.old.pending (pairs query.now)) }
+        ensures left { Leaves result self.new.pending (callback_store self.old.pending (pairs query.now)) }
         ensures client { self.new.client ≡ self.old.client }
         ensures verifiers { HasVerifiers self.new.pending }
 
         // An Ok has the claims of its own ID token, which came in the answer to this request and is
         // accepted at this moment with the named login's nonce. Where all this holds, it is Ok.
-        ensures accepted {
-            let a = attempt self.old query.now now.nanosecond http.old in
+        ensures accepted { let a = attempt self.old query.now now.nanosecond http.old in
             IfOk result (IsSignedIn a) }
-        ensures signs_in {
-            let a = attempt self.old query.now now.nanosecond http.old in
+        ensures signs_in { let a = attempt self.old query.now now.nanosecond http.old in
             (signed : SeenSignedIn) → IsSignedIn a signed → Replies result (Ok signed) }
         ensures at_most_one_request { length http.new.requests ≤ length http.old.requests + 1 }
 
         // What was handed over is nothing, or exactly the request that the named login and the query
         // ask for. Behind an Ok it is that request.
-        ensures only_its_request {
-            let a = attempt self.old query.now now.nanosecond http.old in
+        ensures only_its_request { let a = attempt self.old query.now now.nanosecond http.old in
             (http.new ≡ http.old) ⊎ SendsItsRequest a http.old http.new }
-        ensures own_request {
-            let a = attempt self.old query.now now.nanosecond http.old in
+        ensures own_request { let a = attempt self.old query.now now.nanosecond http.old in
             OnOk result (SendsItsRequest a http.old http.new) }
 
         // What `spent` says is so: a login that was removed was pending and named, and where none was
@@ -172,34 +165,27 @@ impl<'c> Logins<'c> {
         // Each refusal has its cause.
         ensures state { result ≡ Err LoginError.State
             → login_named_by self.old.pending (pairs query.now) ≡ None }
-        ensures callback {
-            let a = attempt self.old query.now now.nanosecond http.old in
+        ensures callback { let a = attempt self.old query.now now.nanosecond http.old in
             result ≡ Err LoginError.Callback → LacksCode a }
-        ensures unbuilt {
-            let a = attempt self.old query.now now.nanosecond http.old in
+        ensures unbuilt { let a = attempt self.old query.now now.nanosecond http.old in
             result ≡ Err LoginError.Unbuilt → IsUnbuilt a }
-        ensures claims {
-            let a = attempt self.old query.now now.nanosecond http.old in
+        ensures claims { let a = attempt self.old query.now now.nanosecond http.old in
             (kind : ClaimsVerificationError)
             → result ≡ Err (LoginError.Claims kind) → FailsCheck a kind }
 
         // Each cause has its refusal, where there is memory.
         ensures no_state { login_named_by self.old.pending (pairs query.now) ≡ None
             → Replies result (Err LoginError.State) }
-        ensures lacks_code {
-            let a = attempt self.old query.now now.nanosecond http.old in
+        ensures lacks_code { let a = attempt self.old query.now now.nanosecond http.old in
             LacksCode a → Replies result (Err LoginError.Callback) }
-        ensures is_unbuilt {
-            let a = attempt self.old query.now now.nanosecond http.old in
+        ensures is_unbuilt { let a = attempt self.old query.now now.nanosecond http.old in
             IsUnbuilt a → Replies result (Err LoginError.Unbuilt) }
-        ensures fails_check {
-            let a = attempt self.old query.now now.nanosecond http.old in
+        ensures fails_check { let a = attempt self.old query.now now.nanosecond http.old in
             (kind : ClaimsVerificationError)
             → FailsCheck a kind → Replies result (Err (LoginError.Claims kind)) }
 
         // Want of memory is `Memory`, and never a failed check of a signature.
-        ensures no_inner_memory {
-            result ≢ Err (LoginError.Claims (SignatureVerification signature.Memory)) }
+        ensures no_inner_memory { result ≢ Err (LoginError.Claims (SignatureVerification signature.Memory)) }
     {
         let Ok(pairs) = Pairs::parse(self.alloc, query) else {
             return Err(LoginError::Memory { spent: false });

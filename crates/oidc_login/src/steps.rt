@@ -1,6 +1,6 @@
 // The steps of a callback.
 
-ghost use Rattle.std.specs.Prelude.{◌≡◌, ◌∷◌, [], IfOk, IfErr, IfSome, IsTrue, is_some, true, if◌then◌else◌};
+ghost use Rattle.std.specs.Prelude.{◌≡◌, ◌∷◌, [], IfErr, IfSome, IsTrue, is_some, true, if◌then◌else◌};
 ghost use Rattle.oidc_login.specs.Pkce.{is_verifier};
 ghost use Rattle.oidc_login.specs.Transport.{next_of, seen_response};
 ghost use Rattle.oidc_login.specs.Verification as checks;
@@ -9,6 +9,7 @@ ghost use Rattle.oidc_login.specs.Logins.{HasVerifiers};
 ghost use Rattle.oidc_login.specs.Outcome as meant;
 ghost use Rattle.oidc_login.specs.Outcome.{login_named_by, callback_store, run_of_request};
 ghost use Rattle.oidc_login.specs.Callbacks.{HandsOver};
+ghost use Rattle.oidc_login.specs.Reading.{Reads};
 ghost use Rattle.oidc_login.specs.Steps.{Gives, Runs};
 
 use crate::client::Client;
@@ -18,12 +19,13 @@ use crate::oauth2::transport::{CallError, HttpRequest, HttpResponse, Recorded};
 use crate::signed_in::SignedIn;
 use crate::store::{Login, Store};
 use crate::tokens::id_token::IdToken;
+use crate::tokens::reading::Unread;
 use crate::tokens::token_answer::{PlainTokens, plain_tokens};
 use crate::tokens::verification::first_failure;
 use jiff::Timestamp;
 use oidc_pairs::Pairs;
 use oidc_types::Nonce;
-use std::alloc::{AllocError, Global};
+use std::alloc::Global;
 
 // Takes the login that a query names by its one state.
 pub(crate) fn take_named(pending: &mut Store, query: &Pairs) -> Option<Login>
@@ -63,22 +65,17 @@ fn token_request_for(
     }
 }
 
-// The tokens of a plain answer, with its ID token read.
+// The user whom a response would sign in.
 #[tactic(auto, unfolding(crate::specs::Outcome::candidate_in))]
-fn candidate_in(alloc: Global, response: &HttpResponse) -> Result<Option<SignedIn>, AllocError>
-    ensures { IfOk result (λ found. found ≡ meant.candidate_in (seen_response response.now)) }
+fn candidate_in(alloc: Global, response: &HttpResponse) -> Result<SignedIn, Unread>
+    ensures { Reads (meant.candidate_in (seen_response response.now)) result }
 {
-    let Some(tokens) = plain_tokens(alloc, response)? else {
-        return Ok(None);
-    };
     let PlainTokens {
         access_token,
         id_token,
-    } = tokens;
-    match IdToken::read(alloc, id_token)? {
-        Some(token) => Ok(Some(SignedIn::new(token, access_token))),
-        None => Ok(None),
-    }
+    } = plain_tokens(alloc, response)?;
+    let token = IdToken::read(alloc, id_token.into_string())?;
+    Ok(SignedIn::new(token, access_token))
 }
 
 // Signs in where no check of the ID token fails.
@@ -89,8 +86,7 @@ fn reply_for(
     now: Timestamp,
     signed: SignedIn,
 ) -> Result<SignedIn, LoginError>
-    ensures gives {
-        let failure = checks.first_failure client.now nonce.now now.nanosecond signed.id_token in
+    ensures gives { let failure = checks.first_failure client.now nonce.now now.nanosecond signed.id_token in
         Gives result (meant.unless_failed signed failure) }
     ensures spent { is_spent_by result ≡ true }
 {
@@ -109,15 +105,14 @@ fn reply_to(
     now: Timestamp,
     response: &HttpResponse,
 ) -> Result<SignedIn, LoginError>
-    ensures gives {
-        let candidate = meant.candidate_in (seen_response response.now) in
+    ensures gives { let candidate = meant.candidate_in (seen_response response.now) in
         Gives result (meant.reply_for client.now nonce.now now.nanosecond candidate) }
     ensures spent { is_spent_by result ≡ true }
 {
     match candidate_in(alloc, response) {
-        Ok(Some(signed)) => reply_for(alloc, client, nonce, now, signed),
-        Ok(None) => Err(LoginError::Unbuilt),
-        Err(_) => Err(LoginError::Memory { spent: true }),
+        Ok(signed) => reply_for(alloc, client, nonce, now, signed),
+        Err(Unread::Form) => Err(LoginError::Unbuilt),
+        Err(Unread::Memory) => Err(LoginError::Memory { spent: true }),
     }
 }
 
@@ -131,8 +126,7 @@ fn exchange(
     http: &mut Recorded,
     now: Timestamp,
 ) -> Result<SignedIn, LoginError>
-    ensures reply {
-        let answer = next_of http.old.left in
+    ensures reply { let answer = next_of http.old.left in
         Gives result (meant.reply_to client.now nonce.now now.nanosecond answer) }
     ensures sent { HandsOver http.old http.new result (request ∷ []) }
     ensures spent { is_spent_by result ≡ true }
@@ -154,8 +148,7 @@ pub(crate) fn complete_login(
     http: &mut Recorded,
     now: Timestamp,
 ) -> Result<SignedIn, LoginError>
-    ensures run {
-        let request = meant.token_request_for client.now login query.now in
+    ensures run { let request = meant.token_request_for client.now login query.now in
         let answer = next_of http.old.left in
         let run = run_of_request client.now login.nonce now.nanosecond answer request in
         Runs http.old http.new result run }

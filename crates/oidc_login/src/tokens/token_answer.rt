@@ -1,40 +1,118 @@
 //! The plain answer of a token request (RFC 6749 section 5.1).
 
-ghost use Rattle.std.specs.Prelude.{◌≡◌, ◌==◌, ◌&&◌, IfOk, codes};
-ghost use Rattle.std.specs.Option.{option_copied};
-ghost use Rattle.std.specs.String.{string_bytes};
+ghost use Rattle.std.specs.Prelude.{◌≡◌, ◌==◌, ◌&&◌, [], codes};
+ghost use Rattle.oidc_members.specs.Answers.{Answers};
 ghost use Rattle.oidc_login.specs.Transport.{seen_response};
-ghost use Rattle.oidc_login.specs.TokenAnswer.{is_text, plain_tokens as tokens_of, tokens_in as tokens_named};
+ghost use Rattle.oidc_login.specs.TokenAnswer as spec;
+ghost use Rattle.oidc_login.specs.TokenAnswer.{is_text};
+ghost use Rattle.oidc_login.specs.Fields.{token_fields};
+ghost use Rattle.oidc_login.specs.Reading.{Reads};
 
 use crate::oauth2::transport::HttpResponse;
-use crate::tokens::members::{members_of, text_named};
+use crate::tokens::reading::{Unread, members_in};
 use http_header::CONTENT_TYPE;
-use oidc_members::Members;
-use oidc_types::AccessToken;
-use std::alloc::{AllocError, Global};
+use oidc_members::{Member, Members, ParseError, ParseKind};
+use oidc_readers::{FieldValue, MemberReader, Once, read_fields, refused};
+use oidc_types::{AccessToken, Marker, Secret};
+use std::alloc::Global;
 use std::marker::Model;
+
+// The name of `IdTokenText`.
+#[derive(Drop)]
+pub(crate) struct IdTokenTextMarker;
+
+impl Marker for IdTokenTextMarker {
+    const NAME: &'static str = "IdTokenText";
+}
+
+// The text of an ID token that isn't read yet.
+pub(crate) type IdTokenText = Secret<IdTokenTextMarker>;
 
 // An access token, and the text of an ID token.
 #[derive(Drop)]
 pub(crate) struct PlainTokens {
     pub(crate) access_token: AccessToken,
-    pub(crate) id_token: String,
+    pub(crate) id_token: IdTokenText,
 }
 
 impl Model for PlainTokens {
-    ghost use Rattle.std.specs.String.{string_bytes};
     ghost use Rattle.oidc_login.specs.TokenAnswer.{Tokens, tokens_code};
 
     ghost Value = { Tokens };
 
     ghost coded = { tokens_code };
 
-    ghost view = { λ t. record { access_token = t.access_token; id_token = string_bytes t.id_token } };
+    ghost view = { λ t. record { access_token = t.access_token; id_token = t.id_token } };
+}
+
+// The token type `Bearer`.
+#[derive(Clone, Copy, Drop)]
+pub(crate) struct Bearer;
+
+impl FieldValue for Bearer {
+    ghost read_of = { spec.bearer_kind };
+
+    fn read(alloc: Global, member: &Member) -> Result<Bearer, ParseError> {
+        if member.value().as_str() == Some("Bearer") {
+            return Ok(Bearer);
+        }
+        Err(refused(alloc, ParseKind::WrongType, member.name()))
+    }
+}
+
+// The fields, as they are read.
+#[derive(Drop)]
+pub(crate) struct TokenFields {
+    access_token: Once<AccessToken>,
+    token_type: Once<Bearer>,
+    id_token: Once<IdTokenText>,
+}
+
+impl TokenFields {
+    #[tactic(auto, unfolding(oidc_readers::specs::Slots::slot))]
+    fn new() -> Self
+        ensures { result ≡ token_fields [] }
+    {
+        TokenFields {
+            access_token: Once::new(),
+            token_type: Once::new(),
+            id_token: Once::new(),
+        }
+    }
+}
+
+impl MemberReader for TokenFields {
+    ghost fault = { spec.tokens_rule };
+
+    ghost state = { token_fields };
+
+    fn take(&mut self, alloc: Global, member: &Member) -> Result<(), ParseError> {
+        self.access_token
+            .take(alloc, "access_token", member)
+            .and(self.token_type.take(alloc, "token_type", member))
+            .and(self.id_token.take(alloc, "id_token", member))
+    }
+}
+
+// The tokens that these members hold.
+#[tactic(auto, unfolding(crate::specs::TokenAnswer::tokens_of, oidc_readers::specs::Slots::slot))]
+fn tokens_of(alloc: Global, members: &Members) -> Result<PlainTokens, ParseError>
+    ensures { Answers (spec.tokens_of members.now) result }
+{
+    let fields = read_fields(alloc, TokenFields::new(), members)?;
+    let access_token = fields.access_token.required(alloc, "access_token")?;
+    let Bearer = fields.token_type.required(alloc, "token_type")?;
+    let id_token = fields.id_token.required(alloc, "id_token")?;
+    Ok(PlainTokens {
+        access_token,
+        id_token,
+    })
 }
 
 // Whether an answer has exactly the type `application/json`.
 fn is_json(response: &HttpResponse) -> bool
-    ensures { result ≡ is_text (codes "application/json") (seen_response response.now).content_type }
+    ensures { result
+        ≡ is_text (codes "application/json") (seen_response response.now).content_type }
 {
     match response.headers().get(CONTENT_TYPE) {
         Some(value) => value.as_bytes() == b"application/json".as_slice(),
@@ -50,39 +128,19 @@ fn is_plain(response: &HttpResponse) -> bool
     response.status().as_u16() == 200 && is_json(response)
 }
 
-// The tokens that these members hold, where they are exactly three texts.
-fn tokens_in(alloc: Global, members: &Members) -> Result<Option<PlainTokens>, AllocError>
-    ensures { IfOk result (λ found. found ≡ tokens_named members.now) }
-{
-    if members.len() != 3 || text_named(members, "token_type") != Some("Bearer") {
-        return Ok(None);
-    }
-    let Some(access_token) = text_named(members, "access_token") else {
-        return Ok(None);
-    };
-    let Some(id_token) = text_named(members, "id_token") else {
-        return Ok(None);
-    };
-    Ok(Some(PlainTokens {
-        access_token: AccessToken::new(String::from_str(alloc, access_token)?),
-        id_token: String::from_str(alloc, id_token)?,
-    }))
-}
-
 // The tokens of a plain answer: status 200, exactly the type `application/json`, and a body whose
 // members are exactly `access_token`, `token_type`, which is `Bearer`, and `id_token`, all texts.
 #[tactic(auto, unfolding(crate::specs::TokenAnswer::plain_tokens))]
-pub(crate) fn plain_tokens(
-    alloc: Global,
-    response: &HttpResponse,
-) -> Result<Option<PlainTokens>, AllocError>
-    ensures { IfOk result (λ found. found ≡ tokens_of (seen_response response.now)) }
+pub(crate) fn plain_tokens(alloc: Global, response: &HttpResponse) -> Result<PlainTokens, Unread>
+    ensures { Reads (spec.plain_tokens (seen_response response.now)) result }
 {
     if !is_plain(response) {
-        return Ok(None);
+        return Err(Unread::Form);
     }
-    match members_of(alloc, response.body().as_slice())? {
-        Some(members) => tokens_in(alloc, &members),
-        None => Ok(None),
+    let members = members_in(alloc, response.body().as_slice())?;
+    if members.len() != 3 {
+        return Err(Unread::Form);
     }
+    let tokens = tokens_of(alloc, &members)?;
+    Ok(tokens)
 }

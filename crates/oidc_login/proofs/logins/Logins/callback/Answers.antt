@@ -1,7 +1,8 @@
 use Rattle.std.proofs.Common.{refl, sym, ◌∙◌, Err}
 use Rattle.oidc_login.specs.declared.errors.LoginError.TheVariants.{State}
+use Rattle.oidc_pairs.specs.Pairs.{pairs}
 use Rattle.oidc_login.specs.Outcome.{attempt}
-use Rattle.oidc_login.proofs.Sent.{after_nothing}
+use Rattle.oidc_login.proofs.Sent.{after_nothing, unnamed_store}
 use Rattle.oidc_login.proofs.Called.{outcome-unnamed, outcome-named, called_accepted, called_unbuilt, called_callback, called_claims, signs_in}
 use Rattle.oidc_login.proofs.Causes.{replies_callback, replies_unbuilt, replies_claims, never_memory}
 use Rattle.oidc_login.proofs.Handed.{sent_own, answered_own}
@@ -22,6 +23,12 @@ pub returns-in-None-clause-sent : goal.returns-in-None-clause-sent
 returns-in-None-clause-sent c =
     let unnamed = rw c.in-Ok.ensures at (sym c.take_named.ensures.login ∙ c.in-None.is) in
     rw (← c.self.view_is) (rw (outcome-unnamed (attempt (record { client = c.self.inside.client.now; pending = c.self.inside.pending }) c.args.query.now c.args.now.nanosecond c.args.http.now) unnamed) (sym (after_nothing _)))
+
+pub returns-in-None-clause-left : goal.returns-in-None-clause-left
+returns-in-None-clause-left c =
+    let unnamed = rw c.in-Ok.ensures at (sym c.take_named.ensures.login ∙ c.in-None.is) in
+    let stays = rw c.in-None.is at c.take_named.ensures.rest in
+    rw (← c.self.view_is) (stays ∙ unnamed_store c.self.inside.pending (pairs c.args.query.now) unnamed)
 
 pub returns-clause-reply : goal.returns-clause-reply
 returns-clause-reply c =

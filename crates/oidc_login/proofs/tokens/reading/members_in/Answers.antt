@@ -1,5 +1,5 @@
-use Rattle.oidc_login.proofs.Members.{members_of_refused}
-use Rattle.oidc_login.proofs.tokens.members.members_of.Goals as goal
+use Rattle.oidc_login.proofs.Refused.{members_of_refused}
+use Rattle.oidc_login.proofs.tokens.reading.members_in.Goals as goal
 
 pub returns-in-Err-Refused : goal.returns-in-Err-Refused
 returns-in-Err-Refused c =
