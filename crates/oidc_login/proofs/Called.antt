@@ -5,7 +5,7 @@ use Rattle.std.specs.Result.{result_unwrap_or}
 use Rattle.oidc_pairs.specs.Pairs.{pairs, values_in, only_of}
 use Rattle.oidc_login.specs.Transport.{SeenRequest, SeenResponse, SeenAnswer, Wire}
 use Rattle.oidc_login.specs.Client.{SeenClient}
-use Rattle.oidc_login.specs.Logins.{SeenLogin, Pending}
+use Rattle.oidc_login.specs.Logins.{SeenLogin}
 use Rattle.oidc_login.specs.CodeRequest.{code_request}
 use Rattle.oidc_login.specs.TokenAnswer.{Tokens, plain_tokens}
 use Rattle.oidc_login.specs.Reading.{◌>>=◌}

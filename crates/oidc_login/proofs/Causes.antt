@@ -7,9 +7,9 @@ use Rattle.oidc_types.specs.declared.core_algorithms.CoreJwsSigningAlgorithm.{Co
 use Rattle.oidc_keys.specs.Symmetric.{symmetric_verdict, compared}
 use Rattle.oidc_keys.specs.declared.refusals.SignatureVerificationError.{SignatureVerificationError}
 use Rattle.oidc_keys.specs.declared.refusals.SignatureVerificationError.TheVariants as signature
-use Rattle.oidc_login.specs.Transport.{SeenRequest, SeenAnswer}
+use Rattle.oidc_login.specs.Transport.{SeenRequest}
 use Rattle.oidc_login.specs.Client.{SeenClient}
-use Rattle.oidc_login.specs.Logins.{SeenLogin, Pending}
+use Rattle.oidc_login.specs.Logins.{SeenLogin}
 use Rattle.oidc_login.specs.CodeRequest.{code_request}
 use Rattle.oidc_login.specs.Claims.{SeenIdTokenClaims}
 use Rattle.oidc_login.specs.IdToken.{SeenIdToken}

@@ -1,10 +1,9 @@
 -- The one request that a callback hands over.
-use Rattle.std.proofs.Common.{◌≡◌, ℕ, zero, suc, ℤ, List, [], ◌∷◌, take, true, false, Some, Result, Ok, Err, refl, ap, ◌∙◌, inl, inr, ⊎_elim}
+use Rattle.std.proofs.Common.{◌≡◌, ℕ, zero, suc, List, [], ◌∷◌, take, true, false, Some, Result, Ok, Err, refl, ap, ◌∙◌, inl, inr, ⊎_elim}
 use Rattle.std.specs.Prelude.{◌⊎◌, OnOk}
 use Rattle.oidc_pairs.specs.Pairs.{pairs}
-use Rattle.oidc_login.specs.Transport.{SeenRequest, SeenAnswer, Wire}
-use Rattle.oidc_login.specs.Client.{SeenClient}
-use Rattle.oidc_login.specs.Logins.{SeenLogin, Pending}
+use Rattle.oidc_login.specs.Transport.{SeenRequest, Wire}
+use Rattle.oidc_login.specs.Logins.{SeenLogin}
 use Rattle.oidc_login.specs.SignedIn.{SeenSignedIn}
 use Rattle.oidc_login.specs.Outcome.{Attempt, Run, login_named_by, token_request_for, run_of_request}
 use Rattle.oidc_login.specs.Callbacks.{Replies, HandsOver, SendsItsRequest, after}

@@ -27,15 +27,15 @@ Leaves answer left meant = left ≡ meant
 abbrev pub after : Wire → List SeenRequest → Wire
 after wire sent = record { requests = wire.requests ++ sent; left = drop (length sent) wire.left }
 
--- These requests were handed over. For want of memory it may be the first of them alone, and nothing
--- where the login wasn't removed.
+-- These requests were handed over. For want of memory it may be the first of them alone, and
+-- nothing where the login wasn't removed.
 abbrev pub HandsOver : Wire → Wire → Result SeenSignedIn LoginError → List SeenRequest → Type 0
 HandsOver old new (Err (Memory false)) sent = new ≡ old
 HandsOver old new (Err (Memory true)) sent = (count : ℕ) × (new ≡ after old (take count sent))
 HandsOver old new answer sent = new ≡ after old sent
 
--- The token request of a callback: the query names this pending login, has no `error` and one `code`,
--- and a request can be made for it.
+-- The token request of a callback: the query names this pending login, has no `error` and one
+-- `code`, and a request can be made for it.
 pub record Asks (a : Attempt) (login : SeenLogin) : Type 0 where
   pub login_named : login_named_by a.pending (pairs a.query) ≡ Some login
   pub no_error : values a.query (codes "error") ≡ []
@@ -50,8 +50,8 @@ pub record SendsItsRequest (a : Attempt) (old new : Wire) : Type 0 where
   pub asked : Asks a login
   pub handed_over : new ≡ after old (asked.request ∷ [])
 
--- A user who is signed in: the token request was made, its answer was plain, the ID token is the one
--- in it, and it is accepted with the named login's nonce at this moment.
+-- A user who is signed in: the token request was made, its answer was plain, the ID token is the
+-- one in it, and it is accepted with the named login's nonce at this moment.
 pub record IsSignedIn (a : Attempt) (signed : SeenSignedIn) : Type 0 where
   pub login : SeenLogin
   pub asked : Asks a login
@@ -83,19 +83,20 @@ pub record HasNoRequest (a : Attempt) : Type 0 where
   pub one_code : only_of (values a.query (codes "code")) ≡ Some code
   pub no_request : code_request a.client login.verifier code ≡ None
 
--- the token request was made, and its answer is a fault of the transport, or a response that isn't plain
+-- the token request was made, and its answer is a fault of the transport, or a response that isn't
+-- plain
 pub record IsNotPlain (a : Attempt) : Type 0 where
   pub login : SeenLogin
   pub asked : Asks a login
   pub not_plain : option_and_then candidate_in a.answer ≡ None
 
--- what isn't built yet: an `error` in the query, no request that can be made, a fault of the transport,
--- or a response that isn't plain
+-- what isn't built yet: an `error` in the query, no request that can be made, a fault of the
+-- transport, or a response that isn't plain
 abbrev pub IsUnbuilt : Attempt → Type 0
 IsUnbuilt a = HasError a ⊎ (HasNoRequest a ⊎ IsNotPlain a)
 
--- the token request was made, its answer was plain, and this check of the ID token is the first that
--- fails
+-- the token request was made, its answer was plain, and this check of the ID token is the first
+-- that fails
 pub record FailsCheck (a : Attempt) (kind : ClaimsVerificationError) : Type 0 where
   pub login : SeenLogin
   pub asked : Asks a login

@@ -43,7 +43,9 @@ abbrev pub sub : Field (List ℕ)
 sub = field (codes "sub") text_kind
 
 abbrev pub claims_rule : Rule
-claims_rule = by_table (judged iss ∷ judged aud ∷ judged exp ∷ judged iat ∷ judged nonce ∷ judged sub ∷ [])
+claims_rule =
+    by_table
+    (judged iss ∷ judged aud ∷ judged exp ∷ judged iat ∷ judged nonce ∷ judged sub ∷ [])
 
 -- each of them once, and of its kind
 unfoldable pub claim_set_of : List SeenMember → Result SeenIdTokenClaims Refusal

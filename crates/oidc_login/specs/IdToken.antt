@@ -61,7 +61,8 @@ token_of_parts text header payload signature = do
 
 -- the token of the parts between its dots, where there are three
 abbrev pub token_of_split : List ℕ → List (List ℕ) → Option SeenIdToken
-token_of_split text (header ∷ payload ∷ signature ∷ []) = token_of_parts text header payload signature
+token_of_split text (header ∷ payload ∷ signature ∷ []) =
+    token_of_parts text header payload signature
 token_of_split text parts = None
 
 -- the token that a text is

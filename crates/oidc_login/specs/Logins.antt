@@ -24,7 +24,8 @@ pub record SeenLogins : Type 0 where
 -- each pending login has a verifier of 43 to 128 bytes
 abbrev pub HasVerifiers : Pending → Type 0
 HasVerifiers pending =
-    (state : List ℕ) (login : SeenLogin) → finite.get pending state ≡ Some login → IsTrue (is_verifier login.verifier)
+    (state : List ℕ) (login : SeenLogin)
+    → finite.get pending state ≡ Some login → IsTrue (is_verifier login.verifier)
 
 -- ---- how the logic stores them
 

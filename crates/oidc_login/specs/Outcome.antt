@@ -46,8 +46,8 @@ begin_store (Err error) pending request verifier = pending
 
 -- ---- callback
 
--- What a callback starts from: the client and its pending logins, the query, the moment (nanoseconds
--- since the Unix epoch), and the answer that the transport gives next.
+-- What a callback starts from: the client and its pending logins, the query, the moment
+-- (nanoseconds since the Unix epoch), and the answer that the transport gives next.
 pub record Attempt : Type 0 where
   pub client : SeenClient
   pub pending : Pending
@@ -98,14 +98,17 @@ request_with client login None = Err refusal.Callback
 request_with client login (Some code) = or_unbuilt (code_request client login.verifier code)
 
 -- an `error` in a query refuses before the codes are looked at (RFC 6749 section 4.1.2.1)
-abbrev pub unless_error : List (List ℕ) → Result SeenRequest LoginError → Result SeenRequest LoginError
+abbrev pub unless_error : List (List ℕ) → Result SeenRequest LoginError
+    → Result SeenRequest LoginError
 unless_error [] next = next
 unless_error (error ∷ others) next = Err refusal.Unbuilt
 
 -- the token request that a named login and a query ask for, or why there is none
-unfoldable pub token_request_for : SeenClient → SeenLogin → List (List ℕ × List ℕ) → Result SeenRequest LoginError
+unfoldable pub token_request_for : SeenClient → SeenLogin → List (List ℕ × List ℕ)
+    → Result SeenRequest LoginError
 token_request_for client login query =
-    unless_error (values_in query (codes "error")) (request_with client login (only_of (values_in query (codes "code"))))
+    unless_error (values_in query (codes "error"))
+    (request_with client login (only_of (values_in query (codes "code"))))
 
 -- the user whom a response would sign in: the tokens of a plain answer, with its ID token read
 unfoldable pub candidate_in : SeenResponse → Option SeenSignedIn
@@ -115,21 +118,25 @@ candidate_in response = do
   Some (record { id_token = token; access_token = tokens.access_token })
 
 -- no check of the ID token fails
-abbrev pub unless_failed : SeenSignedIn → Option ClaimsVerificationError → Result SeenSignedIn LoginError
+abbrev pub unless_failed : SeenSignedIn → Option ClaimsVerificationError
+    → Result SeenSignedIn LoginError
 unless_failed signed None = Ok signed
 unless_failed signed (Some kind) = Err (refusal.Claims kind)
 
 -- the reply where an answer would sign this user in, or nobody
-abbrev pub reply_for : SeenClient → List ℕ → ℤ → Option SeenSignedIn → Result SeenSignedIn LoginError
+abbrev pub reply_for : SeenClient → List ℕ → ℤ → Option SeenSignedIn
+    → Result SeenSignedIn LoginError
 reply_for client nonce now None = Err refusal.Unbuilt
-reply_for client nonce now (Some signed) = unless_failed signed (first_failure client nonce now signed.id_token)
+reply_for client nonce now (Some signed) =
+    unless_failed signed (first_failure client nonce now signed.id_token)
 
 -- the reply where this is the answer to the token request
 abbrev pub reply_to : SeenClient → List ℕ → ℤ → SeenAnswer → Result SeenSignedIn LoginError
 reply_to client nonce now answer = reply_for client nonce now (option_and_then candidate_in answer)
 
 -- the token request of a named login is sent, and its answer judged
-abbrev pub run_of_request : SeenClient → List ℕ → ℤ → SeenAnswer → Result SeenRequest LoginError → Run
+abbrev pub run_of_request : SeenClient → List ℕ → ℤ → SeenAnswer
+    → Result SeenRequest LoginError → Run
 run_of_request client nonce now answer (Err error) = refused error
 run_of_request client nonce now answer (Ok request) =
     record { reply = reply_to client nonce now answer; sent = request ∷ [] }
@@ -137,7 +144,8 @@ run_of_request client nonce now answer (Ok request) =
 abbrev pub run_of_login : Attempt → Option SeenLogin → Run
 run_of_login a None = refused refusal.State
 run_of_login a (Some login) =
-    run_of_request a.client login.nonce a.now a.answer (token_request_for a.client login (pairs a.query))
+    run_of_request a.client login.nonce a.now a.answer
+    (token_request_for a.client login (pairs a.query))
 
 -- the whole of a callback
 unfoldable pub outcome : Attempt → Run

@@ -1,6 +1,6 @@
 -- What the steps of a callback answer, once the login was removed. No public clause cites this.
 use Rattle.std.specs.Prelude.{◌≡◌, true, Result, Err}
-use Rattle.oidc_login.specs.Transport.{SeenRequest, Wire}
+use Rattle.oidc_login.specs.Transport.{Wire}
 use Rattle.oidc_login.specs.SignedIn.{SeenSignedIn}
 use Rattle.oidc_login.specs.Outcome.{Run}
 use Rattle.oidc_login.specs.Callbacks.{Replies, HandsOver}

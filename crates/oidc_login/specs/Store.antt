@@ -16,7 +16,8 @@ kept entries = finite.from_entries (by_state entries)
 -- no state stands twice
 abbrev pub AreDistinctPairs : List (List ℕ × SeenLogin) → Type 0
 AreDistinctPairs [] = Unit {0}
-AreDistinctPairs (e ∷ rest) = (finite.find (slice_cmp nat_cmp) e.0 rest ≡ None) × AreDistinctPairs rest
+AreDistinctPairs (e ∷ rest) =
+    (finite.find (slice_cmp nat_cmp) e.0 rest ≡ None) × AreDistinctPairs rest
 
 abbrev pub AreDistinct : List Entry → Type 0
 AreDistinct entries = AreDistinctPairs (by_state entries)

@@ -1,4 +1,5 @@
--- The plain answer of a token request: RFC 6749 section 5.1, OpenID Connect Core 1.0 section 3.1.3.3.
+-- The plain answer of a token request: RFC 6749 section 5.1, OpenID Connect Core 1.0 section
+-- 3.1.3.3.
 use Rattle.std.specs.Prelude.{ℕ, ◌==◌, List, [], ◌∷◌, length, Option, None, Some, option_and_then, Bool, ◌&&◌, if◌then◌else◌, codes, refl, Result, Ok, Err}
 use Rattle.std.specs.Result.{result_ok}
 use Rattle.std.specs.Coded.{Coded, code_by, coded_ℕ, coded_list, coded×}
@@ -31,7 +32,10 @@ access_token = field (codes "access_token") text_kind
 
 -- the text `Bearer`
 abbrev pub bearer_kind : Kind Bearer
-bearer_kind m = if is_text (codes "Bearer") (as_str m.value) then Ok (record {}) else Err (of_member WrongType m)
+bearer_kind m =
+    if is_text (codes "Bearer") (as_str m.value)
+    then Ok (record {})
+    else Err (of_member WrongType m)
 
 abbrev pub token_type : Field Bearer
 token_type = field (codes "token_type") bearer_kind
@@ -66,4 +70,5 @@ plain_tokens response =
 abbrev pub tokens_code : Coded Tokens
 tokens_code =
     code_by (List ℕ × List ℕ) (coded× (coded_list coded_ℕ) (coded_list coded_ℕ))
-    (λ t. (t.access_token, t.id_token)) (λ p. record { access_token = p.0; id_token = p.1 }) (λ _. refl)
+    (λ t. (t.access_token, t.id_token))
+    (λ p. record { access_token = p.0; id_token = p.1 }) (λ _. refl)

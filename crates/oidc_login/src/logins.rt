@@ -56,7 +56,8 @@ impl<'c> Logins<'c> {
     pub fn new(alloc: Global, client: &'c Client) -> Result<Self, NewLoginsError>
         ensures empty { IfOk result (λ logins.
             logins ≡ record { client = client.now; pending = finite.empty }) }
-        ensures token_endpoint { IsErrOf result NewLoginsError.TokenEndpoint ↔ IsNone client.now.token_endpoint }
+        ensures token_endpoint { IsErrOf result NewLoginsError.TokenEndpoint
+            ↔ IsNone client.now.token_endpoint }
     {
         if client.token_endpoint().is_none() {
             return Err(NewLoginsError::TokenEndpoint);
@@ -91,14 +92,17 @@ impl<'c> Logins<'c> {
         request: AuthorizationRequest,
         verifier: PkceCodeVerifier,
     ) -> Result<Url, BeginError>
-        ensures reply { Begins result (begin_reply self.old.client self.old.pending request verifier) }
+        ensures reply { Begins result
+            (begin_reply self.old.client self.old.pending request verifier) }
         ensures client { self.new.client ≡ self.old.client }
-        ensures recorded { OnOk result (self.new.pending ≡ with_login self.old.pending request verifier) }
+        ensures recorded { OnOk result
+            (self.new.pending ≡ with_login self.old.pending request verifier) }
         ensures unchanged { OnErr result (self.new.pending ≡ self.old.pending) }
         ensures verifiers { HasVerifiers self.new.pending }
 
         // Each refusal has its cause.
-        ensures verifier { IsErrOf result BeginError.Verifier ↔ IsTrue (not (is_verifier verifier)) }
+        ensures verifier { IsErrOf result BeginError.Verifier
+            ↔ IsTrue (not (is_verifier verifier)) }
         ensures pending { IsErrOf result BeginError.Pending
             → IsTrue (finite.contains_key self.old.pending request.state) }
     {
@@ -136,7 +140,8 @@ impl<'c> Logins<'c> {
             HandsOver http.old http.new result (outcome a).sent }
         ensures store { self.new.pending ≡ (if is_spent_by result
             then callback_store self.old.pending (pairs query.now) else self.old.pending) }
-        ensures left { Leaves result self.new.pending (callback_store self.old.pending (pairs query.now)) }
+        ensures left { Leaves result self.new.pending
+            (callback_store self.old.pending (pairs query.now)) }
         ensures client { self.new.client ≡ self.old.client }
         ensures verifiers { HasVerifiers self.new.pending }
 
@@ -148,15 +153,15 @@ impl<'c> Logins<'c> {
             (signed : SeenSignedIn) → IsSignedIn a signed → Replies result (Ok signed) }
         ensures at_most_one_request { length http.new.requests ≤ length http.old.requests + 1 }
 
-        // What was handed over is nothing, or exactly the request that the named login and the query
-        // ask for. Behind an Ok it is that request.
+        // What was handed over is nothing, or exactly the request that the named login and the
+        // query ask for. Behind an Ok it is that request.
         ensures only_its_request { let a = attempt self.old query.now now.nanosecond http.old in
             (http.new ≡ http.old) ⊎ SendsItsRequest a http.old http.new }
         ensures own_request { let a = attempt self.old query.now now.nanosecond http.old in
             OnOk result (SendsItsRequest a http.old http.new) }
 
-        // What `spent` says is so: a login that was removed was pending and named, and where none was
-        // removed, nothing was sent either.
+        // What `spent` says is so: a login that was removed was pending and named, and where none
+        // was removed, nothing was sent either.
         ensures removed { IsTrue (is_spent_by result)
             → IsSome (login_named_by self.old.pending (pairs query.now)) }
         ensures unspent { is_spent_by result ≡ false
@@ -185,7 +190,8 @@ impl<'c> Logins<'c> {
             → FailsCheck a kind → Replies result (Err (LoginError.Claims kind)) }
 
         // Want of memory is `Memory`, and never a failed check of a signature.
-        ensures no_inner_memory { result ≢ Err (LoginError.Claims (SignatureVerification signature.Memory)) }
+        ensures no_inner_memory { result
+            ≢ Err (LoginError.Claims (SignatureVerification signature.Memory)) }
     {
         let Ok(pairs) = Pairs::parse(self.alloc, query) else {
             return Err(LoginError::Memory { spent: false });
@@ -200,7 +206,8 @@ impl<'c> Logins<'c> {
 // The challenge of a verifier, or why there is none.
 fn challenge_of(alloc: Global, verifier: &PkceCodeVerifier) -> Result<PkceCodeChallenge, BeginError>
     ensures challenge { IfOk result (λ challenge. challenge ≡ s256 verifier.now) }
-    ensures verifier { IsErrOf result BeginError.Verifier ↔ IsTrue (not (is_verifier verifier.now)) }
+    ensures verifier { IsErrOf result BeginError.Verifier
+        ↔ IsTrue (not (is_verifier verifier.now)) }
     ensures not_pending { result ≢ Err BeginError.Pending }
 {
     match PkceCodeChallenge::from_code_verifier_sha256(alloc, verifier) {

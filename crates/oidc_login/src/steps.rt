@@ -86,7 +86,8 @@ fn reply_for(
     now: Timestamp,
     signed: SignedIn,
 ) -> Result<SignedIn, LoginError>
-    ensures gives { let failure = checks.first_failure client.now nonce.now now.nanosecond signed.id_token in
+    ensures gives { let token = signed.id_token in
+        let failure = checks.first_failure client.now nonce.now now.nanosecond token in
         Gives result (meant.unless_failed signed failure) }
     ensures spent { is_spent_by result ≡ true }
 {

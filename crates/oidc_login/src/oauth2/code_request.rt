@@ -74,8 +74,8 @@ fn basic_authorization(alloc: Global, client: &Client) -> Result<HeaderValue, Al
 
 // The text of these credentials, which is a header's value.
 fn credentials_text(alloc: Global, client: &Client) -> Result<String, AllocError>
-    ensures text { let credentials = basic_credentials client.now.client_id client.now.client_secret in
-        IfOk result (λ text. string_bytes text ≡ credentials) }
+    ensures text { IfOk result (λ text. string_bytes text
+        ≡ basic_credentials client.now.client_id client.now.client_secret) }
     ensures valid { IfOk result (λ text. IsFieldValue (string_bytes text)) }
 {
     let plain = plain_credentials(alloc, client)?;

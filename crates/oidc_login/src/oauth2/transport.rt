@@ -135,7 +135,8 @@ pub enum CallError {
 
 /// A transport in memory: it gives its answers in their order, and keeps the requests.
 ///
-/// Contracts see the requests that were handed over, faulted ones too, and the answers that are left.
+/// Contracts see the requests that were handed over, faulted ones too, and the answers that are
+/// left.
 #[derive(Drop)]
 pub struct Recorded {
     answers: IntoIter<Answer>,
