@@ -99,10 +99,7 @@ fn login(alloc: Global, client: &Client, given: Given) -> Result<String, Fail> {
     Ok(format!(in alloc; "{before} {after} {sent} {answered}")?)
 }
 
-fn answer(
-    alloc: Global,
-    reply: Result<oidc_login::SignedIn, LoginError>,
-) -> Result<String, Fail> {
+fn answer(alloc: Global, reply: Result<oidc_login::SignedIn, LoginError>) -> Result<String, Fail> {
     match reply {
         Ok(signed) => {
             let subject = signed.claims().subject().as_str();
@@ -132,14 +129,21 @@ const CASES: [(usize, Given, &str); 5] = [
 #[test]
 fn callbacks_over_each_transport(rt: HostRuntime) -> Result<(), Fail> {
     for (len, given, wanted) in CASES {
-        assert_eq!(rt; login_at(rt.alloc(), len, given)?.as_str(), wanted, "{wanted}");
+        assert_eq!(rt;
+            login_at(rt.alloc(), len, given)?.as_str(),
+            wanted,
+            "{wanted}"
+        );
     }
     Ok(())
 }
 
 fn store_is_refused(alloc: Global) -> Result<bool, Fail> {
     let client = client(alloc)?;
-    Ok(matches!(Logins::new(alloc, &client), Err(NewLoginsError::TokenEndpoint)))
+    Ok(matches!(
+        Logins::new(alloc, &client),
+        Err(NewLoginsError::TokenEndpoint)
+    ))
 }
 
 #[test]
