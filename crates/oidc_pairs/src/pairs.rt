@@ -68,9 +68,8 @@ impl Model for Pairs {
 }
 
 impl Pairs {
-    /// The pairs of a form text (URL Standard, section 5.1). Every text has some, or none: what isn't
-    /// UTF-8 is read as U+FFFD, and a `%` that begins no escape stands for itself. The only error is
-    /// want of memory.
+    /// The pairs of a form text (URL Standard, section 5.1). No text is refused: what isn't UTF-8
+    /// is read as U+FFFD, and a `%` that begins no escape stands for itself.
     pub fn parse(alloc: Global, text: &[u8]) -> Result<Self, AllocError>
         ensures { IfOk result (λ read. read ≡ pairs text.now) }
     {

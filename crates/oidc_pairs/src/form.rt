@@ -18,7 +18,7 @@ pub struct FormText {
 impl Model for FormText {
     ghost use Rattle.std.specs.Prelude.{List, ℕ};
     ghost use Rattle.oidc_pairs.specs.Pairs.{pairs};
-    ghost use Rattle.oidc_pairs.specs.Written.{IsWritten};
+    ghost use Rattle.oidc_pairs.specs.Form.{IsWritten};
 
     ghost Value = { List (List ℕ × List ℕ) };
 

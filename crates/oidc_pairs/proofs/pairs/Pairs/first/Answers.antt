@@ -1,7 +1,7 @@
 use Rattle.std.proofs.Common.{◌≡◌, true, sym, ap, ◌∙◌}
 use Rattle.std.specs.Str.{bytes_eq}
 use Rattle.oidc_pairs.proofs.Lookups.{first_found}
-use Rattle.oidc_pairs.proofs.reading.Pairs.first.Goals as goal
+use Rattle.oidc_pairs.proofs.pairs.Pairs.first.Goals as goal
 
 pub returns-then-eq : goal.returns-then-eq
 returns-then-eq c =

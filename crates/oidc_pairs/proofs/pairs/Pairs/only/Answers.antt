@@ -1,7 +1,7 @@
 use Rattle.std.proofs.Common.{◌≡◌, true, sym, ap, ◌∙◌}
 use Rattle.std.specs.Str.{bytes_eq}
 use Rattle.oidc_pairs.proofs.Lookups.{second_found}
-use Rattle.oidc_pairs.proofs.reading.Pairs.only.Goals as goal
+use Rattle.oidc_pairs.proofs.pairs.Pairs.only.Goals as goal
 
 pub returns-then-is_some : goal.returns-then-is_some
 returns-then-is_some c =

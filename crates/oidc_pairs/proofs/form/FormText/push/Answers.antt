@@ -1,5 +1,5 @@
-use Rattle.oidc_pairs.proofs.Written.{IsWritten_pushed, pairs_pushed}
-use Rattle.oidc_pairs.proofs.writing.FormText.push.Goals as goal
+use Rattle.oidc_pairs.proofs.FormTexts.{IsWritten_pushed, pairs_pushed}
+use Rattle.oidc_pairs.proofs.form.FormText.push.Goals as goal
 
 pub invariant_of-self : goal.invariant_of-self
 invariant_of-self c =
