@@ -5,7 +5,7 @@ use Rattle.serde_json.specs.Data.{Data, members_depth}
 use Rattle.serde_json.specs.Written.{compact_text}
 use Rattle.oidc_members.specs.Seen.{SeenMember, OutSeen}
 use Rattle.oidc_members.specs.Objects.{members_of}
-use Rattle.oidc_members.specs.Written.{data_of, object_text}
+use Rattle.oidc_members.specs.Write.{data_of, object_text}
 use Rattle.oidc_members.specs.declared.refusal.Refusal.{Refusal}
 use Rattle.oidc_readers.specs.WrittenBack.{MayBeWritten, IsUtf8Member, MembersAreWhole, MembersHaveTexts}
 use Rattle.oidc_readers.proofs.WrittenBack.{written_split_back}

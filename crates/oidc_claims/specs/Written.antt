@@ -7,7 +7,7 @@ use Rattle.serde_json.specs.Data.{Data, boolean, number, string, object}
 use Rattle.serde_json.specs.Find.{of_integer}
 use Rattle.oidc_types.specs.Variants.{Variants}
 use Rattle.oidc_members.specs.Seen.{OutSeen}
-use Rattle.oidc_members.specs.Written.{data_of}
+use Rattle.oidc_members.specs.Write.{data_of}
 use Rattle.oidc_claims.specs.declared.claim.Claim.{Claim}
 use Rattle.oidc_claims.specs.declared.claim.Claim.TheVariants.{Subject, Name, GivenName, FamilyName, MiddleName, Nickname, PreferredUsername, Profile, Picture, Website, Email, EmailVerified, Gender, Birthday, Birthdate, Zoneinfo, Locale, PhoneNumber, PhoneNumberVerified, Address, UpdatedAt}
 use Rattle.oidc_claims.specs.declared.claims.address.AddressClaim.{AddressClaim}

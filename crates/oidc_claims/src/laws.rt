@@ -5,7 +5,7 @@ ghost use Rattle.std.specs.Prelude.{◌≡◌, List, Some, Ok, IsTrue, map, opti
 ghost use Rattle.std.specs.List.{All};
 ghost use Rattle.oidc_members.specs.Objects.{members_of};
 ghost use Rattle.oidc_members.specs.Seen.{SeenMember};
-ghost use Rattle.oidc_members.specs.Written.{object_text};
+ghost use Rattle.oidc_members.specs.Write.{object_text};
 ghost use Rattle.oidc_readers.specs.WrittenBack.{IsUtf8Member};
 ghost use Rattle.oidc_claims.specs.Additional.{are_additional, out_of};
 ghost use Rattle.oidc_claims.specs.Others.{Others, list_of, read_others};

@@ -18,7 +18,7 @@ mod tests;
 ///
 /// Two are equal where their names and values are, one by one. A float is equal to none, not even to
 /// itself; `Members::split` lets none in.
-#[derive(Debug, Drop)]
+#[derive(Drop)]
 pub struct AllOtherClaims {
     members: Vec<OutMember>,
     ghost additional: { are_written_additional members.items ≡ Bool.true },

@@ -3,8 +3,8 @@ ghost use Rattle.std.specs.Prelude.{◌≡◌, ◌+◌, ◌-◌, ◌<◌, ◌≤
 ghost use Rattle.std.specs.List.{slice_split};
 ghost use Rattle.oidc_members.specs.Places.{places, is_at_level_one, comma, colon as colon_byte};
 ghost use Rattle.oidc_members.specs.Objects.{is_braced, pieces, halves, between};
-ghost use Rattle.oidc_members.specs.Scanning.{IsAt};
-ghost use Rattle.oidc_members.specs.Cutting.{IsFirst, IsCutUpTo, item_seen, items_seen};
+ghost use Rattle.oidc_members.specs.Scan.{IsAt};
+ghost use Rattle.oidc_members.specs.Cut.{IsFirst, IsCutUpTo, item_seen, items_seen};
 
 use crate::scan::Scan;
 use crate::space::is_space;

@@ -1,10 +1,11 @@
--- How the logic stores JSON data, so that a model may hold it. No clause speaks of it: a code comes with
--- the proof that values stored alike are the same, which is why that proof stands here.
+-- How the logic stores JSON data and members, so that a model may hold them. No clause speaks of it: a code
+-- comes with the proof that values stored alike are the same, which is why that proof stands here.
 use Rattle.std.specs.Prelude.{◌≡◌, ◌⊎◌, ℕ, ℤ, List, false, Float, refl, ◌==◌}
-use Rattle.std.specs.Coded.{Coded, code_by, coded_ℕ, coded_ℤ, coded_bool, coded_list, coded⊎}
+use Rattle.std.specs.Coded.{Coded, code_by, coded_ℕ, coded_ℤ, coded_bool, coded_list, coded⊎, coded×}
 use Rattle.std.proofs.Common.{ap, inl, inr, arith}
 use base.Stored.{Gv, gnil, gnum, gcons, coded_float}
 use Rattle.serde_json.specs.Data.{Num, unsigned, negative, float, Data, null, boolean, number, string, array, object, Items, no_items, item, Members, no_members, member}
+use Rattle.oidc_members.specs.Seen.{SeenMember, OutSeen}
 
 -- ---- numbers
 
@@ -93,3 +94,13 @@ mutual
 
 abbrev pub data_code : Coded Data
 data_code = record { code = stored; inj = same_data }
+
+-- ---- members: the tuple of their fields
+
+abbrev pub seen_member_code : Coded SeenMember
+seen_member_code =
+    code_by (List ℕ × (Data × List ℕ)) (coded× text_code (coded× data_code text_code))
+    (λ m. (m.name, (m.value, m.text))) (λ p. record { name = p.0; value = p.1.0; text = p.1.1 }) (λ _. refl)
+
+abbrev pub out_seen_code : Coded OutSeen
+out_seen_code = code_by (List ℕ × Data) (coded× text_code data_code) (λ m. (m.name, m.value)) (λ p. record { name = p.0; value = p.1 }) (λ _. refl)

@@ -3,7 +3,7 @@ ghost use Rattle.std.specs.Prelude.{◌≡◌, ◌==◌, Some, None, IsSome, IfO
 ghost use Rattle.std.specs.List.{list_any};
 ghost use Rattle.serde_json.specs.Written.{has_float as value_has_float};
 ghost use Rattle.oidc_members.specs.Answers.{Answers, OnRefused};
-ghost use Rattle.oidc_members.specs.Cutting.{items_seen};
+ghost use Rattle.oidc_members.specs.Cut.{items_seen};
 ghost use Rattle.oidc_members.specs.Objects.{member_of, all_some, loose_members_of, members_of, split_of};
 ghost use Rattle.oidc_members.specs.declared.refusal.ParseKind.TheVariants.{Syntax, Number};
 
@@ -16,7 +16,7 @@ use std::alloc::{AllocError, Global};
 use std::marker::Model;
 
 /// The members of an object, in order and with duplicates kept. A contract sees it as their list.
-#[derive(Debug, Drop)]
+#[derive(Drop)]
 pub struct Members {
     members: Vec<Member>,
 }
@@ -25,7 +25,7 @@ impl Model for Members {
     ghost use Rattle.std.specs.Prelude.{List};
     ghost use Rattle.std.specs.Coded.{coded_list};
     ghost use Rattle.oidc_members.specs.Seen.{SeenMember};
-    ghost use Rattle.oidc_members.specs.SeenCode.{seen_member_code};
+    ghost use Rattle.oidc_members.specs.Codes.{seen_member_code};
 
     ghost Value = { List SeenMember };
 
@@ -71,8 +71,7 @@ fn holds_float(members: &[Member]) -> bool
 }
 
 impl Members {
-    /// The members of the object that the text is, white space around it left aside. The time is
-    /// linear in the text.
+    /// The members of the object that the text is, white space around it left aside.
     ///
     /// It refuses `Number` exactly where floats alone stand against the text, and `Syntax` exactly
     /// where it is no such object for another reason; the field is empty. A value may nest 127
