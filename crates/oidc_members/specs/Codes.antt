@@ -89,7 +89,8 @@ mutual
   same_members : (x y : Members) → members_stored x ≡ members_stored y → x ≡ y
   same_members no_members no_members p = refl
   same_members (member k a ms) (member l b ns) p =
-      λ i. member (text_code.inj k l (ap (λ g. head (head g)) p) i) (same_data a b (ap (λ g. tail (head g)) p) i) (same_members ms ns (ap tail p) i)
+      λ i. member (text_code.inj k l (ap (λ g. head (head g)) p) i)
+      (same_data a b (ap (λ g. tail (head g)) p) i) (same_members ms ns (ap tail p) i)
   same_members x y p = absurd (apart (is_pair (members_stored x)) (is_pair (members_stored y)) refl (ap is_pair p))
 
 abbrev pub data_code : Coded Data
@@ -103,4 +104,6 @@ seen_member_code =
     (λ m. (m.name, (m.value, m.text))) (λ p. record { name = p.0; value = p.1.0; text = p.1.1 }) (λ _. refl)
 
 abbrev pub out_seen_code : Coded OutSeen
-out_seen_code = code_by (List ℕ × Data) (coded× text_code data_code) (λ m. (m.name, m.value)) (λ p. record { name = p.0; value = p.1 }) (λ _. refl)
+out_seen_code =
+    code_by (List ℕ × Data) (coded× text_code data_code)
+    (λ m. (m.name, m.value)) (λ p. record { name = p.0; value = p.1 }) (λ _. refl)

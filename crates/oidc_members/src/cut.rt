@@ -77,7 +77,8 @@ impl<'a> Cuts<'a> {
         requires some { 1 < length text.now }
         requires cut { IsCutUpTo text.now (length text.now - 1) (length text.now - 1) self }
         ensures { IfOk result (λ items. items_seen items.items
-            ≡ map (halves text.now) (slice_split (is_at_level_one text.now comma) (between text.now))) }
+            ≡ map (halves text.now)
+            (slice_split (is_at_level_one text.now comma) (between text.now))) }
     {
         let Cuts {
             mut items,

@@ -29,7 +29,11 @@ impl Model for Member {
 
     ghost coded = { seen_member_code };
 
-    ghost view = { λ m. record { name = string_bytes m.name; value = data_of m.value; text = m.text.items } };
+    ghost view = { λ m. record {
+      name = string_bytes m.name;
+      value = data_of m.value;
+      text = m.text.items;
+    } };
 }
 
 fn value_of(alloc: Global, bytes: &[u8]) -> Result<Option<Value>, AllocError>

@@ -73,8 +73,8 @@ pub fn escaped_text(alloc: Global, text: &str) -> Result<String, AllocError>
     Ok(written)
 }
 
-/// The law that what was written is read as it was: the pairs of the form text of a list of texts are
-/// that list.
+/// The law that what was written is read as it was: the pairs of the form text of a list of texts
+/// are that list.
 pub fn form_reads_back()
     ensures { (list : List (List ℕ × List ℕ)) → All IsTextPair list → pairs (form list) ≡ list }
 {}

@@ -1,7 +1,7 @@
 //! Form pairs: the names and values of a query, a form body or a line of a script.
 //!
-//! The format is `application/x-www-form-urlencoded` of the URL Standard (section 5), which RFC 6749
-//! (appendix B) takes for its requests and answers. Several layers read and write it, so its
+//! The format is `application/x-www-form-urlencoded` of the URL Standard (section 5), which RFC
+//! 6749 (appendix B) takes for its requests and answers. Several layers read and write it, so its
 //! definitions stand here, at the bottom.
 //!
 //! - [`Pairs::parse`] reads any bytes at all: they are the list of pairs that the definition
