@@ -5,7 +5,7 @@ use Rattle.oidc_types.specs.declared.core_algorithms.CoreJwsSigningAlgorithm.{Co
 use Rattle.oidc_types.specs.SigningAlgorithms.{signing_text}
 use Rattle.oidc_keys.specs.declared.refusals.SignatureVerificationError.{SignatureVerificationError}
 use Rattle.oidc_keys.specs.declared.refusals.SignatureVerificationError.TheVariants.{DisallowedAlg}
-use Rattle.oidc_keys.specs.Symmetric.{symmetric_verdict}
+use Rattle.oidc_keys.specs.CoreJwk.{symmetric_verdict}
 use Rattle.oidc_login.specs.Clients.{SeenClient}
 use Rattle.oidc_login.specs.IdTokens.{SeenClaims, SeenToken}
 use Rattle.oidc_login.specs.declared.tokens.verification.ClaimsVerificationError.{ClaimsVerificationError}

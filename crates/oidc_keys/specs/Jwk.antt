@@ -1,12 +1,16 @@
--- What the calls of a key answer, where memory may be wanting.
+-- What the calls of a key answer, where there may be no memory.
 use Rattle.std.specs.Prelude.{◌≡◌, List, ℕ, Option, None, Some, Result, Err}
 use Rattle.oidc_types.specs.declared.signing_error.SigningError.{SigningError}
 use Rattle.oidc_types.specs.declared.signing_error.SigningError.TheVariants as signing
 use Rattle.oidc_keys.specs.declared.refusals.SignatureVerificationError.{SignatureVerificationError}
 use Rattle.oidc_keys.specs.declared.refusals.SignatureVerificationError.TheVariants.{Memory}
 
+-- a verdict: that a signature is one, or why it isn't
+abbrev pub Verdict : Type 0
+Verdict = Result (Unit {0}) SignatureVerificationError
+
 -- the answer is the verdict, or want of memory
-abbrev pub GivesVerdict : Result (Unit {0}) SignatureVerificationError → Result (Unit {0}) SignatureVerificationError → Type 0
+abbrev pub GivesVerdict : Verdict → Verdict → Type 0
 GivesVerdict verdict (Err Memory) = Unit {0}
 GivesVerdict verdict answer = answer ≡ verdict
 
