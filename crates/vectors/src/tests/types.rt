@@ -1,0 +1,1 @@
+//! Tests of oidc_types that no line of text can say.
