@@ -1,7 +1,7 @@
 -- The symmetric keys of the program: what they verify and sign.
 use Rattle.std.specs.Prelude.{ℕ, List, nat_eq, Option, None, Some, Result, Ok, Err, if◌then◌else◌}
 use Rattle.std.specs.Cmp.Lexicographic.{pointwise}
-use Rattle.oidc_types.specs.SigningAlgorithms.{signing_text}
+use Rattle.oidc_types.specs.{signing_text}
 use Rattle.oidc_types.specs.declared.core_algorithms.CoreJwsSigningAlgorithm.{CoreJwsSigningAlgorithm}
 use Rattle.oidc_types.specs.declared.core_algorithms.CoreJwsSigningAlgorithm.TheVariants as alg
 use Rattle.oidc_types.specs.declared.signing_error.SigningError.{SigningError}

@@ -5,7 +5,7 @@ ghost use Rattle.oidc_types.specs.declared.core_algorithms.CoreJsonWebKeyType.Th
 ghost use Rattle.oidc_keys.specs.declared.mac.HmacAlgorithm.{HmacAlgorithm};
 ghost use Rattle.oidc_keys.specs.Answers.{GivesRefusal};
 ghost use Rattle.oidc_keys.specs.Hmac.{mac_of};
-ghost use Rattle.oidc_types.specs.SigningAlgorithms.{signing_key_type, signing_text};
+ghost use Rattle.oidc_types.specs.{signing_key_type, signing_text};
 ghost use Rattle.oidc_keys.specs.Symmetric.{hmac_of, symmetric_verdict, symmetric_signature};
 ghost use Rattle.oidc_keys.specs.Hashes.{hash_function};
 ghost use Rattle.oidc_keys.specs.Uses.{is_for_signature, is_for_encryption};
