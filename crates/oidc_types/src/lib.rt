@@ -36,10 +36,10 @@
 //!
 //! The traits [`Vocabulary`], [`ClosedVocabulary`] and [`Marker`] with the markers (`ClientIdMarker`
 //! and so on); [`ExtensionText`], a `String` there; `as_str`, `into_string` and `into_url` in place of
-//! `Deref`, `AsRef` and `Into`; `clone_in` in place of `Clone`; `Display` of `Text` and of each open vocabulary; order and hash of each `Text`;
-//! [`UrlTextError`], and the variant `Memory` of [`SigningError`]; `ResponseTypes::as_slice` and
-//! [`LocalizedIter`]; [`Presence`], and the constant `REQUIRED` of [`EndpointState`]; `Copy` of the
-//! closed vocabularies and the endpoint states; [`laws`].
+//! `Deref`, `AsRef` and `Into`; `clone_in` in place of `Clone`; `Display` of `Text` and of each open
+//! vocabulary; order and hash of each `Text`; [`UrlTextError`], and the variant `Memory` of
+//! [`SigningError`]; `ResponseTypes::as_slice` and [`LocalizedIter`]; [`Presence`], and the constant
+//! `REQUIRED` of [`EndpointState`]; `Copy` of the closed vocabularies and the endpoint states; [`laws`].
 #![tactic(auto)]
 
 pub mod algorithms;
