@@ -8,7 +8,7 @@ use Rattle.std.specs.List.Sorted.{IsStrictlySortedBy}
 use Rattle.std.proofs.lemmas.Bool.{leb-true}
 use Rattle.serde_json.specs.Data.{Data, boolean, string, members_depth}
 use Rattle.serde_json.specs.Find.{of_integer}
-use Rattle.oidc_types.specs.Variants.{Variants}
+use Rattle.oidc_types.specs.{Variants}
 use Rattle.oidc_members.specs.Seen.{OutSeen}
 use Rattle.oidc_members.specs.Write.{data_of}
 use Rattle.oidc_readers.specs.WrittenBack.{IsWholeNumber, AreInOrder, MembersAreWhole, MayStand, names_of}

@@ -5,7 +5,7 @@ use Rattle.std.specs.FinMap as finite
 use Rattle.std.specs.Int.{int_div_euclid}
 use Rattle.serde_json.specs.Data.{Data, boolean, number, string, object}
 use Rattle.serde_json.specs.Find.{of_integer}
-use Rattle.oidc_types.specs.Variants.{Variants}
+use Rattle.oidc_types.specs.{Variants}
 use Rattle.oidc_members.specs.Seen.{OutSeen}
 use Rattle.oidc_members.specs.Write.{data_of}
 use Rattle.oidc_claims.specs.declared.claim.Claim.{Claim}

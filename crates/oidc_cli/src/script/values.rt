@@ -3,8 +3,8 @@ ghost use Rattle.std.specs.Prelude.{◌≡◌, ◌==◌, ◌<◌, [], ◌∷◌,
 ghost use Rattle.std.specs.List.{list_all, slice_split};
 ghost use Rattle.std.specs.Option.{option_map_or};
 ghost use Rattle.http_header.specs.Token.{is_visible_or_blank};
-ghost use Rattle.oidc_types.specs.SigningAlgorithms.{signing_text, signing_algorithms};
-ghost use Rattle.oidc_types.specs.Words.{find_word};
+ghost use Rattle.oidc_types.specs.{signing_text, signing_algorithms};
+ghost use Rattle.oidc_types.specs.{find_word};
 ghost use Rattle.oidc_login.specs.IdTokens.{url_of_text, moment_at};
 ghost use Rattle.oidc_cli.specs.Values.{algorithms_of as algorithms_in, moment_of as moment_in, status_of as status_in, content_type_of as content_type_in};
 ghost use Rattle.oidc_cli.specs.Script.{read_in};

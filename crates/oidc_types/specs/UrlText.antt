@@ -28,6 +28,12 @@ ReadsUrl (Ok u) text = (u.text ≡ text) × (parse_url None text ≡ Ok u.url)
 ReadsUrl (Err e) text = ParsesUrl (Err e) text
 
 -- the text of a suffix below an issuer: one slash stands between
-abbrev pub joined : List ℕ → List ℕ → List ℕ
-joined text suffix =
+abbrev pub joined_text : List ℕ → List ℕ → List ℕ
+joined_text text suffix =
     if ends_with nat_eq text (codes "/") then text ++ suffix else text ++ codes "/" ++ suffix
+
+-- two URLs that were read of equal texts are equal
+abbrev pub SameTextSameUrl : Type 0
+SameTextSameUrl =
+    (a b : TextAndUrl) (given other : List ℕ) → ReadsUrl (Ok a) given → ReadsUrl (Ok b) other
+    → a.text ≡ b.text → a.url ≡ b.url

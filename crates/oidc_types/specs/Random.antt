@@ -14,6 +14,10 @@ next_bytes (suc n) s = ((next_u8 s).0 ∷ (next_bytes n (next_u8 s).1).0, (next_
 abbrev pub random_text : ℕ → Stream → List ℕ
 random_text n s = encode_of url_safe_no_pad (next_bytes n s).0
 
+-- the stream that is left behind them
+abbrev pub stream_after : ℕ → Stream → Stream
+stream_after n s = (next_bytes n s).1
+
 -- the generator stands where it stood, or behind the bytes
 abbrev pub IsBeforeOrAfter : ℕ → Stream → Stream → Type 0
-IsBeforeOrAfter n old new = (new ≡ old) ⊎ (new ≡ (next_bytes n old).1)
+IsBeforeOrAfter n old new = (new ≡ old) ⊎ (new ≡ stream_after n old)
