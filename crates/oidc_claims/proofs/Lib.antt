@@ -3,6 +3,7 @@ pub mod Homes
 pub mod Kept
 pub mod MayStand
 pub mod Moves
+pub mod NoFloat
 pub mod Parts
 pub mod ReadsBack
 pub mod Seconds
@@ -10,4 +11,5 @@ pub mod SplitBack
 pub mod Standing
 pub mod Steps
 pub mod Tags
+pub mod Utf8
 pub mod VariantsBack
