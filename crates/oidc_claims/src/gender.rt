@@ -75,7 +75,7 @@ impl GenderClaim for CoreGenderClaim {
         }
     }
 
-    #[tactic(auto, using(crate::proofs::Utf8::value_has_texts))]
+    #[tactic(auto, using(crate::proofs::Theorems::value_has_texts))]
     fn write(&self, alloc: Global) -> Result<Value, AllocError> {
         Ok(Value::String(String::from_str(alloc, self.as_str())?))
     }

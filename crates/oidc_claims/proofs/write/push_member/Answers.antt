@@ -1,5 +1,5 @@
 use Rattle.std.proofs.Common.{refl}
-use Rattle.oidc_claims.proofs.Utf8.{utf8_pushed}
+use Rattle.oidc_claims.proofs.Theorems.{utf8_pushed}
 use Rattle.oidc_claims.proofs.write.push_member.Goals as goal
 
 pub returns-clause-texts : goal.returns-clause-texts
