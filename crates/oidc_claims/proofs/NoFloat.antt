@@ -8,7 +8,7 @@ use Rattle.serde_json.specs.Find.{of_integer}
 use Rattle.serde_json.specs.Written.{has_float, items_have_float, members_have_float}
 use Rattle.oidc_types.specs.Variants.{Variants}
 use Rattle.oidc_members.specs.Seen.{OutSeen}
-use Rattle.oidc_members.specs.Written.{data_of, any_float}
+use Rattle.oidc_members.specs.Write.{data_of, any_float}
 use Rattle.oidc_readers.specs.WrittenBack.{IsWholeNumber, IsWhole, ItemsAreWhole, MembersAreWhole}
 use Rattle.oidc_claims.specs.declared.claim.Claim.{Claim}
 use Rattle.oidc_claims.specs.declared.claim.Claim.TheVariants.{Subject, Name, GivenName, FamilyName, MiddleName, Nickname, PreferredUsername, Profile, Picture, Website, Email, EmailVerified, Gender, Birthday, Birthdate, Zoneinfo, Locale, PhoneNumber, PhoneNumberVerified, Address, UpdatedAt}

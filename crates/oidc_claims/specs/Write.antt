@@ -8,7 +8,7 @@ use Rattle.serde_json.specs.Find.{of_integer}
 use Rattle.oidc_types.specs.Variants.{Variants}
 use Rattle.oidc_members.specs.Seen.{SeenMember, OutSeen}
 use Rattle.oidc_members.specs.Objects.{members_of}
-use Rattle.oidc_members.specs.Written.{data_of, object_text}
+use Rattle.oidc_members.specs.Write.{data_of, object_text}
 use Rattle.oidc_members.specs.declared.refusal.Refusal.{Refusal}
 use Rattle.oidc_readers.specs.WrittenBack.{IsUtf8Member}
 use Rattle.oidc_claims.specs.declared.claim.Claim.{Claim}

@@ -7,7 +7,7 @@ ghost use Rattle.std.specs.Option.{option_copied};
 ghost use Rattle.serde_json.specs.Data.{Data, string, boolean};
 ghost use Rattle.serde_json.specs.View.{view, members_view};
 ghost use Rattle.oidc_members.specs.Seen.{OutSeen};
-ghost use Rattle.oidc_members.specs.Written.{any_float};
+ghost use Rattle.oidc_members.specs.Write.{any_float};
 ghost use Rattle.oidc_readers.specs.WrittenBack.{IsUtf8Member};
 ghost use Rattle.oidc_claims.specs.Table.{name_of};
 ghost use Rattle.oidc_claims.specs.Write.{written, claim_members, plain_member};

@@ -1,7 +1,7 @@
 use Rattle.std.proofs.Common.{◌≡◌, ◌∙◌, ◌++◌, ap, sym, take, get_or}
 use Rattle.std.specs.List.{flat_map}
 use Rattle.std.proofs.lemmas.List.{take_all}
-use Rattle.oidc_members.specs.Written.{any_float}
+use Rattle.oidc_members.specs.Write.{any_float}
 use Rattle.oidc_claims.specs.declared.claim.Claim.TheVariants.{Subject}
 use Rattle.oidc_claims.specs.Table.{all_claims}
 use Rattle.oidc_claims.specs.Write.{claim_members, written}
