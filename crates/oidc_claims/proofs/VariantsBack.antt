@@ -20,8 +20,8 @@ use Rattle.oidc_claims.specs.declared.claim.ClaimKind.TheVariants as kind
 use Rattle.oidc_claims.specs.Table.{name_of, claim_of, is_localized, is_optional, kind_of, base_of, tag_of}
 use Rattle.oidc_claims.specs.Kinds.{of_member, text_read, held, misfit}
 use Rattle.oidc_claims.specs.Claims.{fault_of_kind, fault_at, same_tag, with_value, variants, unless_empty, is_nil}
-use Rattle.oidc_claims.specs.Written.{with_tag, variant_member, variant_members}
-use Rattle.oidc_claims.specs.RoundTrip.{IsTag, AreTagged, HasVariants}
+use Rattle.oidc_claims.specs.Write.{with_tag, variant_member, variant_members}
+use Rattle.oidc_claims.specs.Write.{IsTag, AreTagged, HasVariants}
 use Rattle.oidc_claims.proofs.Standing.{read_with}
 use Rattle.oidc_claims.proofs.Apart.{IsPart}
 

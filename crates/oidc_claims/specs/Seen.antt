@@ -27,7 +27,7 @@ pub record SeenClaims (Gender : Type 0) : Type 0 where
   pub address : Option AddressClaim
   pub updated_at : Option ℤ
 
--- the claims of a subject of whom nothing else is told
+-- the claims of a subject, with every other claim absent
 abbrev pub only_subject : {Gender : Type 0} → List ℕ → SeenClaims Gender
 only_subject subject = record {
   subject = subject;

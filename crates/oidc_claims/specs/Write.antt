@@ -1,13 +1,16 @@
 -- The members that the standard claims are written as (OpenID Connect Core 1.0 sections 5.1, 5.1.1 and 5.2).
-use Rattle.std.specs.Prelude.{ℕ, ℤ, pos, List, [], ◌∷◌, ◌++◌, map, Option, None, Some, option_map, codes}
-use Rattle.std.specs.List.{flat_map}
+use Rattle.std.specs.Prelude.{◌≡◌, ◌≢◌, ℕ, ℤ, pos, List, [], ◌∷◌, ◌++◌, map, Option, None, Some, option_map, Result, Ok, codes}
+use Rattle.std.specs.List.{All, flat_map}
 use Rattle.std.specs.FinMap as finite
 use Rattle.std.specs.Int.{int_div_euclid}
-use Rattle.serde_json.specs.Data.{Data, boolean, number, string, object}
+use Rattle.serde_json.specs.Data.{Data, boolean, number, string, object, Members, put}
 use Rattle.serde_json.specs.Find.{of_integer}
 use Rattle.oidc_types.specs.{Variants}
-use Rattle.oidc_members.specs.Seen.{OutSeen}
-use Rattle.oidc_members.specs.Write.{data_of}
+use Rattle.oidc_members.specs.Seen.{SeenMember, OutSeen}
+use Rattle.oidc_members.specs.Objects.{members_of}
+use Rattle.oidc_members.specs.Write.{data_of, object_text}
+use Rattle.oidc_members.specs.declared.refusal.Refusal.{Refusal}
+use Rattle.oidc_readers.specs.WrittenBack.{IsUtf8Member}
 use Rattle.oidc_claims.specs.declared.claim.Claim.{Claim}
 use Rattle.oidc_claims.specs.declared.claim.Claim.TheVariants.{Subject, Name, GivenName, FamilyName, MiddleName, Nickname, PreferredUsername, Profile, Picture, Website, Email, EmailVerified, Gender, Birthday, Birthdate, Zoneinfo, Locale, PhoneNumber, PhoneNumberVerified, Address, UpdatedAt}
 use Rattle.oidc_claims.specs.declared.claims.address.AddressClaim.{AddressClaim}
@@ -15,6 +18,8 @@ use Rattle.oidc_claims.specs.declared.claims.part.AddressPart.{AddressPart}
 use Rattle.oidc_claims.specs.declared.claims.part.AddressPart.TheVariants as part
 use Rattle.oidc_claims.specs.Seen.{SeenClaims}
 use Rattle.oidc_claims.specs.Address.{part_name}
+use Rattle.oidc_claims.specs.Kinds.{moment_at}
+use Rattle.oidc_claims.specs.Standard.{claims_of}
 use Rattle.oidc_claims.specs.Table.{name_of, all_claims}
 
 -- ---- values
@@ -96,3 +101,50 @@ module _ {GC : Type 0} (gender_data : GC → Data) where
   -- all of them, in the order of the table
   abbrev pub written : SeenClaims GC → List OutSeen
   written s = flat_map (claim_members s) all_claims
+
+-- ---- which claims are read back as they were written
+
+-- a tag that isn't empty, or none
+abbrev pub IsTag : Option (List ℕ) → Type 0
+IsTag tag = tag ≢ Some []
+
+abbrev pub AreTagged : List (Option (List ℕ) × List ℕ) → Type 0
+AreTagged [] = Unit {0}
+AreTagged (e ∷ es) = IsTag e.0 × AreTagged es
+
+-- A claim in several languages has a value, and no tag is empty.
+abbrev pub HasVariants : Option (Variants (List ℕ)) → Type 0
+HasVariants None = Unit {0}
+HasVariants (Some variants) = (finite.entries variants ≢ []) × AreTagged (finite.entries variants)
+
+-- a moment that is at a whole second
+abbrev pub IsWholeSecond : Option ℤ → Type 0
+IsWholeSecond None = Unit {0}
+IsWholeSecond (Some nanosecond) = (second : ℤ) × (moment_at second ≡ Some nanosecond)
+
+pub record IsInRange {GC : Type 0} (claims : SeenClaims GC) : Type 0 where
+  pub name : HasVariants claims.name
+  pub given_name : HasVariants claims.given_name
+  pub family_name : HasVariants claims.family_name
+  pub middle_name : HasVariants claims.middle_name
+  pub nickname : HasVariants claims.nickname
+  pub profile : HasVariants claims.profile
+  pub picture : HasVariants claims.picture
+  pub website : HasVariants claims.website
+  pub updated_at : IsWholeSecond claims.updated_at
+
+-- The object's text of those members is read as these claims.
+abbrev pub GivesClaims : {GC : Type 0} → (SeenMember → Result GC Refusal) → List OutSeen → SeenClaims GC → Type 0
+GivesClaims gender_read members claims =
+    option_map (claims_of gender_read) (members_of (object_text members)) ≡ Some (Ok claims)
+
+-- ---- for private clauses
+
+-- The members are UTF-8 where those before were.
+abbrev pub KeepsUtf8 : List OutSeen → List OutSeen → Type 0
+KeepsUtf8 before after = All IsUtf8Member before → All IsUtf8Member after
+
+-- A part is put among the members of an object.
+abbrev pub put_part : List ℕ → Option (List ℕ) → Members → Members
+put_part name None parts = parts
+put_part name (Some text) parts = put name (string text) parts
