@@ -3,6 +3,7 @@ pub mod Homes
 pub mod Kept
 pub mod MayStand
 pub mod Moves
+pub mod Names
 pub mod Parts
 pub mod ReadsBack
 pub mod Seconds

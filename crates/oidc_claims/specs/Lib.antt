@@ -3,7 +3,6 @@ pub mod Address
 pub mod Claims
 pub mod Gender
 pub mod Home
-pub mod Kinds
 pub mod Others
 pub mod PutParts
 pub mod Reader

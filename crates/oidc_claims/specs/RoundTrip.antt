@@ -3,7 +3,7 @@ use Rattle.std.specs.Prelude.{◌≡◌, ◌≢◌, ℕ, ℤ, List, [], ◌∷�
 use Rattle.std.specs.FinMap as finite
 use Rattle.oidc_types.specs.Variants.{Variants}
 use Rattle.oidc_claims.specs.Seen.{SeenClaims}
-use Rattle.oidc_claims.specs.Kinds.{moment_at}
+use Rattle.oidc_readers.specs.Moments.{moment_at}
 
 -- a tag that isn't empty, or none
 abbrev pub IsTag : Option (List ℕ) → Type 0

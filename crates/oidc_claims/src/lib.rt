@@ -30,7 +30,7 @@ mod same;
 pub mod write;
 
 pub use crate::additional::{AdditionalClaims, EmptyAdditionalClaims};
-pub use crate::claims::{AddressClaim, StandardClaims, read_standard};
+pub use crate::claims::{AddressClaim, ClaimsReader, StandardClaims, read_standard};
 pub use crate::gender::GenderClaim;
 pub use crate::home::{Home, ID_TOKEN_FIELDS, USER_INFO_FIELDS, belongs};
 pub use crate::others::AllOtherClaims;

@@ -6,7 +6,8 @@ ghost use Rattle.std.specs.Option.{option_copied};
 ghost use Rattle.serde_json.specs.Data.{string, boolean};
 ghost use Rattle.serde_json.specs.View.{view, members_view};
 ghost use Rattle.oidc_claims.specs.Table.{name_of};
-ghost use Rattle.oidc_claims.specs.Written.{written, claim_members, plain_member, variant_members, with_tag, address_data, seconds_data};
+ghost use Rattle.oidc_claims.specs.Written.{written, claim_members, plain_member, variant_members, with_tag, address_data};
+ghost use Rattle.oidc_readers.specs.Moments.{seconds_data};
 ghost use Rattle.oidc_claims.specs.PutParts.{put_part};
 
 use crate::claim::Claim;
@@ -14,6 +15,7 @@ use crate::claims::{AddressClaim, StandardClaims};
 use crate::gender::GenderClaim;
 use jiff::Timestamp;
 use oidc_members::{FieldName, OutMember};
+use oidc_readers::seconds_value;
 use oidc_types::{LanguageTag, LocalizedClaim, Marker, Text};
 use serde_json::{Map, Value};
 use std::alloc::{AllocError, Global};
@@ -205,13 +207,6 @@ fn text_value(alloc: Global, text: &str) -> Result<Value, AllocError>
     ensures { IfOk result (λ value. view value ≡ string text.now) }
 {
     Ok(Value::String(String::from_str(alloc, text)?))
-}
-
-// `as_second` rounds toward zero, so a moment before 1970 would be a second late.
-fn seconds_value(moment: Timestamp) -> Value
-    ensures { view result ≡ seconds_data moment.nanosecond }
-{
-    Value::from(moment.as_nanosecond().div_euclid(1_000_000_000) as i64)
 }
 
 fn address_value(alloc: Global, address: &AddressClaim) -> Result<Value, AllocError>
