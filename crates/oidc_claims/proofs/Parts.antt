@@ -23,8 +23,8 @@ use Rattle.oidc_claims.specs.declared.claims.part.AddressPart.TheVariants.{Forma
 use Rattle.oidc_claims.specs.declared.claim.Claim.TheVariants.{Address}
 use Rattle.oidc_claims.specs.Table.{name_of}
 use Rattle.oidc_claims.specs.Address.{part_name, part_field, address_rule, address_of, address_in, address_kind}
-use Rattle.oidc_claims.specs.PutParts.{put_part}
-use Rattle.oidc_claims.specs.Written.{part_members, parts_in_order, address_data}
+use Rattle.oidc_claims.specs.Write.{put_part}
+use Rattle.oidc_claims.specs.Write.{part_members, parts_in_order, address_data}
 use Rattle.oidc_claims.proofs.Standing.{read_with, AddressStands}
 use Rattle.oidc_claims.proofs.Apart.{IsPart, JudgesOwn, apart_from, own_among, no_fault}
 use Rattle.oidc_claims.proofs.Names.{found, by_name}

@@ -20,8 +20,8 @@ use Rattle.oidc_claims.specs.Table.{name_of, claim_of, kind_of, all_claims, base
 use Rattle.oidc_claims.specs.Address.{address_kind}
 use Rattle.oidc_claims.specs.Claims.{own, held, plain, variants, unless_empty, fault_of_kind, fault_by, fault_at, first_fault}
 use Rattle.oidc_claims.specs.Standard.{claims_of, with_subject, at_place, complete, unless_refused}
-use Rattle.oidc_claims.specs.Written.{written, claim_members, plain_member, with_tag, address_data}
-use Rattle.oidc_claims.specs.RoundTrip.{IsTag, IsInRange, IsWholeSecond}
+use Rattle.oidc_claims.specs.Write.{written, claim_members, plain_member, with_tag, address_data}
+use Rattle.oidc_claims.specs.Write.{IsTag, IsInRange, IsWholeSecond}
 use Rattle.oidc_claims.proofs.Standing.{AddressStands, read_with}
 use Rattle.oidc_claims.proofs.Apart.{JudgesOwn, apart_from, own_among, no_fault}
 use Rattle.oidc_claims.proofs.Parts.{map_flat, address_reads_back}

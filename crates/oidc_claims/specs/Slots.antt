@@ -1,7 +1,7 @@
 -- What the reader of a claim in several languages keeps, after the members of that claim that came.
 use Rattle.std.specs.Prelude.{List, fold}
 use Rattle.std.specs.FinMap as finite
-use Rattle.oidc_types.specs.Variants.{Variants}
+use Rattle.oidc_types.specs.{Variants}
 use Rattle.oidc_members.specs.Seen.{SeenMember}
 use Rattle.oidc_readers.specs.Kinds.{Kind}
 use Rattle.oidc_claims.specs.declared.claims.slots.Languages.{Languages}

@@ -6,7 +6,7 @@ use Rattle.serde_json.specs.Find.{as_null, as_bool, as_str, as_number, as_intege
 use Rattle.url.specs.Parts.{Parts}
 use Rattle.url.specs.Parser.{parse_url}
 use Rattle.url.specs.declared.error.ParseError.{ParseError}
-use Rattle.oidc_types.specs.UrlTexts.{TextAndUrl}
+use Rattle.oidc_types.specs.{TextAndUrl}
 use Rattle.oidc_members.specs.Seen.{SeenMember}
 use Rattle.oidc_members.specs.declared.refusal.Refusal.{Refusal}
 use Rattle.oidc_members.specs.declared.refusal.ParseKind.{ParseKind}

@@ -10,4 +10,4 @@ pub mod Writing
 pub mod WrittenBack
 pub use Rattle.oidc_members.specs.Answers
 pub use Rattle.oidc_members.specs.Seen
-pub use Rattle.oidc_types.specs.UrlTexts
+pub use Rattle.oidc_types.specs.{TextAndUrl}

@@ -1,0 +1,1 @@
+//! Tests of oidc_claims that no line of text can say.

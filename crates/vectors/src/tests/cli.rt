@@ -1,0 +1,1 @@
+//! Tests of oidc_cli that no line of text can say.
