@@ -7,7 +7,7 @@ use oidc_claims::PlacedError;
 use oidc_keys::{HashError, SignatureVerificationError};
 use oidc_login::{BeginError, ClaimsVerificationError, LoginError, NewLoginsError};
 use oidc_members::{FieldName, ParseError, ParseKind, Refusal};
-use oidc_types::SigningError;
+use oidc_types::{SigningError, UrlTextError};
 use std::alloc::Global;
 use std::fmt::{Debug, Display};
 
@@ -62,6 +62,11 @@ const LOGINS: [LoginError; 5] = [
     LoginError::Memory { spent: false },
 ];
 
+const URLS: [UrlTextError; 2] = [
+    UrlTextError::Refused(url::ParseError::RelativeUrlWithoutBase),
+    UrlTextError::Memory,
+];
+
 /// `display`: what the value of a variant prints. A variant that holds something holds what stands in
 /// the lists above.
 pub(crate) fn display(alloc: Global, case: &Case) -> Result<String, CaseError> {
@@ -78,6 +83,7 @@ pub(crate) fn display(alloc: Global, case: &Case) -> Result<String, CaseError> {
         "PlacedError" => placed_error(alloc, variant),
         "SignatureVerificationError" => one_of(alloc, &SIGNATURES, variant),
         "SigningError" => signing_error(alloc, variant),
+        "UrlTextError" => one_of(alloc, &URLS, variant),
         _ => Err(CaseError::NoCase),
     }
 }

@@ -23,7 +23,8 @@ mod types;
 mod vocabularies;
 mod words;
 
-ghost use Rattle.std.specs.Prelude.{◌≡◌, ◌↔◌, ◌⊎◌, ◌≢◌, None, Some, Ok, Err, IfOk, IsErr, codes, IsTrue, slice_get};
+ghost use Rattle.std.specs.Prelude.{◌≡◌, ◌↔◌, ◌⊎◌, ◌≢◌, None, Some, Ok, Err, IfOk, IsErr, IsTrue};
+ghost use Rattle.std.specs.Prelude.{codes, slice_get};
 ghost use Rattle.std.specs.String.{string_bytes};
 ghost use Rattle.std.specs.IoError.{error_kind};
 
@@ -70,7 +71,8 @@ fn answer_operation(
 // The line of a case: its answer, or that it is none.
 fn case_line(alloc: Global, answered: Result<String, CaseError>) -> Result<String, AllocError>
     ensures answered { IfOk answered (λ text. result ≡ Ok text) }
-    ensures no_case { answered ≡ Err CaseError.NoCase → IfOk result (λ text. string_bytes text ≡ codes "no case") }
+    ensures no_case { answered ≡ Err CaseError.NoCase
+        → IfOk result (λ text. string_bytes text ≡ codes "no case") }
     ensures memory { answered ≡ Err CaseError.Memory → IsErr result }
 {
     match answered {
@@ -82,8 +84,10 @@ fn case_line(alloc: Global, answered: Result<String, CaseError>) -> Result<Strin
 
 // The line that answers this one.
 fn answer(alloc: Global, line: &str) -> Result<String, AllocError>
-    ensures empty { slice_get line.now 0 ≡ None → IfOk result (λ text. string_bytes text ≡ line.now) }
-    ensures comment { slice_get line.now 0 ≡ Some 35 → IfOk result (λ text. string_bytes text ≡ line.now) }
+    ensures empty { slice_get line.now 0 ≡ None
+        → IfOk result (λ text. string_bytes text ≡ line.now) }
+    ensures comment { slice_get line.now 0 ≡ Some 35
+        → IfOk result (λ text. string_bytes text ≡ line.now) }
 {
     if is_comment(line) {
         return String::from_str(alloc, line);

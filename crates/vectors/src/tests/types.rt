@@ -95,7 +95,7 @@ fn grants_compare_so(alloc: Global, a: &str, b: &str, want: Ordering) -> Result<
 fn grant_types_compare_by_their_variants(rt: HostRuntime) -> Result<(), Fail> {
     for (a, b, want) in [
         ("authorization_code", "client_credentials", Ordering::Less),
-        // the first variant of all, and one whose text comes after that of the next
+        // a variant whose text comes after that of the next variant
         (
             "urn:ietf:params:oauth:grant-type:device_code",
             "implicit",
