@@ -57,4 +57,6 @@ address_in members = faultless address_rule members >>= λ u. Ok (address_of mem
 -- An object, whose own members are those of its text.
 abbrev pub address_kind : Kind AddressClaim
 address_kind m =
-    if is_some (as_object m.value) then split_of m.text >>= address_in else Err (of_member WrongType m)
+    if is_some (as_object m.value)
+    then split_of m.text >>= address_in
+    else Err (of_member WrongType m)

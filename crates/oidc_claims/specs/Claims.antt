@@ -88,7 +88,8 @@ with_value values tag (Some v) = finite.insert values tag v
 
 -- the map from tags to the values that are there
 abbrev pub variants : {V : Type 0} → Kind V → List SeenMember → Variants V
-variants kind ms = fold (λ values m. with_value values (tag_of m.name) (held kind m)) finite.empty ms
+variants kind ms =
+    fold (λ values m. with_value values (tag_of m.name) (held kind m)) finite.empty ms
 
 -- absent where it has no value
 abbrev pub unless_empty : {V : Type 0} → Variants V → Option (Variants V)

@@ -57,7 +57,8 @@ module _ {GC : Type 0} (gender_read : Kind GC) where
   abbrev pub faultless_claims : List SeenMember → Result (SeenClaims GC) Refusal
   faultless_claims members = complete (subject_of members) members
 
-  abbrev pub unless_refused : Option (ℕ × Refusal) → List SeenMember → Result (SeenClaims GC) (ℕ × Refusal)
+  abbrev pub unless_refused : Option (ℕ × Refusal) → List SeenMember
+      → Result (SeenClaims GC) (ℕ × Refusal)
   unless_refused (Some fault) members = Err fault
   unless_refused None members = at_place (length members) (faultless_claims members)
 

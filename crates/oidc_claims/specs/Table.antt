@@ -1,5 +1,5 @@
--- The table of the standard claims (OpenID Connect Core 1.0 section 5.1), and how a member's name is
--- cut into a claim's name and a language tag (section 5.2).
+-- The table of the standard claims (OpenID Connect Core 1.0 section 5.1), and how a member's name
+-- is cut into a claim's name and a language tag (section 5.2).
 use Rattle.std.specs.Prelude.{ℕ, ◌==◌, List, [], ◌∷◌, Bool, codes, Option, Some, None}
 use Rattle.std.specs.List.{find, before_first, after_first}
 use Rattle.std.specs.Str.{bytes_eq}
@@ -53,7 +53,11 @@ kind_of claim = kind.Text
 
 -- in the order in which they are written
 abbrev pub all_claims : List Claim
-all_claims = Subject ∷ Name ∷ GivenName ∷ FamilyName ∷ MiddleName ∷ Nickname ∷ PreferredUsername ∷ Profile ∷ Picture ∷ Website ∷ Email ∷ EmailVerified ∷ Gender ∷ Birthday ∷ Birthdate ∷ Zoneinfo ∷ Locale ∷ PhoneNumber ∷ PhoneNumberVerified ∷ Address ∷ UpdatedAt ∷ []
+all_claims =
+    Subject ∷ Name ∷ GivenName ∷ FamilyName ∷ MiddleName ∷ Nickname ∷ PreferredUsername
+    ∷ Profile ∷ Picture ∷ Website ∷ Email ∷ EmailVerified ∷ Gender
+    ∷ Birthday ∷ Birthdate ∷ Zoneinfo ∷ Locale
+    ∷ PhoneNumber ∷ PhoneNumberVerified ∷ Address ∷ UpdatedAt ∷ []
 
 -- the claim of that name
 abbrev pub claim_of : List ℕ → Option Claim

@@ -23,9 +23,9 @@ use oidc_types::{
 };
 use std::alloc::Global;
 
-/// The standard claims, as they are read member by member. Its rule is `fault_at`, and what it keeps
-/// is `reader_of` the members that came; `finish` gives the claims in the end. A reader of an ID
-/// token's own fields stands beside it in `Both`.
+/// The standard claims, as they are read member by member. Its rule is `fault_at`, and what it
+/// keeps is `reader_of` the members that came; `finish` gives the claims in the end. A reader of an
+/// ID token's own fields stands beside it in `Both`.
 #[derive(Drop)]
 pub struct ClaimsReader<GC: GenderClaim> {
     subject: Once<SubjectIdentifier>,
@@ -139,7 +139,11 @@ impl<GC: GenderClaim> MemberReader for ClaimsReader<GC> {
             Some(Claim::FamilyName) => self.family_name.take(alloc, member),
             Some(Claim::MiddleName) => self.middle_name.take(alloc, member),
             Some(Claim::Nickname) => self.nickname.take(alloc, member),
-            Some(Claim::PreferredUsername) => take_once(&mut self.preferred_username, alloc, member),
+            Some(Claim::PreferredUsername) => take_once(
+                &mut self.preferred_username,
+                alloc,
+                member,
+            ),
             Some(Claim::Profile) => self.profile.take(alloc, member),
             Some(Claim::Picture) => self.picture.take(alloc, member),
             Some(Claim::Website) => self.website.take(alloc, member),
@@ -151,15 +155,19 @@ impl<GC: GenderClaim> MemberReader for ClaimsReader<GC> {
             Some(Claim::Zoneinfo) => take_once(&mut self.zoneinfo, alloc, member),
             Some(Claim::Locale) => take_once(&mut self.locale, alloc, member),
             Some(Claim::PhoneNumber) => take_once(&mut self.phone_number, alloc, member),
-            Some(Claim::PhoneNumberVerified) => take_once(&mut self.phone_number_verified, alloc, member),
+            Some(Claim::PhoneNumberVerified) => take_once(
+                &mut self.phone_number_verified,
+                alloc,
+                member,
+            ),
             Some(Claim::Address) => take_once(&mut self.address, alloc, member),
             Some(Claim::UpdatedAt) => take_once(&mut self.updated_at, alloc, member),
         }
     }
 }
 
-/// Reads the standard claims. The body makes one pass over the members; those that are no standard claim are
-/// left aside.
+/// Reads the standard claims. Members that are no standard claim are left aside. The body makes one
+/// pass over the members, of which no clause speaks.
 ///
 /// It refuses the first faulty member with its place, the kind and the field, and a list without a
 /// faulty one and without `sub` as `Missing` of `sub`, at the place behind the last member. A member
@@ -176,7 +184,8 @@ pub fn read_standard<GC: GenderClaim>(
 
     // Where there is memory: the first faulty member refuses the list, then a missing `sub`, and
     // else each claim is read of its own members.
-    ensures faulty { (place : ℕ) (refusal : Refusal) → first_fault GC.read_of members.now ≡ Some (place, refusal)
+    ensures faulty { (place : ℕ) (refusal : Refusal)
+        → first_fault GC.read_of members.now ≡ Some (place, refusal)
         → PlacedAnswers {A = SeenClaims GC} (Err (place, refusal)) result }
     ensures missing { first_fault GC.read_of members.now ≡ None → subject_of members.now ≡ None
         → PlacedAnswers {A = SeenClaims GC} (Err (length members.now, missing_subject)) result }

@@ -89,7 +89,7 @@ impl<T: FieldValue> Languages<T> {
     }
 
     /// Takes a member of the claim, after those that came.
-    #[tactic(auto, using(crate::proofs::Tags::seen_any, crate::proofs::Tags::tags_push, crate::proofs::Tags::variants_push))]
+    #[tactic(auto, using(crate::proofs::Tags::seen_any, crate::proofs::Tags::tags_push, crate::proofs::Tags::variants_push,))]
     pub(crate) fn take(&mut self, alloc: Global, member: &Member) -> Result<(), ParseError>
         ensures { (before : List SeenMember) → self.old ≡ languages_slot T.read_of before
             → Took (localized_fault (or_null T.read_of) before member.now) result

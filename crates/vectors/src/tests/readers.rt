@@ -7,8 +7,10 @@ ghost use Rattle.oidc_members.specs.declared.refusal.ParseKind.TheVariants.{Dupl
 
 use jiff::Timestamp;
 use oidc_members::{FieldName, Member, Members, ParseError, ParseKind, write_object};
-use oidc_readers::{MemberReader, Once, PlacedError, read_members, refused};
-use oidc_readers::{put_optional_moment, put_optional_text, put_optional_whole, put_text};
+use oidc_readers::{
+    MemberReader, Once, PlacedError, put_optional_moment, put_optional_text, put_optional_whole,
+    put_text, read_members, refused,
+};
 use std::alloc::Global;
 use std::test::Fail;
 
@@ -102,10 +104,7 @@ fn record_is_read_by_its_slots(rt: HostRuntime) -> Result<(), Fail> {
             r#"{"title":null,"number":7,"name":"A"}"#,
             "a member that stands twice: `name`",
         ),
-        (
-            r#"{"number":null}"#,
-            "a value of the wrong type: `number`",
-        ),
+        (r#"{"number":null}"#, "a value of the wrong type: `number`"),
         (r#"{"number":-1}"#, "a value of the wrong type: `number`"),
         (
             r#"{"number":7,"title":5}"#,
@@ -138,6 +137,9 @@ fn members_are_written_in_order(rt: HostRuntime) -> Result<(), Fail> {
 #[test]
 fn want_of_memory_is_printed(rt: HostRuntime) -> Result<(), Fail> {
     let memory = PlacedError::at(3, ParseError::Memory);
-    assert_eq!(rt; format!(in rt.alloc(); "{memory}")?.as_str(), "out of memory");
+    assert_eq!(rt;
+        format!(in rt.alloc(); "{memory}")?.as_str(),
+        "out of memory"
+    );
     Ok(())
 }
