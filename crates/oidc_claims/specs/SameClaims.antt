@@ -4,8 +4,8 @@ use Rattle.std.specs.Bool.{beq}
 use Rattle.std.specs.Ordering.{int_eq}
 use Rattle.std.specs.Option.{option_eq}
 use Rattle.std.specs.Cmp.Lexicographic.{pointwise, lists_equiv, options_equiv}
-use Rattle.oidc_types.specs.Variants.{Variants}
-use Rattle.oidc_types.specs.SameVariants.{same_variants}
+use Rattle.oidc_types.specs.{Variants}
+use Rattle.oidc_types.specs.{same_variants}
 use Rattle.oidc_claims.specs.declared.claims.address.AddressClaim.{AddressClaim}
 use Rattle.oidc_claims.specs.Seen.{SeenClaims}
 use Rattle.std.specs.FinMap as finite

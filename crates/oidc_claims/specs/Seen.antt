@@ -1,6 +1,6 @@
 -- The standard claims as contracts see them (OpenID Connect Core 1.0 section 5.1).
 use Rattle.std.specs.Prelude.{ℕ, ℤ, Bool, List, Option, None}
-use Rattle.oidc_types.specs.Variants.{Variants}
+use Rattle.oidc_types.specs.{Variants}
 use Rattle.oidc_claims.specs.declared.claims.address.AddressClaim.{AddressClaim}
 
 -- A claim that isn't there is none. A moment is in nanoseconds since the Unix epoch.

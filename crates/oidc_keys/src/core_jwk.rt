@@ -4,7 +4,7 @@ ghost use Rattle.std.specs.Cmp.{nat_eq_equiv};
 ghost use Rattle.std.specs.Cmp.Lexicographic.{lists_equiv};
 ghost use Rattle.std.proofs.Common.{arith};
 ghost use Rattle.oidc_types.specs.declared.core_algorithms.CoreJsonWebKeyType.TheVariants.{Symmetric};
-ghost use Rattle.oidc_types.specs.SigningAlgorithms.{signing_key_type, signing_text};
+ghost use Rattle.oidc_types.specs.{signing_key_type, signing_text};
 ghost use Rattle.oidc_keys.specs.Jwk.{GivesRefusal};
 ghost use Rattle.oidc_keys.specs.CoreJwk as spec;
 ghost use Rattle.oidc_keys.specs.declared.refusals.SignatureVerificationError.TheVariants as cause;

@@ -3,13 +3,13 @@
 mod own_types;
 
 use crate::claims::additional_members;
+use jiff::Timestamp;
 use oidc_claims::{
     AdditionalClaims, AddressClaim, AllOtherClaims, GenderClaim, Home, ID_TOKEN_FIELDS,
     PlacedError, StandardClaims, belongs, read_standard, write_standard,
 };
 use oidc_members::{Members, OutMember, ParseError, write_object};
 use oidc_types::{CoreGenderClaim, LocalizedClaim, Marker, SubjectIdentifier, Text};
-use jiff::Timestamp;
 use std::alloc::Global;
 use std::test::Fail;
 
@@ -87,7 +87,11 @@ fn others_differ_by_names_values_and_order(rt: HostRuntime) -> Result<(), Fail> 
         (r#"{"e":[1,true],"b":{"c":"d"}}"#, false),
     ] {
         let first = r#"{"a":[1,true],"b":{"c":"d"}}"#;
-        assert_eq!(rt; others_are_equal(rt.alloc(), first, other)?, want, "{other}");
+        assert_eq!(rt;
+            others_are_equal(rt.alloc(), first, other)?,
+            want,
+            "{other}"
+        );
     }
     Ok(())
 }
@@ -106,16 +110,48 @@ fn claims_differ_by_their_values(rt: HostRuntime) -> Result<(), Fail> {
     for (a, b, want) in [
         (FULL, FULL, true),
         (NULLS, r#"{"zz":1,"sub":"a"}"#, true),
-        (r#"{"sub":"a","name#":"b"}"#, r#"{"name":"b","sub":"a"}"#, true),
+        (
+            r#"{"sub":"a","name#":"b"}"#,
+            r#"{"name":"b","sub":"a"}"#,
+            true,
+        ),
         (r#"{"sub":"a"}"#, r#"{"sub":"b"}"#, false),
         (FULL, NULLS, false),
-        (r#"{"sub":"a","name#x":"b"}"#, r#"{"sub":"a","name":"b"}"#, false),
-        (r#"{"sub":"a","name":"b"}"#, r#"{"sub":"a","nickname":"b"}"#, false),
-        (r#"{"sub":"a","email_verified":true}"#, r#"{"sub":"a","email_verified":false}"#, false),
-        (r#"{"sub":"a","address":{}}"#, r#"{"sub":"a","address":null}"#, false),
-        (r#"{"sub":"a","address":{"region":null,"country":"c"}}"#, r#"{"sub":"a","address":{"country":"c"}}"#, true),
-        (r#"{"sub":"a","address":{"region":"c"}}"#, r#"{"sub":"a","address":{"country":"c"}}"#, false),
-        (r#"{"sub":"a","updated_at":1}"#, r#"{"sub":"a","updated_at":-1}"#, false),
+        (
+            r#"{"sub":"a","name#x":"b"}"#,
+            r#"{"sub":"a","name":"b"}"#,
+            false,
+        ),
+        (
+            r#"{"sub":"a","name":"b"}"#,
+            r#"{"sub":"a","nickname":"b"}"#,
+            false,
+        ),
+        (
+            r#"{"sub":"a","email_verified":true}"#,
+            r#"{"sub":"a","email_verified":false}"#,
+            false,
+        ),
+        (
+            r#"{"sub":"a","address":{}}"#,
+            r#"{"sub":"a","address":null}"#,
+            false,
+        ),
+        (
+            r#"{"sub":"a","address":{"region":null,"country":"c"}}"#,
+            r#"{"sub":"a","address":{"country":"c"}}"#,
+            true,
+        ),
+        (
+            r#"{"sub":"a","address":{"region":"c"}}"#,
+            r#"{"sub":"a","address":{"country":"c"}}"#,
+            false,
+        ),
+        (
+            r#"{"sub":"a","updated_at":1}"#,
+            r#"{"sub":"a","updated_at":-1}"#,
+            false,
+        ),
     ] {
         assert_eq!(rt; claims_are_equal(rt.alloc(), a, b)?, want, "{a} and {b}");
     }

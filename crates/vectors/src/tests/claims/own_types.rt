@@ -58,10 +58,19 @@ impl GenderClaim for Disclosure {
 #[test]
 fn a_caller_may_bring_a_gender_of_its_own(rt: HostRuntime) -> Result<(), Fail> {
     for (text, want) in [
-        (r#"{"gender":true,"sub":"a"}"#, r#"{"sub":"a","gender":true}"#),
-        (r#"{"gender#":false,"sub":"a"}"#, r#"{"sub":"a","gender":false}"#),
+        (
+            r#"{"gender":true,"sub":"a"}"#,
+            r#"{"sub":"a","gender":true}"#,
+        ),
+        (
+            r#"{"gender#":false,"sub":"a"}"#,
+            r#"{"sub":"a","gender":false}"#,
+        ),
         (r#"{"sub":"a","gender":null}"#, r#"{"sub":"a"}"#),
-        (r#"{"sub":"a","gender":"female"}"#, "1 Additional disclosure"),
+        (
+            r#"{"sub":"a","gender":"female"}"#,
+            "1 Additional disclosure",
+        ),
     ] {
         let line = standard_line::<Disclosure>(rt.alloc(), text)?;
         assert_eq!(rt; line.as_str(), want, "{text}");
@@ -94,14 +103,14 @@ impl AdditionalClaims for Tenant {
 
     ghost read_of = { λ members. ok_or
         (option_map (λ text. record { name = text })
-            (option_and_then (λ m. as_str m.value) (slice_get (map out_of members) 0)))
+        (option_and_then (λ m. as_str m.value) (slice_get (map out_of members) 0)))
         (record { kind = Additional; field = codes "tenant name" }) };
 
     ghost write_of = { λ tenant. record { name = codes "tenant"; value = string tenant.name } ∷ [] };
 
     ghost reads_back = { λ tenant members is. ap (λ outs. ok_or
         (option_map (λ text. record { name = text })
-            (option_and_then (λ m. as_str m.value) (slice_get outs 0)))
+        (option_and_then (λ m. as_str m.value) (slice_get outs 0)))
         (record { kind = Additional; field = codes "tenant name" })) is };
 
     ghost stays_additional = { λ _. refl };
