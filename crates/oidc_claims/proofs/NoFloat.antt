@@ -13,10 +13,11 @@ use Rattle.oidc_readers.specs.WrittenBack.{IsWholeNumber, IsWhole, ItemsAreWhole
 use Rattle.oidc_claims.specs.declared.claim.Claim.{Claim}
 use Rattle.oidc_claims.specs.declared.claim.Claim.TheVariants.{Subject, Name, GivenName, FamilyName, MiddleName, Nickname, PreferredUsername, Profile, Picture, Website, Email, EmailVerified, Gender, Birthday, Birthdate, Zoneinfo, Locale, PhoneNumber, PhoneNumberVerified, Address, UpdatedAt}
 use Rattle.oidc_claims.specs.declared.claims.address.AddressClaim.{AddressClaim}
+use Rattle.oidc_readers.specs.Moments.{seconds_of, seconds_data}
 use Rattle.oidc_claims.specs.Gender.{GenderIsValue}
 use Rattle.oidc_claims.specs.Seen.{SeenClaims}
 use Rattle.oidc_claims.specs.Table.{all_claims}
-use Rattle.oidc_claims.specs.Write.{address_members, address_data, plain_member, variant_member, variant_members, claim_members, written, seconds_of, seconds_data}
+use Rattle.oidc_claims.specs.Write.{address_members, address_data, plain_member, variant_member, variant_members, claim_members, written}
 use Rattle.oidc_claims.proofs.MayStand.{address_whole}
 
 -- ---- whole values have none

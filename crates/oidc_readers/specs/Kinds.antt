@@ -56,7 +56,8 @@ url_kind m = url_read m (as_str m.value)
 -- each of them a text
 abbrev pub texts_in : Items → Option (List (List ℕ))
 texts_in no_items = Some []
-texts_in (item value rest) = option_and_then (λ text. option_map (λ texts. text ∷ texts) (texts_in rest)) (as_str value)
+texts_in (item value rest) =
+    option_and_then (λ text. option_map (λ texts. text ∷ texts) (texts_in rest)) (as_str value)
 
 -- an array of texts
 abbrev pub texts_kind : Kind (List (List ℕ))

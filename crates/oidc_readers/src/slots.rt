@@ -16,8 +16,10 @@ use std::alloc::Global;
 /// A field that may stand once: whether its member came, and its value.
 #[derive(Drop)]
 pub struct Once<T> {
-    seen: bool,
-    value: Option<T>,
+    /// Whether a member of the field came.
+    pub seen: bool,
+    /// The value of the first one.
+    pub value: Option<T>,
 }
 
 impl<T: FieldValue> Once<T> {

@@ -83,7 +83,10 @@ fn is_additional_name(name: &str) -> bool
 }
 
 /// The additional ones of these members.
-pub(crate) fn additional_members(alloc: Global, members: &[Member]) -> Result<Vec<Member>, AllocError>
+pub(crate) fn additional_members(
+    alloc: Global,
+    members: &[Member],
+) -> Result<Vec<Member>, AllocError>
     ensures { IfOk result (λ members. IsTrue (are_additional members.items)) }
 {
     let mut additional = Vec::new(alloc);
