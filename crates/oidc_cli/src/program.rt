@@ -66,7 +66,8 @@ pub fn run<S: Source, O: Sink>(alloc: Global, words: &[String], source: &mut S, 
         → Puts (O.written sink.old) (O.written sink.new) (report script) }
 
     // On 1 and 5 what was written begins the report.
-    ensures begun { (script : List ℕ) → S.remaining source.old ≡ Some script → (result ≡ 1) ⊎ (result ≡ 5)
+    ensures begun { (script : List ℕ) → S.remaining source.old ≡ Some script
+        → (result ≡ 1) ⊎ (result ≡ 5)
         → PutsPrefix (O.written sink.old) (O.written sink.new) (report script) }
 
     // Reading stops at one byte more than 67,108,864.
