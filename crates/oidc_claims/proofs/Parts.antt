@@ -19,8 +19,8 @@ use Rattle.oidc_claims.specs.declared.claim.Claim.TheVariants.{Address}
 use Rattle.oidc_claims.specs.Table.{name_of}
 use Rattle.oidc_claims.specs.Kinds.{text_read, plain}
 use Rattle.oidc_claims.specs.Address.{part_name, part_of, part_judged, part_fault, part_fault_by, own_part, address_of, address_unless, address_in, address_read}
-use Rattle.oidc_claims.specs.PutParts.{put_part}
-use Rattle.oidc_claims.specs.Written.{text_member, part_members, parts_in_order, address_data}
+use Rattle.oidc_claims.specs.Write.{put_part}
+use Rattle.oidc_claims.specs.Write.{text_member, part_members, parts_in_order, address_data}
 use Rattle.oidc_claims.proofs.Standing.{read_with, AddressStands}
 use Rattle.oidc_claims.proofs.Apart.{IsPart, JudgesOwn, apart_from, own_among, no_fault}
 

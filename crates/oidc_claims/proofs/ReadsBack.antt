@@ -17,8 +17,8 @@ use Rattle.oidc_claims.specs.Kinds.{of_member, or_refused, text_read, flag_read,
 use Rattle.oidc_claims.specs.Address.{address_read}
 use Rattle.oidc_claims.specs.Claims.{own, variants, unless_empty, fault_by, fault_at, first_fault}
 use Rattle.oidc_claims.specs.Standard.{claims_of, with_subject, complete, unless_refused}
-use Rattle.oidc_claims.specs.Written.{written, claim_members, plain_member, with_tag, address_data, seconds_data, seconds_of}
-use Rattle.oidc_claims.specs.RoundTrip.{IsTag, IsInRange, IsWholeSecond}
+use Rattle.oidc_claims.specs.Write.{written, claim_members, plain_member, with_tag, address_data, seconds_data, seconds_of}
+use Rattle.oidc_claims.specs.Write.{IsTag, IsInRange, IsWholeSecond}
 use Rattle.oidc_claims.proofs.Standing.{AddressStands, read_with}
 use Rattle.oidc_claims.proofs.Apart.{JudgesOwn, apart_from, own_among, no_fault}
 use Rattle.oidc_claims.proofs.Parts.{map_flat, address_reads_back}

@@ -4,8 +4,8 @@ use Rattle.std.specs.List.{list_any}
 use Rattle.std.specs.FinMap as finite
 use Rattle.std.specs.Ordering.{is_eq}
 use Rattle.std.proofs.lemmas.List.Sums.{fold_push}
-use Rattle.oidc_types.specs.Variants.{Variants, tag_cmp}
-use Rattle.oidc_types.proofs.Entries.{tags_total}
+use Rattle.oidc_types.specs.{Variants, tag_cmp}
+use Rattle.oidc_types.proofs.Theorems.{tags_total}
 use Rattle.oidc_members.specs.Seen.{SeenMember}
 use Rattle.oidc_members.specs.declared.refusal.Refusal.{Refusal}
 use Rattle.oidc_claims.specs.Table.{tag_of}

@@ -9,9 +9,9 @@ use Rattle.std.specs.declared.cmp.Ordering.{Ordering}
 use Rattle.std.specs.declared.cmp.Ordering.TheVariants.{Equal, Less, Greater}
 use Rattle.std.specs.Ordering.{is_lt, is_eq}
 use Rattle.std.specs.Cmp.{eq_by_cmp_equiv}
-use Rattle.oidc_types.specs.Variants.{Variants, tag_cmp}
-use Rattle.oidc_types.proofs.Entries.{tags_total}
-use Rattle.oidc_types.proofs.Copies.{push, later, remade}
+use Rattle.oidc_types.specs.{Variants, tag_cmp}
+use Rattle.oidc_types.proofs.Theorems.{tags_total}
+use Rattle.oidc_types.proofs.Theorems.{from_entries-append, append-next, from_entries-entries}
 use Rattle.oidc_members.specs.Seen.{SeenMember, OutSeen}
 use Rattle.oidc_members.specs.declared.refusal.Refusal.{Refusal}
 use Rattle.oidc_members.specs.declared.refusal.ParseKind.TheVariants.{Duplicate, UnexpectedTag}
@@ -20,8 +20,8 @@ use Rattle.oidc_claims.specs.declared.claim.ClaimKind.TheVariants as kind
 use Rattle.oidc_claims.specs.Table.{name_of, claim_of, is_localized, is_optional, kind_of, base_of, tag_of}
 use Rattle.oidc_claims.specs.Kinds.{of_member, text_read, held, misfit}
 use Rattle.oidc_claims.specs.Claims.{fault_of_kind, fault_at, same_tag, with_value, variants, unless_empty, is_nil}
-use Rattle.oidc_claims.specs.Written.{with_tag, variant_member, variant_members}
-use Rattle.oidc_claims.specs.RoundTrip.{IsTag, AreTagged, HasVariants}
+use Rattle.oidc_claims.specs.Write.{with_tag, variant_member, variant_members}
+use Rattle.oidc_claims.specs.Write.{IsTag, AreTagged, HasVariants}
 use Rattle.oidc_claims.proofs.Standing.{read_with}
 use Rattle.oidc_claims.proofs.Apart.{IsPart}
 
@@ -113,11 +113,11 @@ module _ {GC : Type 0} (gender_read : SeenMember → Result GC Refusal) (text_of
 
   fold_back : (all : Variants (List ℕ)) (done es : List (Option (List ℕ) × List ℕ)) → finite.entries all ≡ done ++ es → AreTagged es
       → fold (λ values m. with_value values (tag_of m.name) (held true text_read m)) (finite.from_entries done) (map member es) ≡ all
-  fold_back all done [] is t = ap finite.from_entries (sym (is ∙ append-nil done)) ∙ remade all
+  fold_back all done [] is t = ap finite.from_entries (sym (is ∙ append-nil done)) ∙ from_entries-entries all
   fold_back all done (e ∷ es) is t =
       ap (λ values. fold (λ values m. with_value values (tag_of m.name) (held true text_read m)) values (map member es))
-      (ap (λ tag. finite.insert (finite.from_entries done) tag e.1) (named.is_tag e.0 t.0) ∙ sym (push all done es (e ∷ es) e is refl))
-      ∙ fold_back all (done ++ e ∷ []) es (later done es (e ∷ es) (finite.entries all) e is refl) t.1
+      (ap (λ tag. finite.insert (finite.from_entries done) tag e.1) (named.is_tag e.0 t.0) ∙ sym (from_entries-append all done es (e ∷ es) e is refl))
+      ∙ fold_back all (done ++ e ∷ []) es (append-next done es (e ∷ es) (finite.entries all) e is refl) t.1
 
   pub variants_are_part : (o : Option (Variants (List ℕ))) → HasVariants o → IsClaimPart gender_read c [] (map (read_with text_of) (variant_members c o))
   variants_are_part None h = tt

@@ -6,7 +6,7 @@ use Rattle.std.specs.List.{list_any}
 use Rattle.std.specs.Option.{option_map_or}
 use Rattle.std.specs.Str.{bytes_eq}
 use Rattle.std.specs.Ordering.{is_eq}
-use Rattle.oidc_types.specs.Variants.{Variants, tag_cmp}
+use Rattle.oidc_types.specs.{Variants, tag_cmp}
 use Rattle.oidc_members.specs.Seen.{SeenMember}
 use Rattle.oidc_members.specs.declared.refusal.Refusal.{Refusal}
 use Rattle.oidc_members.specs.declared.refusal.ParseKind.TheVariants.{Duplicate, UnexpectedTag}

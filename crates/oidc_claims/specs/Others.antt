@@ -5,7 +5,7 @@ use Rattle.std.proofs.Math.Bool.{Bool-set}
 use Rattle.std.proofs.Common.{subst, sym, ◌∙◌}
 use Rattle.std.proofs.lemmas.Bool.{true≢false}
 use Rattle.oidc_members.specs.Seen.{SeenMember, OutSeen}
-use Rattle.oidc_members.specs.SeenCode.{out_seen_code}
+use Rattle.oidc_members.specs.Codes.{out_seen_code}
 use Rattle.oidc_members.specs.declared.refusal.Refusal.{Refusal}
 use Rattle.oidc_claims.specs.Additional.{are_written_additional, out_of}
 

@@ -1,7 +1,7 @@
 -- What the reader of a claim keeps, after the members of that claim that came.
 use Rattle.std.specs.Prelude.{not, List, Bool, Result, fold}
 use Rattle.std.specs.FinMap as finite
-use Rattle.oidc_types.specs.Variants.{Variants}
+use Rattle.oidc_types.specs.{Variants}
 use Rattle.oidc_members.specs.Seen.{SeenMember}
 use Rattle.oidc_members.specs.declared.refusal.Refusal.{Refusal}
 use Rattle.oidc_claims.specs.declared.claims.slots.Once.{Once}

@@ -4,9 +4,8 @@
 //! - [`StandardClaims`] are the claims of OpenID Connect Core 1.0 section 5.1, and [`AddressClaim`] is
 //!   the address among them (section 5.1.1).
 //!   [`read_standard`] reads them, [`write_standard`] writes them.
-//! - [`GenderClaim`] is the type of the claim `gender`. A caller may bring one of its own; its laws
-//!   say that what is written reads back, and that a copy equals its source. `CoreGenderClaim` is a
-//!   plain text.
+//! - [`GenderClaim`] is the type of the claim `gender`. A caller may bring one of its own: what it
+//!   writes isn't null and reads back, and a copy equals its source. `CoreGenderClaim` is a plain text.
 //! - [`AdditionalClaims`] is the type of the claims beside the standard ones (section 5.1.2):
 //!   [`EmptyAdditionalClaims`] keeps none, [`AllOtherClaims`] all. [`belongs`] says to which of them a
 //!   member belongs.

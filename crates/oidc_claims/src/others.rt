@@ -1,24 +1,24 @@
 //! All additional claims, kept as they came.
 
 ghost use Rattle.std.specs.Prelude.{◌≡◌, map, Bool, IfOk};
+ghost use Rattle.std.specs.List.{All};
+ghost use Rattle.oidc_readers.specs.WrittenBack.{IsUtf8Member};
 ghost use Rattle.oidc_claims.specs.Additional.{are_written_additional, out_of};
 ghost use Rattle.oidc_claims.specs.Others.{list_of};
 
 use crate::additional::AdditionalClaims;
 use crate::same::is_same_list;
-use oidc_members::{FieldName, Member, OutMember, ParseError};
+use crate::write::push_member;
+use oidc_members::{Member, OutMember, ParseError};
 use std::alloc::{AllocError, Global};
 use std::marker::Model;
-
-#[cfg(test)]
-mod tests;
 
 /// All additional members, with their names and values in their order. Nothing is refused, and they
 /// are written as they were read.
 ///
 /// Two are equal where their names and values are, one by one. A float is equal to none, not even to
 /// itself; `Members::split` lets none in.
-#[derive(Debug, Drop)]
+#[derive(Drop)]
 pub struct AllOtherClaims {
     members: Vec<OutMember>,
     ghost additional: { are_written_additional members.items ≡ Bool.true },
@@ -49,21 +49,20 @@ fn outs_of(alloc: Global, members: &[Member]) -> Result<Vec<OutMember>, AllocErr
 {
     let mut outs = Vec::new(alloc);
     for member in members {
-        let name = FieldName::new(String::from_str(alloc, member.name())?);
-        let value = member.value().clone()?;
-        outs.push(OutMember { name, value })?;
+        let name = String::from_str(alloc, member.name())?;
+        push_member(&mut outs, name, member.value().clone()?)?;
     }
     Ok(outs)
 }
 
 fn copies_of(alloc: Global, members: &[OutMember]) -> Result<Vec<OutMember>, AllocError>
-    ensures { IfOk result (λ copies. copies.items ≡ members.now) }
+    ensures copies { IfOk result (λ copies. copies.items ≡ members.now) }
+    ensures texts { IfOk result (λ copies. All IsUtf8Member copies.items) }
 {
     let mut copies = Vec::new(alloc);
     for member in members {
-        let name = FieldName::new(String::from_str(alloc, member.name.as_str())?);
-        let value = member.value.clone()?;
-        copies.push(OutMember { name, value })?;
+        let name = String::from_str(alloc, member.name.as_str())?;
+        push_member(&mut copies, name, member.value.clone()?)?;
     }
     Ok(copies)
 }
@@ -95,9 +94,9 @@ impl AdditionalClaims for AllOtherClaims {
 
 impl PartialEq for AllOtherClaims {
     ghost use Rattle.std.specs.Cmp.{on_per};
-    ghost use Rattle.oidc_claims.specs.SameData.{same_list};
+    ghost use Rattle.oidc_claims.specs.Same.{same_list};
     ghost use Rattle.oidc_claims.specs.Others.{list_of};
-    ghost use Rattle.oidc_claims.specs.Sound.{partly_equal, list_sound};
+    ghost use Rattle.oidc_claims.specs.Same.{partly_equal, list_sound};
 
     ghost eq = { λ a b. same_list a.list b.list };
 

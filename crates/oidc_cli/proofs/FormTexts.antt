@@ -4,7 +4,7 @@ use Rattle.std.specs.List.{join_with_byte}
 use Rattle.form_urlencoded.specs.Form.{serialize_pair}
 use Rattle.http_header.specs.HeaderMap.{get}
 use Rattle.oidc_pairs.specs.Form.{form}
-use Rattle.oidc_members.specs.Written.{object_text}
+use Rattle.oidc_members.specs.Write.{object_text}
 use Rattle.oidc_login.specs.Transport.{SeenRequest}
 use Rattle.oidc_login.specs.SignedIns.{SeenSignedIn}
 use Rattle.oidc_login.specs.WrittenClaims.{written}

@@ -5,7 +5,7 @@ use Rattle.serde_json.specs.Data.{string, number}
 use Rattle.serde_json.specs.Find.{of_integer}
 use Rattle.serde_json.specs.View.{items_of}
 use Rattle.serde_json.specs.Written.{has_float}
-use Rattle.oidc_members.specs.Written.{any_float}
+use Rattle.oidc_members.specs.Write.{any_float}
 use Rattle.oidc_login.specs.IdTokens.{SeenClaims}
 use Rattle.oidc_login.specs.WrittenClaims.{written, texts_data, seconds_data, nonce_member, member_of}
 

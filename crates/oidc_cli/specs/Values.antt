@@ -5,8 +5,8 @@ use Rattle.std.specs.Str.{all_ascii_digits}
 use Rattle.std.specs.Str.Parse.{digits_value}
 use Rattle.http_header.specs.Token.{is_visible_or_blank}
 use Rattle.oidc_types.specs.declared.core_algorithms.CoreJwsSigningAlgorithm.{CoreJwsSigningAlgorithm}
-use Rattle.oidc_types.specs.SigningAlgorithms.{signing_text, signing_algorithms}
-use Rattle.oidc_types.specs.Words.{find_word}
+use Rattle.oidc_types.specs.{signing_text, signing_algorithms}
+use Rattle.oidc_types.specs.{find_word}
 use Rattle.oidc_login.specs.IdTokens.{moment_at}
 use Rattle.oidc_pairs.specs.Pairs.{values_in, only_of}
 use Rattle.oidc_cli.specs.declared.events.LineError.{LineError}

@@ -2,7 +2,7 @@
 use Rattle.std.proofs.Common.{◌≡◌, ℕ, zero, suc, ◌+◌, ◌*◌, ◌/◌, ◌%◌, ◌<◌, Bool, true, false, List, [], ◌∷◌, ◌++◌, slice_index, replicate, refl, arith, subst, ⊎_elim, ◌⊎◌}
 use Rattle.std.specs.Prelude.{All, IsTrue, IsUtf8, ◌&&◌, codes}
 use Rattle.http_header.specs.FieldValue.{IsFieldValue}
-use Rattle.oidc_pairs.proofs.TextBytes.{All-IsUtf8}
+use Rattle.oidc_pairs.proofs.Theorems.{All-IsUtf8}
 use Rattle.std.proofs.lemmas.List.Elements.{All-nil, All-cons, All-append, All-head, All-tail}
 use Rattle.http_header.specs.Token.{is_value_byte}
 use Rattle.base64.specs.Tables.{all_below}

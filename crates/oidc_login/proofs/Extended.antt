@@ -5,14 +5,14 @@ use Rattle.form_urlencoded.specs.Form.{extend_pairs}
 use Rattle.url.specs.Parts.{Parts}
 use Rattle.url.specs.Setters.{append_query_pairs}
 use Rattle.oidc_pairs.specs.Form.{form}
-use Rattle.oidc_pairs.proofs.Written.{extend_pairs_form, extend_pairs-form}
+use Rattle.oidc_pairs.proofs.Theorems.{extend_pairs-on_empty, extend_pairs-after_text}
 use Rattle.oidc_login.specs.Authorization.{joined, extended, list_of}
 
 -- pairs, one of them at least, after a query
 extend_pairs_joined : (query : List ℕ) (pair : List ℕ × List ℕ) (list : List (List ℕ × List ℕ))
     → extend_pairs query (pair ∷ list) ≡ joined query (form (pair ∷ list))
-extend_pairs_joined [] pair list = extend_pairs_form (pair ∷ list)
-extend_pairs_joined (b ∷ query) pair list = extend_pairs-form (b ∷ query) pair list (omega arith)
+extend_pairs_joined [] pair list = extend_pairs-on_empty (pair ∷ list)
+extend_pairs_joined (b ∷ query) pair list = extend_pairs-after_text (b ∷ query) pair list (omega arith)
 
 pub append_query_pairs-extended : (url : Parts) (pair : List ℕ × List ℕ) (list : List (List ℕ × List ℕ))
     → append_query_pairs url (pair ∷ list) ≡ extended url (pair ∷ list)

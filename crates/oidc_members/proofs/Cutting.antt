@@ -9,7 +9,7 @@ use Rattle.std.proofs.lemmas.List.Folds.{list_all-append, list_any_none, list_an
 use Rattle.std.proofs.lemmas.List.FromFn.{length-range_with_len, get_or-range_with_len}
 use Rattle.oidc_members.specs.Places.{places, colon, is_at_level_one}
 use Rattle.oidc_members.specs.Objects.{bytes_at, halves}
-use Rattle.oidc_members.specs.Cutting.{IsFirst}
+use Rattle.oidc_members.specs.Cut.{IsFirst}
 use Rattle.oidc_members.proofs.Steps.{places_more}
 
 pub length_places : (a b : ℕ) → length (places a b) ≡ b - a

@@ -7,7 +7,7 @@ use Rattle.oidc_members.specs.declared.refusal.ParseKind.TheVariants.{Syntax, Nu
 use Rattle.oidc_members.specs.Places.{backslashes, is_unescaped_quote, is_outside, opened, closed}
 use Rattle.oidc_members.specs.Objects.{trimmed, is_braced, pieces, halves, member_of, loose_members_of, members_of, of_text, split_of}
 use Rattle.oidc_members.specs.Seen.{SeenMember}
-use Rattle.oidc_members.specs.Written.{object_text}
+use Rattle.oidc_members.specs.Write.{object_text}
 
 unfoldable on_literals : ⊤
 unfolding split_of loose_members_of members_of trimmed is_braced pieces halves member_of opened closed is_outside is_unescaped_quote backslashes is_utf8 chars serde_json_on_literals

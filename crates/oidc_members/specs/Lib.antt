@@ -1,9 +1,11 @@
-pub mod Answers
-pub mod Cutting
-pub mod DataCode
-pub mod Objects
-pub mod Places
-pub mod Scanning
 pub mod Seen
-pub mod SeenCode
-pub mod Written
+pub mod Places
+pub mod Objects
+pub mod Write
+pub mod Answers
+-- what no public clause cites
+pub mod Scan
+pub mod Cut
+pub mod Codes
+pub use Rattle.serde_json.specs.Data
+pub use Rattle.serde_json.specs.View

@@ -39,7 +39,8 @@ is_braced text = slice_index text 0 == open_brace
     && is_at_level_one text close_brace (length text - 1)
     && list_all (λ i. nat_lt 0 (level text i)) (between text)
 
--- The places of each item: the text between is cut at outside commas of level 1. White space alone has no items.
+-- The places of each item: the text between is cut at outside commas of level 1. White space alone has
+-- no items.
 unfoldable pub pieces : List ℕ → List (List ℕ)
 pieces text =
     if list_all (λ i. is_space (slice_index text i)) (between text)
@@ -56,8 +57,9 @@ bytes_at text piece = map (slice_index text) piece
 -- An item is cut at its first outside colon of level 1.
 unfoldable pub halves : List ℕ → List ℕ → Option Halves
 halves text piece =
-    if list_any (is_at_level_one text colon) piece
-    then Some (bytes_at text (before_first (is_at_level_one text colon) piece), bytes_at text (after_first (is_at_level_one text colon) piece))
+    let is_colon = is_at_level_one text colon in
+    if list_any is_colon piece
+    then Some (bytes_at text (before_first is_colon piece), bytes_at text (after_first is_colon piece))
     else None
 
 -- ---- its members
@@ -70,7 +72,9 @@ read_bytes bytes = if is_utf8 bytes then read bytes else None
 unfoldable pub member_of : Halves → Option SeenMember
 member_of half =
     option_and_then
-    (λ name. option_map (λ value. record { name = name; value = value; text = trimmed half.1 }) (read_bytes half.1))
+    (λ name. option_map
+    (λ value. record { name = name; value = value; text = trimmed half.1 })
+    (read_bytes half.1))
     (option_and_then as_str (read_bytes half.0))
 
 -- all of them, if none is missing
@@ -99,7 +103,8 @@ abbrev pub of_text : ParseKind → Refusal
 of_text kind = record { kind = kind; field = [] }
 
 -- Without members it is `Number` where floats alone stand against the text, else `Syntax`.
-abbrev pub members_or_refusal : Option (List SeenMember) → Option (List SeenMember) → Result (List SeenMember) Refusal
+abbrev pub members_or_refusal : Option (List SeenMember) → Option (List SeenMember)
+    → Result (List SeenMember) Refusal
 members_or_refusal (Some members) loose = Ok members
 members_or_refusal None (Some loose) = Err (of_text Number)
 members_or_refusal None None = Err (of_text Syntax)

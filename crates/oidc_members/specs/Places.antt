@@ -1,4 +1,5 @@
--- The places of a text: which of them stand outside strings, and how deep in braces and brackets (RFC 8259 sections 2 and 7).
+-- The places of a text: which of them stand outside strings, and how deep in braces and brackets
+-- (RFC 8259 sections 2 and 7).
 use Rattle.std.specs.Prelude.{ℕ, ◌-◌, ◌%◌, ◌==◌, ◌&&◌, ◌||◌, Bool, List, take, slice_index, count_by}
 use Rattle.std.specs.List.{range_with_len, suffix_len}
 
@@ -46,10 +47,12 @@ unfoldable pub is_outside : List ℕ → ℕ → Bool
 is_outside text i = is_even (count_by (is_unescaped_quote text) (places 0 i))
 
 abbrev pub opens : List ℕ → ℕ → Bool
-opens text i = is_outside text i && (slice_index text i == open_brace || slice_index text i == open_bracket)
+opens text i =
+    is_outside text i && (slice_index text i == open_brace || slice_index text i == open_bracket)
 
 abbrev pub closes : List ℕ → ℕ → Bool
-closes text i = is_outside text i && (slice_index text i == close_brace || slice_index text i == close_bracket)
+closes text i =
+    is_outside text i && (slice_index text i == close_brace || slice_index text i == close_bracket)
 
 -- how many outside `{` and `[` stand before a place, and how many outside `}` and `]`
 unfoldable pub opened : List ℕ → ℕ → ℕ

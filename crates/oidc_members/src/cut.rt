@@ -3,8 +3,8 @@ ghost use Rattle.std.specs.Prelude.{◌≡◌, ◌+◌, ◌-◌, ◌<◌, ◌≤
 ghost use Rattle.std.specs.List.{slice_split};
 ghost use Rattle.oidc_members.specs.Places.{places, is_at_level_one, comma, colon as colon_byte};
 ghost use Rattle.oidc_members.specs.Objects.{is_braced, pieces, halves, between};
-ghost use Rattle.oidc_members.specs.Scanning.{IsAt};
-ghost use Rattle.oidc_members.specs.Cutting.{IsFirst, IsCutUpTo, item_seen, items_seen};
+ghost use Rattle.oidc_members.specs.Scan.{IsAt};
+ghost use Rattle.oidc_members.specs.Cut.{IsFirst, IsCutUpTo, item_seen, items_seen};
 
 use crate::scan::Scan;
 use crate::space::is_space;
@@ -77,7 +77,8 @@ impl<'a> Cuts<'a> {
         requires some { 1 < length text.now }
         requires cut { IsCutUpTo text.now (length text.now - 1) (length text.now - 1) self }
         ensures { IfOk result (λ items. items_seen items.items
-            ≡ map (halves text.now) (slice_split (is_at_level_one text.now comma) (between text.now))) }
+            ≡ map (halves text.now)
+            (slice_split (is_at_level_one text.now comma) (between text.now))) }
     {
         let Cuts {
             mut items,

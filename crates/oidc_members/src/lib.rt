@@ -1,9 +1,9 @@
 //! A JSON object as the list of its members, in order and with duplicates kept.
 //!
 //! Claims, token answers and headers are JSON objects whose readers must see every member: a
-//! repeated name refuses a token, and a fault is told by the place where it stands. A map would
-//! keep one member of each name, so `Members::split` cuts the text itself and lets `serde_json`
-//! read each name and each value.
+//! repeated name refuses a token, and of two faults the first in the text counts. A map would keep
+//! one member of each name, so `Members::split` cuts the text itself and lets `serde_json` read
+//! each name and each value.
 //!
 //! - `Members` is the list, `Member` one name with its value and the bytes of the value.
 //! - `OutMember` and `write_object` go the other way: the compact text of a list of members.
@@ -13,18 +13,21 @@
 //! What it promises. `split` gives exactly the members that the definition `members_of` of the
 //! text has, and refuses exactly where it has none: as `Number` where floats alone stand against
 //! it, as `Syntax` otherwise. `write_object` gives the compact text in list order where no value
-//! holds a float. A copy of a member equals it. Want of memory is an answer of its own, and no
-//! clause says when it comes.
+//! holds a float, and says nothing of a text where one does. A copy of a member equals it. Want of
+//! memory is an answer of its own, and no clause says when it comes.
 //!
 //! An object is one of RFC 8259 section 4, with two limits: a value nests at most 127 deep, and
 //! its numbers are whole, from -2^63 to 2^64 - 1 (section 6 lets a reader set such a range).
+//!
+//! Members may hold secrets, as a token answer's do, so none of these types has a `Debug`.
+//! `README.md` says what is proved and by which clause, `CALLING.md` how to call it.
 #![tactic(auto)]
 
 mod cut;
 mod field_name;
 mod float;
 mod member;
-mod object;
+mod objects;
 mod refusal;
 mod scan;
 mod space;
@@ -32,9 +35,6 @@ mod write;
 
 pub use crate::field_name::FieldName;
 pub use crate::member::Member;
-pub use crate::object::Members;
+pub use crate::objects::Members;
 pub use crate::refusal::{ParseError, ParseKind, Refusal};
 pub use crate::write::{OutMember, write_object};
-
-#[cfg(test)]
-mod tests;

@@ -12,7 +12,7 @@ use std::marker::Model;
 
 /// A member of an object: its name, its value, and the bytes of the value as they stood, without
 /// the white space around them. A contract sees it as the record of these three.
-#[derive(Debug, Drop)]
+#[derive(Drop)]
 pub struct Member {
     name: String,
     value: Value,
@@ -23,13 +23,17 @@ impl Model for Member {
     ghost use Rattle.std.specs.String.{string_bytes};
     ghost use Rattle.serde_json.specs.View.{view as data_of};
     ghost use Rattle.oidc_members.specs.Seen.{SeenMember};
-    ghost use Rattle.oidc_members.specs.SeenCode.{seen_member_code};
+    ghost use Rattle.oidc_members.specs.Codes.{seen_member_code};
 
     ghost Value = { SeenMember };
 
     ghost coded = { seen_member_code };
 
-    ghost view = { λ m. record { name = string_bytes m.name; value = data_of m.value; text = m.text.items } };
+    ghost view = { λ m. record {
+      name = string_bytes m.name;
+      value = data_of m.value;
+      text = m.text.items;
+    } };
 }
 
 fn value_of(alloc: Global, bytes: &[u8]) -> Result<Option<Value>, AllocError>

@@ -1,7 +1,7 @@
 // Where a place of a text stands, as one pass over its bytes finds it.
 ghost use Rattle.std.specs.Prelude.{◌≡◌, ◌+◌, ◌<◌, ◌≤◌, length, not, slice_index};
 ghost use Rattle.oidc_members.specs.Places.{open_brace, is_outside, is_at_level_one, is_even, backslashes, opened, closed};
-ghost use Rattle.oidc_members.specs.Scanning.{IsAt};
+ghost use Rattle.oidc_members.specs.Scan.{IsAt};
 
 // What stands before a place.
 #[derive(Clone, Copy, Debug, Drop)]

@@ -2,7 +2,7 @@
 ghost use Rattle.std.specs.Prelude.{◌≡◌, ◌∷◌, ◌++◌, false, IfOk, OnOk};
 ghost use Rattle.serde_json.specs.Data.{string};
 ghost use Rattle.serde_json.specs.Written.{comma_if, compact_text, has_float};
-ghost use Rattle.oidc_members.specs.Written.{any_float, object_text};
+ghost use Rattle.oidc_members.specs.Write.{any_float, object_text};
 
 use crate::field_name::FieldName;
 use serde_json::Value;
@@ -10,7 +10,7 @@ use std::alloc::{AllocError, Global};
 use std::marker::Model;
 
 /// A member that is written: a name and its value. A contract sees it as the record of these.
-#[derive(Debug, Drop)]
+#[derive(Drop)]
 pub struct OutMember {
     /// The member's name.
     pub name: FieldName,
@@ -21,7 +21,7 @@ pub struct OutMember {
 impl Model for OutMember {
     ghost use Rattle.serde_json.specs.View.{view as data_of};
     ghost use Rattle.oidc_members.specs.Seen.{OutSeen};
-    ghost use Rattle.oidc_members.specs.SeenCode.{out_seen_code};
+    ghost use Rattle.oidc_members.specs.Codes.{out_seen_code};
 
     ghost Value = { OutSeen };
 
@@ -57,11 +57,8 @@ fn push_member(
     Ok(())
 }
 
-/// The compact text of the object that has these members, in the order of the list. The time is
-/// linear in the text.
-///
-/// Where a value holds a float, its digits are open: the text is that of an object, but nothing
-/// more is promised of it.
+/// The compact text of the object that has these members, in the order of the list, where no value
+/// holds a float. Where one does, nothing is said of the text.
 pub fn write_object(alloc: Global, members: &[OutMember]) -> Result<Vec<u8>, AllocError>
     ensures { IfOk result (λ text. any_float members.now ≡ false
         → text.items ≡ object_text members.now) }

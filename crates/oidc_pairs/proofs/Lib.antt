@@ -1,4 +1,5 @@
-pub mod TextBytes
-pub mod Decoded
-pub mod Written
-pub mod Lookups
+pub mod Theorems
+mod Decoded
+mod FormTexts
+mod Lookups
+mod TextBytes

@@ -1,7 +1,7 @@
 -- Text is bytes.
-use Rattle.std.proofs.Common.{◌≡◌, ℕ, ◌+◌, ◌/◌, ◌<◌, Bool, true, false, List, [], ◌∷◌, All, IsUtf8, subst, refl, ⊎_elim, arith}
-use Rattle.std.specs.Prelude.{encode_utf8_all, nat_lt, ◌&&◌}
-use Rattle.std.proofs.lemmas.Bool.{cond_both}
+use Rattle.std.proofs.Common.{◌≡◌, ℕ, ◌+◌, ◌/◌, ◌<◌, true, List, [], ◌∷◌, All, IsUtf8, subst, ⊎_elim, arith}
+use Rattle.std.specs.Prelude.{encode_utf8_all, nat_lt}
+use Rattle.std.proofs.lemmas.Bool.{and_parts, cond_both}
 use Rattle.std.proofs.lemmas.Bool.Decides.{nat_tests}
 use Rattle.std.proofs.lemmas.List.Elements.{All-nil, All-cons, All-append}
 use lib.Utf8.{encode, next, scalar, scalars, scalar_cases}
@@ -38,14 +38,10 @@ All-encode c small =
 scalar_small : (c : ℕ) → scalar c ≡ true → c < 1114112
 scalar_small c h = ⊎_elim (λ low. omega arith) (λ high. high.1) (scalar_cases c h)
 
-both : (a b : Bool) → (a && b) ≡ true → (a ≡ true) × (b ≡ true)
-both true b h = (refl, h)
-both false b h = cc
-
 All-encodes : (cs : List ℕ) → scalars cs ≡ true → All IsByte (encode_utf8_all cs)
 All-encodes [] h = All-nil IsByte
 All-encodes (c ∷ cs) h =
-    let parts = both (scalar c) (scalars cs) h in
+    let parts = and_parts (scalar c) (scalars cs) h in
     All-append IsByte (encode c) (encode_utf8_all cs) (All-encode c (scalar_small c parts.0)) (All-encodes cs parts.1)
 
 -- each byte of a text is below 256

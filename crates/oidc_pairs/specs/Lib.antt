@@ -1,3 +1,3 @@
 pub mod Pairs
 pub mod Form
-pub mod Written
+pub use Rattle.form_urlencoded.specs.Form.{pair_text}

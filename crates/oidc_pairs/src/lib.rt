@@ -1,22 +1,20 @@
 //! Form pairs: the names and values of a query, a form body or a line of a script.
 //!
-//! The format is `application/x-www-form-urlencoded` of the URL Standard (section 5), which RFC 6749
-//! (appendix B) takes for its requests and answers. Several layers read and write it, so its
+//! The format is `application/x-www-form-urlencoded` of the URL Standard (section 5), which RFC
+//! 6749 (appendix B) takes for its requests and answers. Several layers read and write it, so its
 //! definitions stand here, at the bottom.
 //!
-//! - [`Pairs::parse`] reads any bytes at all: they are the list of pairs that the definition `pairs`
-//!   gives. [`Pairs::first`] and [`Pairs::only`] look names up in it.
+//! - [`Pairs::parse`] reads any bytes at all: they are the list of pairs that the definition
+//!   `pairs` gives. [`Pairs::first`] and [`Pairs::only`] look names up in it.
 //! - [`FormText`] writes pairs one by one, and [`form_text`] writes a list of them; the text is the
 //!   definition `form` of the list. [`escaped_text`] writes one name or value alone.
 //! - [`form_reads_back`] says that a list of pairs that was written is read as the same list.
 //!
-//! A text is read in one pass over its bytes, and a look-up passes once over the pairs.
+//! `README.md` says what is proved and by which clause, `CALLING.md` how to call it.
 #![tactic(auto)]
 
-mod reading;
-#[cfg(test)]
-mod tests;
-mod writing;
+mod form;
+mod pairs;
 
-pub use crate::reading::{Pair, Pairs};
-pub use crate::writing::{FormText, escaped_text, form_reads_back, form_text};
+pub use crate::form::{FormText, escaped_text, form_reads_back, form_text};
+pub use crate::pairs::{Pair, Pairs};

@@ -1,3 +1,4 @@
+pub mod Chains
 pub mod First
 pub mod JsonValues
 pub mod Parts

@@ -8,11 +8,10 @@ use Rattle.std.specs.List.{list_all, slice_split}
 use Rattle.json.specs.Print.{quoted}
 use Rattle.serde_json.specs.Written.{has_float, members_have_float, compact_text, members_text}
 use Rattle.oidc_members.specs.Seen.{OutSeen}
-use Rattle.oidc_members.specs.Written.{data_of, object_text, any_float}
+use Rattle.oidc_members.specs.Write.{data_of, object_text, any_float}
 use Rattle.oidc_members.specs.Places.{places, level, is_at_level_one}
 use Rattle.oidc_members.specs.Objects.{Halves, is_space, between, halves, pieces, is_braced}
-use Rattle.oidc_members.proofs.Cutting.{split_cut, split_uncut, all_places, all_fails, halves_cut}
-use Rattle.oidc_members.proofs.Braces.{braced, pieces_cut}
+use Rattle.oidc_members.proofs.Theorems.{split_cut, split_uncut, all_places, all_fails, halves_cut, braced, pieces_cut}
 use Rattle.oidc_readers.proofs.Scans.{State, At, Passed, First, outside_at, at_start, at_step, level_at, mark_at, first_of, passes}
 use Rattle.oidc_readers.proofs.Values.{quoted_runs, value_runs}
 

@@ -25,7 +25,7 @@ use Rattle.serde_json.specs.Written.{number_text, outline, items_outline, member
 use Rattle.serde_json.proofs.Numbers.{number_of-decimal, number_of-negative}
 use Rattle.serde_json.proofs.Texts.{print-outline}
 use Rattle.oidc_members.specs.Objects.{read_bytes}
-use Rattle.oidc_members.proofs.Reading.{value_read}
+use Rattle.oidc_members.proofs.Theorems.{value_read}
 use Rattle.oidc_readers.specs.WrittenBack.{IsWholeNumber, names_of, AreInOrder}
 use Rattle.oidc_readers.proofs.JsonValues.{IsJsonValue, ItemsAreJson, MembersAreJson}
 

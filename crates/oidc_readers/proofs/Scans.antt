@@ -3,7 +3,7 @@ use Rattle.std.proofs.Common.{◌≡◌, ℕ, zero, suc, ◌+◌, ◌<◌, ◌�
 use Rattle.std.proofs.lemmas.Bool.{and_parts, cases_eq, false≢true, lt-ltb, ne_eqb, true≢false}
 use Rattle.std.proofs.lemmas.List.{get_or-drop, drop-drop, length-drop}
 use Rattle.oidc_members.specs.Places.{is_even, backslashes, is_unescaped_quote, is_outside, opened, closed, level, is_at_level_one}
-use Rattle.oidc_members.proofs.Steps.{outside_more, opened_more, closed_more, escapes_more, nothing_before}
+use Rattle.oidc_members.proofs.Theorems.{outside_more, opened_more, closed_more, escapes_more, nothing_before}
 
 -- whether the place is inside a string, whether an odd number of backslashes stands before it, and its level
 pub record State : Type 0 where

@@ -9,7 +9,7 @@ use Rattle.serde_json.specs.Data.{string, object}
 use Rattle.serde_json.specs.Written.{has_float, compact_text}
 use Rattle.oidc_members.specs.Places.{backslashes, is_unescaped_quote, is_outside, opened, closed}
 use Rattle.oidc_members.specs.Seen.{OutSeen}
-use Rattle.oidc_members.specs.Written.{data_of, object_text, any_float}
+use Rattle.oidc_members.specs.Write.{data_of, object_text, any_float}
 use Rattle.oidc_members.specs.Objects.{trimmed, is_braced, pieces, halves, read_bytes, member_of, all_some, loose_members_of, without_floats, members_of}
 use Rattle.oidc_readers.specs.WrittenBack.{MayBeWritten, as_read}
 use Rattle.oidc_readers.proofs.Values.{trimmed_value}

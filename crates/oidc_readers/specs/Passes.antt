@@ -41,3 +41,8 @@ PlacedAnswers meant (Err Memory) = Unit {0}
 abbrev pub placed_at : ℕ → ParseError → PlacedError
 placed_at place (ParseError.Refused refusal) = Refused place refusal
 placed_at place ParseError.Memory = Memory
+
+-- the error without its place
+abbrev pub unplaced : PlacedError → ParseError
+unplaced (Refused place refusal) = ParseError.Refused refusal
+unplaced Memory = ParseError.Memory

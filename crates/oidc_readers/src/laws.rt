@@ -8,7 +8,7 @@ ghost use Rattle.serde_json.specs.Read.{read};
 ghost use Rattle.serde_json.specs.Written.{compact_text};
 ghost use Rattle.oidc_members.specs.Objects.{members_of};
 ghost use Rattle.oidc_members.specs.Seen.{OutSeen};
-ghost use Rattle.oidc_members.specs.Written.{object_text};
+ghost use Rattle.oidc_members.specs.Write.{object_text};
 ghost use Rattle.oidc_readers.specs.WrittenBack.{MayBeWritten, MayStand, HasTexts, as_read};
 
 /// An object that was written is split into the members that were written, each with its name, its

@@ -15,10 +15,22 @@
 //! own, and no clause says when it comes.
 #![tactic(auto)]
 
+mod kinds;
 pub mod laws;
+mod moments;
 mod passes;
+mod records;
+mod slots;
+mod writing;
 
+pub use crate::kinds::{FieldValue, Present, TextOrTexts, Texts, refused};
+pub use crate::moments::{Moment, seconds_value, timestamp_of};
 pub use crate::passes::{MemberReader, PlacedError, read_members};
+pub use crate::records::{Both, read_fields};
+pub use crate::slots::Once;
+pub use crate::writing::{
+    put, put_optional_moment, put_optional_text, put_optional_whole, put_text,
+};
 
 #[cfg(test)]
 mod tests;

@@ -37,6 +37,21 @@ impl PlacedError {
     }
 }
 
+/// The error without its place.
+impl From<PlacedError> for ParseError {
+    ghost use Rattle.std.specs.Prelude.{◌≡◌};
+    ghost use Rattle.oidc_readers.specs.Passes.{unplaced};
+
+    ghost from_gives = { λ placed error. error ≡ unplaced placed };
+
+    fn from(placed: PlacedError) -> ParseError {
+        match placed {
+            PlacedError::Refused { place: _, refusal } => ParseError::Refused(refusal),
+            PlacedError::Memory => ParseError::Memory,
+        }
+    }
+}
+
 /// What is kept of members that are taken one by one.
 pub trait MemberReader: Drop {
     /// Why a member is refused, after those that stand before it.

@@ -1,6 +1,6 @@
 use Rattle.std.proofs.Common.{◌≡◌, ◌++◌, refl, ap, ◌∙◌}
 use Rattle.std.specs.String.{string_bytes}
-use Rattle.oidc_members.specs.Written.{any_float, object_text}
+use Rattle.oidc_members.specs.Write.{any_float, object_text}
 use Rattle.oidc_login.specs.WrittenClaims.{written}
 use Rattle.oidc_cli.proofs.FormTexts.{signed_text}
 use Rattle.oidc_cli.proofs.WrittenText.{no_float}

@@ -2,7 +2,7 @@ use Rattle.std.proofs.Common.{◌≡◌, ℕ, ◌-◌, true, ◌&&◌, ltb, get_
 use Rattle.std.specs.List.{list_all}
 use Rattle.oidc_members.specs.Places.{places, level}
 use Rattle.oidc_members.specs.Objects.{halves, is_space}
-use Rattle.oidc_members.specs.Cutting.{items_seen}
+use Rattle.oidc_members.specs.Cut.{items_seen}
 use Rattle.oidc_members.proofs.Cutting.{all_more}
 use Rattle.oidc_members.proofs.Braces.{braced_brace, braced_end, braced_short, braced_level, braced, pieces_blank, pieces_cut}
 use Rattle.oidc_members.proofs.cut.items_of.Goals as goal

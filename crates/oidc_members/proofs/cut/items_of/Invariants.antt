@@ -2,8 +2,8 @@ use Rattle.std.proofs.Common.{◌≡◌, ◌-◌, true, get_or, length, ltb}
 use Rattle.std.specs.List.{list_all}
 use Rattle.oidc_members.specs.Places.{places, level}
 use Rattle.oidc_members.specs.Objects.{is_space}
-use Rattle.oidc_members.specs.Scanning.{IsAt}
-use Rattle.oidc_members.specs.Cutting.{IsCutUpTo}
+use Rattle.oidc_members.specs.Scan.{IsAt}
+use Rattle.oidc_members.specs.Cut.{IsCutUpTo}
 use Rattle.oidc_members.proofs.cut.items_of.Given as goal
 
 abbrev pub invariant-loop-i : goal.invariant-loop-i

@@ -1,6 +1,6 @@
 use Rattle.std.proofs.Common.{◌≡◌, ◌++◌, drop, false}
 use Rattle.serde_json.specs.Written.{members_text}
-use Rattle.oidc_members.specs.Written.{data_of, any_float, object_text}
+use Rattle.oidc_members.specs.Write.{data_of, any_float, object_text}
 use Rattle.oidc_members.proofs.write.write_object.Given as goal
 
 abbrev pub invariant-loop-member : goal.invariant-loop-member

@@ -2,7 +2,7 @@ use Rattle.std.proofs.Common.{◌-◌, ◌++◌, ◌∷◌, [], length, map, sym
 use Rattle.std.proofs.lemmas.List.{map-append}
 use Rattle.oidc_members.specs.Places.{comma, is_at_level_one}
 use Rattle.oidc_members.specs.Objects.{halves}
-use Rattle.oidc_members.specs.Cutting.{item_seen, items_seen}
+use Rattle.oidc_members.specs.Cut.{item_seen, items_seen}
 use Rattle.oidc_members.proofs.Cutting.{split_uncut}
 use Rattle.oidc_members.proofs.cut.Cuts.finish.Goals as goal
 

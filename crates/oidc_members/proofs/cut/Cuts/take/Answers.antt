@@ -2,7 +2,7 @@ use Rattle.std.proofs.Common.{◌≡◌, ◌+◌, ◌-◌, ◌++◌, ◌∷◌, 
 use Rattle.std.specs.List.{slice_split}
 use Rattle.oidc_members.specs.Places.{places, comma, is_at_level_one}
 use Rattle.oidc_members.specs.Objects.{halves}
-use Rattle.oidc_members.specs.Cutting.{item_seen, items_seen}
+use Rattle.oidc_members.specs.Cut.{item_seen, items_seen}
 use Rattle.oidc_members.proofs.Cutting.{split_cut, one_done}
 use Rattle.oidc_members.proofs.cut.Cuts.take.Goals as goal
 

@@ -1,0 +1,125 @@
+// The members of an object.
+ghost use Rattle.std.specs.Prelude.{◌≡◌, ◌==◌, Some, None, IsSome, IfOk, length, option_and_then, option_map, slice_get};
+ghost use Rattle.std.specs.List.{list_any};
+ghost use Rattle.serde_json.specs.Written.{has_float as value_has_float};
+ghost use Rattle.oidc_members.specs.Answers.{Answers, OnRefused};
+ghost use Rattle.oidc_members.specs.Cut.{items_seen};
+ghost use Rattle.oidc_members.specs.Objects.{member_of, all_some, loose_members_of, members_of, split_of};
+ghost use Rattle.oidc_members.specs.declared.refusal.ParseKind.TheVariants.{Syntax, Number};
+
+use crate::cut::{Item, items_of};
+use crate::float::has_float;
+use crate::member::Member;
+use crate::refusal::{ParseError, ParseKind, Refusal};
+use crate::space::trim;
+use std::alloc::{AllocError, Global};
+use std::marker::Model;
+
+/// The members of an object, in order and with duplicates kept. A contract sees it as their list.
+#[derive(Drop)]
+pub struct Members {
+    members: Vec<Member>,
+}
+
+impl Model for Members {
+    ghost use Rattle.std.specs.Prelude.{List};
+    ghost use Rattle.std.specs.Coded.{coded_list};
+    ghost use Rattle.oidc_members.specs.Seen.{SeenMember};
+    ghost use Rattle.oidc_members.specs.Codes.{seen_member_code};
+
+    ghost Value = { List SeenMember };
+
+    ghost coded = { coded_list seen_member_code };
+
+    ghost view = { λ object. object.members.items };
+}
+
+// The members that the items are, if each of them is one.
+fn members_in(alloc: Global, items: &[Option<Item<'_>>]) -> Result<Option<Vec<Member>>, AllocError>
+    ensures { IfOk result (λ found. option_map (λ members. members.items) found
+        ≡ all_some (option_and_then member_of) (items_seen items.now)) }
+{
+    let mut members = Vec::new(alloc);
+    for item in items {
+        let Some(item) = item else {
+            return Ok(None);
+        };
+        let Some(member) = Member::of_item(alloc, item)? else {
+            return Ok(None);
+        };
+        members.push(member)?;
+    }
+    Ok(Some(members))
+}
+
+// The members of the object that the text is, where a value may hold floats.
+#[tactic(auto, unfolding(crate::specs::Objects::loose_members_of))]
+fn loose_members(alloc: Global, text: &[u8]) -> Result<Option<Vec<Member>>, AllocError>
+    ensures { IfOk result (λ found. option_map (λ members. members.items) found
+        ≡ loose_members_of text.now) }
+{
+    match items_of(alloc, trim(text))? {
+        Some(items) => members_in(alloc, &items),
+        None => Ok(None),
+    }
+}
+
+fn holds_float(members: &[Member]) -> bool
+    ensures { result ≡ list_any (λ member. value_has_float member.value) members.now }
+{
+    members.iter().any(|member| has_float(member.value()))
+}
+
+impl Members {
+    /// The members of the object that the text is, white space around it left aside.
+    ///
+    /// It refuses `Number` exactly where floats alone stand against the text, and `Syntax` exactly
+    /// where it is no such object for another reason; the field is empty. A value may nest 127
+    /// deep, and a float is a number that is no whole one from -2^63 to 2^64 - 1.
+    #[tactic(auto, unfolding(crate::specs::Objects::members_of, crate::specs::Objects::split_of))]
+    pub fn split(alloc: Global, text: &[u8]) -> Result<Members, ParseError>
+        ensures members { IfOk result (λ members. members_of text.now ≡ Some members) }
+        ensures number { OnRefused Number result (IsSome (loose_members_of text.now)
+            × (members_of text.now ≡ None)) }
+        ensures syntax { OnRefused Syntax result (loose_members_of text.now ≡ None) }
+
+        // The same as one equation, for readers that go on from here.
+        ensures answer { Answers (split_of text.now) result }
+    {
+        let Some(members) = loose_members(alloc, text)? else {
+            return Err(Refusal::of_text(alloc, ParseKind::Syntax).into());
+        };
+        if holds_float(&members) {
+            return Err(Refusal::of_text(alloc, ParseKind::Number).into());
+        }
+        Ok(Members { members })
+    }
+
+    /// How many members there are, duplicates counted.
+    pub fn len(&self) -> usize
+        ensures { result ≡ length self.now }
+    {
+        self.members.len()
+    }
+
+    /// Whether there are none.
+    pub fn is_empty(&self) -> bool
+        ensures { result ≡ (length self.now == 0) }
+    {
+        self.members.is_empty()
+    }
+
+    /// The member at a place, counted from 0.
+    pub fn get(&self, place: usize) -> Option<&Member>
+        ensures { option_map (λ member. member.now) result ≡ slice_get self.now place }
+    {
+        self.members.get(place)
+    }
+
+    /// The members in order.
+    pub fn as_slice(&self) -> &[Member]
+        ensures { result.now ≡ self.now }
+    {
+        self.members.as_slice()
+    }
+}

@@ -1,7 +1,0 @@
-use Rattle.std.proofs.Common.{arith}
-use Rattle.std.proofs.lemmas.Grind.{common_steps}
-use Rattle.oidc_pairs.proofs.Decoded.{decoded-raw_pairs}
-use Rattle.oidc_pairs.proofs.reading.Pairs.parse.Goals as goal
-
-pub loop-pair-init : goal.loop-pair-init
-loop-pair-init c = grind (arith, common_steps, decoded-raw_pairs)

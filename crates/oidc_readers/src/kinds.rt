@@ -1,0 +1,257 @@
+//! Kinds of values, each read from its member.
+
+ghost use Rattle.std.specs.Prelude.{◌≡◌, ◌∷◌, [], Result, Ok, Err, IfOk, IfErr, option_map};
+ghost use Rattle.serde_json.specs.View.{items_view};
+ghost use Rattle.oidc_readers.specs.Answers.{Answers, Refuses};
+ghost use Rattle.std.specs.String.{string_bytes};
+ghost use Rattle.oidc_readers.specs.Seen.{SeenMember};
+ghost use Rattle.oidc_members.specs.declared.refusal.Refusal.{Refusal};
+ghost use Rattle.oidc_readers.specs.Kinds as kinds;
+
+use crate::moments::Moment;
+use oidc_members::{FieldName, Member, ParseError, ParseKind, Refusal};
+use oidc_types::{Marker, Secret, Text, UrlText, UrlTextError};
+use serde_json::Value;
+use std::alloc::{AllocError, Global};
+use std::marker::Model;
+
+/// The error that refuses a field, or `Memory` where there is none for its name.
+pub fn refused(alloc: Global, kind: ParseKind, field: &str) -> ParseError
+    ensures refusal { Refuses (record { kind = kind; field = field.now }) result }
+{
+    match Refusal::of_field(alloc, kind, field) {
+        Ok(refusal) => ParseError::Refused(refusal),
+        Err(_) => ParseError::Memory,
+    }
+}
+
+/// A kind of values: what a member of it reads as.
+pub trait FieldValue: Drop {
+    /// What a member reads as, or why it is refused.
+    ghost read_of: { SeenMember → Result Self Refusal };
+
+    /// The value of the member, where it is of this kind.
+    fn read(alloc: Global, member: &Member) -> Result<Self, ParseError>
+        ensures { Answers (read_of member.now) result };
+}
+
+// The text that a member is.
+fn text_of(alloc: Global, member: &Member) -> Result<String, ParseError>
+    ensures text { IfOk result (λ text. kinds.text_kind member.now ≡ Ok (string_bytes text)) }
+    ensures refused { IfErr result (λ error. Answers (kinds.text_kind member.now) (Err error)) }
+{
+    match member.value().as_str() {
+        None => Err(refused(alloc, ParseKind::WrongType, member.name())),
+        Some(text) => Ok(String::from_str(alloc, text)?),
+    }
+}
+
+/// A text.
+impl<M: Marker> FieldValue for Text<M> {
+    ghost read_of = { kinds.text_kind };
+
+    fn read(alloc: Global, member: &Member) -> Result<Text<M>, ParseError> {
+        Ok(Text::new(text_of(alloc, member)?))
+    }
+}
+
+/// A text that isn't shown.
+impl<M: Marker> FieldValue for Secret<M> {
+    ghost read_of = { kinds.text_kind };
+
+    fn read(alloc: Global, member: &Member) -> Result<Secret<M>, ParseError> {
+        Ok(Secret::new(text_of(alloc, member)?))
+    }
+}
+
+/// A plain text.
+impl FieldValue for FieldName {
+    ghost read_of = { kinds.text_kind };
+
+    fn read(alloc: Global, member: &Member) -> Result<FieldName, ParseError> {
+        Ok(FieldName::new(text_of(alloc, member)?))
+    }
+}
+
+/// True or false.
+impl FieldValue for bool {
+    ghost read_of = { kinds.flag_kind };
+
+    fn read(alloc: Global, member: &Member) -> Result<bool, ParseError> {
+        match member.value().as_bool() {
+            None => Err(refused(alloc, ParseKind::WrongType, member.name())),
+            Some(flag) => Ok(flag),
+        }
+    }
+}
+
+/// A whole number from 0 to 2^64 - 1.
+impl FieldValue for u64 {
+    ghost read_of = { kinds.whole_kind };
+
+    fn read(alloc: Global, member: &Member) -> Result<u64, ParseError> {
+        match member.value().as_u64() {
+            None => Err(refused(alloc, ParseKind::WrongType, member.name())),
+            Some(number) => Ok(number),
+        }
+    }
+}
+
+/// A text that the URL Standard takes.
+impl<M: Marker> FieldValue for UrlText<M> {
+    ghost read_of = { kinds.url_kind };
+
+    fn read(alloc: Global, member: &Member) -> Result<UrlText<M>, ParseError> {
+        let text = text_of(alloc, member)?;
+        match UrlText::new(alloc, text) {
+            Ok(url) => Ok(url),
+            Err(UrlTextError::Refused(_)) => Err(refused(alloc, ParseKind::Url, member.name())),
+            Err(UrlTextError::Memory) => Err(ParseError::Memory),
+        }
+    }
+}
+
+/// A moment: a whole number of seconds in range.
+impl FieldValue for Moment {
+    ghost read_of = { kinds.moment_kind };
+
+    fn read(alloc: Global, member: &Member) -> Result<Moment, ParseError> {
+        match member.value().as_i64() {
+            Some(second) => match Moment::at(second) {
+                Some(moment) => Ok(moment),
+                None => Err(refused(alloc, ParseKind::Moment, member.name())),
+            },
+            // A whole number from 2^63 on is beyond every moment.
+            None if member.value().is_u64() => {
+                Err(refused(alloc, ParseKind::Moment, member.name()))
+            }
+            None => Err(refused(alloc, ParseKind::WrongType, member.name())),
+        }
+    }
+}
+
+// The texts that these values are, where each is one.
+fn texts_of<M: Marker>(alloc: Global, values: &[Value]) -> Result<Option<Vec<Text<M>>>, AllocError>
+    ensures { IfOk result (λ found. option_map (λ texts. texts.items) found
+        ≡ kinds.texts_in (items_view values.now)) }
+{
+    let mut texts = Vec::new(alloc);
+    for value in values {
+        let Some(text) = value.as_str() else {
+            return Ok(None);
+        };
+        texts.push(Text::new(String::from_str(alloc, text)?))?;
+    }
+    Ok(Some(texts))
+}
+
+/// An array of texts. Contracts see their list.
+#[derive(Drop)]
+pub struct Texts<M> {
+    texts: Vec<Text<M>>,
+}
+
+impl<M> Model for Texts<M> {
+    ghost use Rattle.std.specs.Prelude.{List, ℕ};
+
+    ghost Value = { List (List ℕ) };
+
+    ghost view = { λ t. t.texts.items };
+}
+
+impl<M: Marker> Texts<M> {
+    /// The texts.
+    pub fn into_vec(self) -> Vec<Text<M>>
+        ensures texts { result.items ≡ self }
+    {
+        self.texts
+    }
+}
+
+impl<M: Marker> FieldValue for Texts<M> {
+    ghost read_of = { kinds.texts_kind };
+
+    fn read(alloc: Global, member: &Member) -> Result<Texts<M>, ParseError> {
+        if let Some(values) = member.value().as_array() {
+            if let Some(texts) = texts_of(alloc, values)? {
+                return Ok(Texts { texts });
+            }
+        }
+        Err(refused(alloc, ParseKind::WrongType, member.name()))
+    }
+}
+
+/// A text or an array of texts. Contracts see their list.
+#[derive(Drop)]
+pub struct TextOrTexts<M> {
+    texts: Vec<Text<M>>,
+}
+
+impl<M> Model for TextOrTexts<M> {
+    ghost use Rattle.std.specs.Prelude.{List, ℕ};
+
+    ghost Value = { List (List ℕ) };
+
+    ghost view = { λ t. t.texts.items };
+}
+
+impl<M: Marker> TextOrTexts<M> {
+    /// No text.
+    pub fn none(alloc: Global) -> Self
+        ensures none { result ≡ [] }
+    {
+        TextOrTexts {
+            texts: Vec::new(alloc),
+        }
+    }
+
+    /// The texts.
+    pub fn into_vec(self) -> Vec<Text<M>>
+        ensures texts { result.items ≡ self }
+    {
+        self.texts
+    }
+}
+
+impl<M: Marker> FieldValue for TextOrTexts<M> {
+    ghost read_of = { kinds.text_or_texts_kind };
+
+    fn read(alloc: Global, member: &Member) -> Result<TextOrTexts<M>, ParseError> {
+        match member.value() {
+            Value::String(text) => {
+                let mut texts = Vec::new(alloc);
+                texts.push(Text::new(String::from_str(alloc, text.as_str())?))?;
+                Ok(TextOrTexts { texts })
+            }
+            Value::Array(values) => match texts_of(alloc, values)? {
+                Some(texts) => Ok(TextOrTexts { texts }),
+                None => Err(refused(alloc, ParseKind::WrongType, member.name())),
+            },
+            _ => Err(refused(alloc, ParseKind::WrongType, member.name())),
+        }
+    }
+}
+
+/// That a member stands there; its value may be any.
+#[derive(Clone, Copy, Drop)]
+pub struct Present;
+
+impl FieldValue for Present {
+    ghost read_of = { kinds.any_kind (record {}) };
+
+    fn read(_alloc: Global, _member: &Member) -> Result<Present, ParseError> {
+        Ok(Present)
+    }
+}
+
+/// A null is an absent value, and another value is of the kind `T`.
+impl<T: FieldValue> FieldValue for Option<T> {
+    ghost read_of = { kinds.or_null T.read_of };
+
+    fn read(alloc: Global, member: &Member) -> Result<Option<T>, ParseError> {
+        if member.value().is_null() {
+            return Ok(None);
+        }
+        Ok(Some(T::read(alloc, member)?))
+    }
+}

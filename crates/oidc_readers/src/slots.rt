@@ -1,0 +1,115 @@
+//! The slot of a field.
+
+ghost use Rattle.std.specs.Prelude.{◌≡◌, ◌∷◌, ◌++◌, List, [], unwrap_or};
+ghost use Rattle.std.specs.Option.{ok_or, option_flatten};
+ghost use Rattle.oidc_readers.specs.Answers.{Answers};
+ghost use Rattle.oidc_readers.specs.Seen.{SeenMember};
+ghost use Rattle.oidc_readers.specs.Passes.{Took};
+ghost use Rattle.oidc_readers.specs.Fields.{field, field_or, judged_among, judged};
+ghost use Rattle.oidc_readers.specs.Slots.{slot_among, slot};
+ghost use Rattle.oidc_readers.specs.Records.{missing};
+
+use crate::kinds::{FieldValue, refused};
+use oidc_members::{Member, ParseError, ParseKind};
+use std::alloc::Global;
+
+/// A field that may stand once: whether its member came, and its value.
+#[derive(Drop)]
+pub struct Once<T> {
+    seen: bool,
+    value: Option<T>,
+}
+
+impl<T: FieldValue> Once<T> {
+    /// The slot before any member came.
+    pub fn new() -> Self
+        ensures empty { result ≡ slot_among T.read_of [] }
+    {
+        Once {
+            seen: false,
+            value: None,
+        }
+    }
+
+    /// Takes the member where it has that name.
+    #[tactic(auto, unfolding(crate::specs::Fields::judged, crate::specs::Slots::slot))]
+    pub fn take(&mut self, alloc: Global, name: &str, member: &Member) -> Result<(), ParseError>
+        ensures { let f = field name.now T.read_of in
+            (before : List SeenMember) → self.old ≡ slot f before
+            → Took (judged f before member.now) result
+            (self.new ≡ slot f (before ++ member.now ∷ [])) }
+    {
+        if member.name() == name {
+            self.take_own(alloc, member)
+        } else {
+            Ok(())
+        }
+    }
+
+    /// Takes the member where it has one of these two names.
+    #[tactic(auto, unfolding(crate::specs::Fields::judged, crate::specs::Slots::slot))]
+    pub fn take_either(
+        &mut self,
+        alloc: Global,
+        name: &str,
+        alias: &str,
+        member: &Member,
+    ) -> Result<(), ParseError>
+        ensures { let f = field_or name.now alias.now T.read_of in
+            (before : List SeenMember) → self.old ≡ slot f before
+            → Took (judged f before member.now) result
+            (self.new ≡ slot f (before ++ member.now ∷ [])) }
+    {
+        if member.name() == name || member.name() == alias {
+            self.take_own(alloc, member)
+        } else {
+            Ok(())
+        }
+    }
+
+    /// Takes a member that is known to be the field's own, after those of the field that came.
+    pub fn take_own(&mut self, alloc: Global, member: &Member) -> Result<(), ParseError>
+        ensures { (came : List SeenMember) → self.old ≡ slot_among T.read_of came
+            → Took (judged_among T.read_of came member.now) result
+            (self.new ≡ slot_among T.read_of (came ++ member.now ∷ [])) }
+    {
+        if self.seen {
+            return Err(refused(alloc, ParseKind::Duplicate, member.name()));
+        }
+        self.seen = true;
+        self.value = Some(T::read(alloc, member)?);
+        Ok(())
+    }
+
+    /// The value, which has to be there; else the field of that name is missing.
+    pub fn required(self, alloc: Global, name: &str) -> Result<T, ParseError>
+        ensures value { Answers (ok_or self.value (missing name.now)) result }
+    {
+        match self.value {
+            Some(value) => Ok(value),
+            None => Err(refused(alloc, ParseKind::Missing, name)),
+        }
+    }
+
+    /// The value, or this one where the field is missing.
+    pub fn or(self, other: T) -> T
+        ensures value { result ≡ unwrap_or self.value other }
+    {
+        match self.value {
+            Some(value) => value,
+            None => other,
+        }
+    }
+}
+
+impl<T: FieldValue> Once<Option<T>> {
+    /// The value, where there is one and it is no null.
+    pub fn optional(self) -> Option<T>
+        ensures value { result ≡ option_flatten self.value }
+    {
+        match self.value {
+            Some(value) => value,
+            None => None,
+        }
+    }
+}
