@@ -36,7 +36,11 @@ request_of line = record { state = line.state; nonce = line.nonce }
 
 -- the answer of a callback line
 abbrev pub answer_of : SeenCallbackLine → SeenAnswer
-answer_of line = Some (record { status = line.status; content_type = Some line.content_type; body = line.body })
+answer_of line = Some (record {
+  status = line.status;
+  content_type = Some line.content_type;
+  body = line.body;
+})
 
 abbrev pub reply_of_begin : SeenClient → Pending → SeenBeginLine → Result Parts BeginError
 reply_of_begin client pending line = begin_reply client pending (request_of line) line.verifier
@@ -70,11 +74,13 @@ steps_lines client pending (event ∷ later) =
 -- the store after them
 abbrev pub store_after_steps : SeenClient → Pending → List (Option Event) → Pending
 store_after_steps client pending [] = pending
-store_after_steps client pending (event ∷ later) = store_after_steps client (store_after client pending event) later
+store_after_steps client pending (event ∷ later) =
+    store_after_steps client (store_after client pending event) later
 
 -- the lines of a script's events, of which the first is the client, and the store after them
 abbrev pub events_lines : List (Option Event) → List ℕ
-events_lines (Some (Client line) ∷ steps) = codes "client ok\n" ++ steps_lines (client_of line) finite.empty steps
+events_lines (Some (Client line) ∷ steps) =
+    codes "client ok\n" ++ steps_lines (client_of line) finite.empty steps
 events_lines others = []
 
 abbrev pub store_after_events : List (Option Event) → Pending
@@ -99,7 +105,8 @@ last_line (Some fault) pending = fault_line fault
 -- that are left pending where there is none
 unfoldable pub report : List ℕ → List ℕ
 report script =
-    events_lines (events_before_fault script) ++ last_line (fault_of script) (store_after_events (events_before_fault script))
+    let events = events_before_fault script in
+    events_lines events ++ last_line (fault_of script) (store_after_events events)
 
 -- the rest of a report, from the begin or callback line with number n on
 abbrev pub rest_of_report : SeenClient → Pending → ℕ → List (List ℕ) → Option ℕ → List ℕ

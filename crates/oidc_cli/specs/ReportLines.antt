@@ -65,7 +65,9 @@ request_lines (request ∷ later) = request_line request ++ request_lines later
 
 abbrev pub signed_list : SeenSignedIn → List (List ℕ × List ℕ)
 signed_list signed =
-    (codes "access_token", signed.access_token) ∷ (codes "claims", object_text (written signed.id_token.claims)) ∷ []
+    (codes "access_token", signed.access_token)
+    ∷ (codes "claims", object_text (written signed.id_token.claims))
+    ∷ []
 
 -- No key's verdict on a signature is want of memory: that is a law of keys. So `Memory` never stands in a
 -- verdict, and has no word here.

@@ -39,7 +39,14 @@ client_values line = do
   auth ← pair_value url_of_text line (codes "auth")
   token ← pair_value url_of_text line (codes "token")
   algorithms ← pair_value algorithms_of line (codes "algs")
-  Some (record { id = id; secret = secret; issuer = issuer; auth = auth; token = token; algorithms = algorithms })
+  Some (record {
+    id = id;
+    secret = secret;
+    issuer = issuer;
+    auth = auth;
+    token = token;
+    algorithms = algorithms;
+  })
 
 abbrev pub begin_values : List (List ℕ × List ℕ) → Option SeenBeginLine
 begin_values line = do

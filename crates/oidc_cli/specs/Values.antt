@@ -52,13 +52,15 @@ algorithms_of (b ∷ text) = all_algorithms (slice_split (λ c. c == 32) (b ∷ 
 
 -- the number that one decimal digit or more write
 abbrev pub decimal_of : List ℕ → Option ℕ
-decimal_of text = if nat_lt 0 (length text) && all_ascii_digits text then Some (digits_value 10 text) else None
+decimal_of text =
+    if nat_lt 0 (length text) && all_ascii_digits text then Some (digits_value 10 text) else None
 
 -- the whole number that digits write, below zero behind a `-`
 abbrev pub whole_of : List ℕ → Option ℤ
 whole_of [] = None
 whole_of (b ∷ text) =
-    if b == 45 then option_map (λ n. neg_ℤ (pos n)) (decimal_of text) else option_map pos (decimal_of (b ∷ text))
+    if b == 45 then option_map (λ n. neg_ℤ (pos n)) (decimal_of text)
+    else option_map pos (decimal_of (b ∷ text))
 
 -- a moment at whole seconds since the Unix epoch, as nanoseconds
 unfoldable pub moment_of_text : List ℕ → Option ℤ
@@ -69,7 +71,8 @@ moment_of_text text = option_and_then moment_at (whole_of text)
 -- a status code: three digits that write a number from 100 on
 unfoldable pub status_code_of : List ℕ → Option ℕ
 status_code_of text =
-    option_and_then (λ n. if nat_le 100 n then Some n else None) (if length text == 3 then decimal_of text else None)
+    option_and_then (λ n. if nat_le 100 n then Some n else None)
+    (if length text == 3 then decimal_of text else None)
 
 -- a content type: tabs, spaces and visible ASCII
 unfoldable pub content_type_of : List ℕ → Option (List ℕ)

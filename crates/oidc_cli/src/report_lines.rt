@@ -199,7 +199,8 @@ pub fn fault_line(alloc: Global, number: usize) -> Result<String, AllocError>
 
 /// The line that ends a report whose script has no fault.
 pub fn pending_line(alloc: Global, count: usize) -> Result<String, AllocError>
-    ensures { IfOk result (λ text. string_bytes text ≡ codes "pending " ++ decimal count ++ 10 ∷ []) }
+    ensures { IfOk result
+        (λ text. string_bytes text ≡ codes "pending " ++ decimal count ++ 10 ∷ []) }
 {
     format!(in alloc; "pending {count}\n")
 }

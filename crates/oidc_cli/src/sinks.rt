@@ -57,7 +57,8 @@ impl MemorySink {
         ensures failing { IfOk result (λ sink. sink.calls ≡ no_calls failing.items) }
 
         // Its bytes are known, and it has no fault yet.
-        ensures written { IfOk result (λ sink. ⟦<MemorySink as Sink>⟧.written sink ≡ Option.Some []) }
+        ensures written { IfOk result
+            (λ sink. ⟦<MemorySink as Sink>⟧.written sink ≡ Option.Some []) }
         ensures faults { IfOk result (λ sink. ⟦<MemorySink as Sink>⟧.faults sink ≡ 0) }
     {
         let held = Vec::with_capacity(alloc, room)?;
