@@ -14,7 +14,7 @@ use std::alloc::Global;
 /// written.
 pub const DONE: u8 = 0;
 
-/// The sink failed.
+/// The sink failed: its count of faults rose, or stands at its last value.
 pub const SINK_FAULT: u8 = 1;
 
 /// The words aren't the one word `replay`.
@@ -23,7 +23,7 @@ pub const WRONG_WORDS: u8 = 2;
 /// The script has a fault, and the report that ends in its line was written.
 pub const SCRIPT_FAULT: u8 = 3;
 
-/// The source failed.
+/// The source failed: its count of faults rose, or stands at its last value.
 pub const SOURCE_FAULT: u8 = 4;
 
 /// There was no memory.
