@@ -16,9 +16,9 @@ use Rattle.oidc_login.specs.declared.errors.BeginError.TheVariants as begin
 use Rattle.oidc_login.specs.declared.errors.LoginError.{LoginError}
 use Rattle.oidc_login.specs.declared.errors.LoginError.TheVariants as login
 use Rattle.oidc_login.specs.Transport.{SeenRequest}
-use Rattle.oidc_login.specs.Pending.{Pending}
-use Rattle.oidc_login.specs.SignedIns.{SeenSignedIn}
-use Rattle.oidc_login.specs.WrittenClaims.{written}
+use Rattle.oidc_login.specs.Logins.{Pending}
+use Rattle.oidc_login.specs.SignedIn.{SeenSignedIn}
+use Rattle.oidc_login.specs.Claims.{written}
 use Rattle.oidc_login.specs.Outcome.{Run}
 
 -- each line ends in a line feed
