@@ -17,7 +17,7 @@ pub mod Callbacks
 pub use Rattle.oidc_pairs.specs.Pairs
 pub use Rattle.oidc_pairs.specs.Form
 pub use Rattle.oidc_members.specs.Seen
-pub use Rattle.oidc_types.specs.UrlTexts
+pub use Rattle.oidc_types.specs.{TextAndUrl}
 pub use Rattle.oidc_readers.specs.Moments
 pub use Rattle.oidc_readers.specs.Writing
 -- what no public clause cites
