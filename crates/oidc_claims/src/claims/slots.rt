@@ -1,13 +1,14 @@
 // What is kept of one claim while the members are read.
 ghost use Rattle.std.specs.Prelude.{◌≡◌, ◌∷◌, ◌++◌, List, [], IfOk, OnOk};
 ghost use Rattle.std.specs.Option.{option_copied};
+ghost use Rattle.std.specs.Result.{result_err};
 ghost use Rattle.std.specs.FinMap as finite;
 ghost use Rattle.oidc_members.specs.Seen.{SeenMember};
 ghost use Rattle.oidc_readers.specs.Fields.{is_nil};
 ghost use Rattle.oidc_readers.specs.Kinds.{or_null};
 ghost use Rattle.oidc_readers.specs.Passes.{Took};
 ghost use Rattle.oidc_readers.specs.Slots.{slot_among};
-ghost use Rattle.oidc_claims.specs.Claims.{once_fault, localized_fault, unless_empty};
+ghost use Rattle.oidc_claims.specs.Claims.{once_fault, localized_fault, variants, unless_empty};
 ghost use Rattle.oidc_claims.specs.Slots.{languages_slot};
 
 use crate::name::tag_of_name;
@@ -89,32 +90,46 @@ impl<T: FieldValue> Languages<T> {
     }
 
     /// Takes a member of the claim, after those that came.
-    #[tactic(auto, using(crate::proofs::Tags::seen_any, crate::proofs::Tags::tags_push, crate::proofs::Tags::variants_push,))]
+    #[tactic(auto, using(crate::proofs::Tags::seen_any, crate::proofs::Tags::tags_push))]
     pub(crate) fn take(&mut self, alloc: Global, member: &Member) -> Result<(), ParseError>
         ensures { (before : List SeenMember) → self.old ≡ languages_slot T.read_of before
             → Took (localized_fault (or_null T.read_of) before member.now) result
             (self.new ≡ languages_slot T.read_of (before ++ member.now ∷ [])) }
     {
-        let tag = tag_of_name(member.name());
-        let seen = match owned_tag(alloc, tag) {
+        let tag = match owned_tag(alloc, tag_of_name(member.name())) {
             Err(_) => return Err(ParseError::Memory),
             Ok(owned) => owned,
         };
-        match came_before(&mut self.seen, seen) {
+        match came_before(&mut self.seen, tag) {
             Err(_) => return Err(ParseError::Memory),
             Ok(true) => return Err(refused(alloc, ParseKind::Duplicate, member.name())),
             Ok(false) => {}
         }
-        match <Option<T> as FieldValue>::read(alloc, member) {
-            Err(error) => Err(error),
-            Ok(None) => Ok(()),
-            Ok(Some(value)) => match owned_tag(alloc, tag) {
+        add_value(&mut self.values, alloc, member)?;
+        Ok(())
+    }
+}
+
+/// Adds the value of a member under its tag, where it is no null.
+#[tactic(auto, using(crate::proofs::Tags::variants_push))]
+fn add_value<T: FieldValue>(
+    values: &mut LocalizedClaim<T>,
+    alloc: Global,
+    member: &Member,
+) -> Result<(), ParseError>
+    ensures { (before : List SeenMember) → values.old ≡ variants T.read_of before
+        → Took (result_err (or_null T.read_of member.now)) result
+        (values.new ≡ variants T.read_of (before ++ member.now ∷ [])) }
+{
+    match <Option<T> as FieldValue>::read(alloc, member) {
+        Err(error) => Err(error),
+        Ok(None) => Ok(()),
+        Ok(Some(value)) => match owned_tag(alloc, tag_of_name(member.name())) {
+            Err(_) => Err(ParseError::Memory),
+            Ok(owned) => match values.insert(owned, value) {
                 Err(_) => Err(ParseError::Memory),
-                Ok(owned) => match self.values.insert(owned, value) {
-                    Err(_) => Err(ParseError::Memory),
-                    Ok(_) => Ok(()),
-                },
+                Ok(_) => Ok(()),
             },
-        }
+        },
     }
 }
