@@ -3,6 +3,7 @@ mod Homes
 mod Kept
 mod MayStand
 mod Moves
+mod Names
 mod NoFloat
 mod Parts
 mod ReadsBack

@@ -3,7 +3,6 @@ pub mod Table
 pub mod Seen
 pub mod Home
 -- What is read
-pub mod Kinds
 pub mod Address
 pub mod Claims
 pub mod Standard

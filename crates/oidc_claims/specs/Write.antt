@@ -1,15 +1,15 @@
 -- The members that the standard claims are written as (OpenID Connect Core 1.0 sections 5.1, 5.1.1 and 5.2).
-use Rattle.std.specs.Prelude.{◌≡◌, ◌≢◌, ℕ, ℤ, pos, List, [], ◌∷◌, ◌++◌, map, Option, None, Some, option_map, Result, Ok, codes}
+use Rattle.std.specs.Prelude.{◌≡◌, ◌≢◌, ℕ, ℤ, List, [], ◌∷◌, ◌++◌, map, Option, None, Some, option_map, Result, Ok, codes}
 use Rattle.std.specs.List.{All, flat_map}
 use Rattle.std.specs.FinMap as finite
-use Rattle.std.specs.Int.{int_div_euclid}
-use Rattle.serde_json.specs.Data.{Data, boolean, number, string, object, Members, put}
-use Rattle.serde_json.specs.Find.{of_integer}
+use Rattle.serde_json.specs.Data.{Data, boolean, string, object, Members, put}
 use Rattle.oidc_types.specs.{Variants}
 use Rattle.oidc_members.specs.Seen.{SeenMember, OutSeen}
 use Rattle.oidc_members.specs.Objects.{members_of}
 use Rattle.oidc_members.specs.Write.{data_of, object_text}
 use Rattle.oidc_members.specs.declared.refusal.Refusal.{Refusal}
+use Rattle.oidc_readers.specs.Moments.{moment_at, seconds_data}
+use Rattle.oidc_readers.specs.Writing.{text_member}
 use Rattle.oidc_readers.specs.WrittenBack.{IsUtf8Member}
 use Rattle.oidc_claims.specs.declared.claim.Claim.{Claim}
 use Rattle.oidc_claims.specs.declared.claim.Claim.TheVariants.{Subject, Name, GivenName, FamilyName, MiddleName, Nickname, PreferredUsername, Profile, Picture, Website, Email, EmailVerified, Gender, Birthday, Birthdate, Zoneinfo, Locale, PhoneNumber, PhoneNumberVerified, Address, UpdatedAt}
@@ -18,22 +18,10 @@ use Rattle.oidc_claims.specs.declared.claims.part.AddressPart.{AddressPart}
 use Rattle.oidc_claims.specs.declared.claims.part.AddressPart.TheVariants as part
 use Rattle.oidc_claims.specs.Seen.{SeenClaims}
 use Rattle.oidc_claims.specs.Address.{part_name}
-use Rattle.oidc_claims.specs.Kinds.{moment_at}
 use Rattle.oidc_claims.specs.Standard.{claims_of}
 use Rattle.oidc_claims.specs.Table.{name_of, all_claims}
 
 -- ---- values
-
--- nanoseconds as whole seconds, rounded down
-abbrev pub seconds_of : ℤ → ℤ
-seconds_of nanosecond = int_div_euclid nanosecond (pos 1_000_000_000)
-
-abbrev pub seconds_data : ℤ → Data
-seconds_data nanosecond = number (of_integer (seconds_of nanosecond))
-
-abbrev pub text_member : List ℕ → Option (List ℕ) → List OutSeen
-text_member name None = []
-text_member name (Some text) = record { name = name; value = string text } ∷ []
 
 abbrev pub part_members : AddressClaim → AddressPart → List OutSeen
 part_members a part.Formatted = text_member (part_name part.Formatted) a.formatted

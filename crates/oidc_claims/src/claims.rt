@@ -14,7 +14,7 @@ mod values;
 
 pub use crate::claims::address::AddressClaim;
 use crate::claims::copies::{copied_address, copied_gender, copied_localized, copied_text};
-pub use crate::claims::reader::read_standard;
+pub use crate::claims::reader::{ClaimsReader, read_standard};
 use crate::gender::GenderClaim;
 use jiff::Timestamp;
 use oidc_types::{

@@ -53,15 +53,16 @@ impl GenderClaim for CoreGenderClaim {
     ghost use Rattle.std.proofs.Common.{ap, lit≤};
     ghost use Rattle.serde_json.specs.Find.{as_str};
     ghost use Rattle.serde_json.specs.Data.{string};
-    ghost use Rattle.oidc_claims.specs.Kinds.{text_read, or_refused, of_member};
+    ghost use Rattle.std.specs.Option.{ok_or};
+    ghost use Rattle.oidc_readers.specs.Kinds.{text_kind, of_member};
     ghost use Rattle.oidc_members.specs.declared.refusal.ParseKind.TheVariants.{WrongType};
 
-    ghost read_of = { text_read };
+    ghost read_of = { text_kind };
 
     ghost write_of = { string };
 
     ghost reads_back = { λ _ member is. ap
-        (λ value. or_refused (as_str value) (of_member WrongType member)) is };
+        (λ value. ok_or (as_str value) (of_member WrongType member)) is };
 
     ghost written_is_value = { λ _. (λ e. Prim.cc, (tt, lit≤ tt)) };
 

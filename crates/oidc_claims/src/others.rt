@@ -1,10 +1,11 @@
 //! All additional claims, kept as they came.
 
-ghost use Rattle.std.specs.Prelude.{◌≡◌, map, Bool, IfOk};
+ghost use Rattle.std.specs.Prelude.{◌≡◌, [], ◌∷◌, ◌++◌, map, Bool, IfOk, OnOk};
 ghost use Rattle.std.specs.List.{All};
 ghost use Rattle.oidc_readers.specs.WrittenBack.{IsUtf8Member};
 ghost use Rattle.oidc_claims.specs.Additional.{are_written_additional, out_of};
 ghost use Rattle.oidc_claims.specs.Others.{list_of};
+ghost use Rattle.oidc_claims.specs.Write.{KeepsUtf8};
 
 use crate::additional::AdditionalClaims;
 use crate::same::is_same_list;
@@ -55,14 +56,26 @@ fn outs_of(alloc: Global, members: &[Member]) -> Result<Vec<OutMember>, AllocErr
     Ok(outs)
 }
 
+// Appends a copy of a member.
+fn push_copy(
+    alloc: Global,
+    copies: &mut Vec<OutMember>,
+    member: &OutMember,
+) -> Result<(), AllocError>
+    ensures members { OnOk result (copies.new.items ≡ copies.old.items ++ member.now ∷ []) }
+    ensures texts { OnOk result (KeepsUtf8 copies.old.items copies.new.items) }
+{
+    let name = String::from_str(alloc, member.name.as_str())?;
+    push_member(copies, name, member.value.clone()?)
+}
+
 fn copies_of(alloc: Global, members: &[OutMember]) -> Result<Vec<OutMember>, AllocError>
     ensures copies { IfOk result (λ copies. copies.items ≡ members.now) }
     ensures texts { IfOk result (λ copies. All IsUtf8Member copies.items) }
 {
     let mut copies = Vec::new(alloc);
     for member in members {
-        let name = String::from_str(alloc, member.name.as_str())?;
-        push_member(&mut copies, name, member.value.clone()?)?;
+        push_copy(alloc, &mut copies, member)?;
     }
     Ok(copies)
 }

@@ -12,7 +12,8 @@ ghost use Rattle.oidc_readers.specs.WrittenBack.{IsUtf8Member};
 ghost use Rattle.oidc_claims.specs.Table.{name_of};
 ghost use Rattle.oidc_claims.specs.Write.{written, claim_members, plain_member};
 ghost use Rattle.oidc_claims.specs.Write.{variant_member, variant_members, with_tag};
-ghost use Rattle.oidc_claims.specs.Write.{address_data, seconds_data, put_part};
+ghost use Rattle.oidc_claims.specs.Write.{address_data, put_part};
+ghost use Rattle.oidc_readers.specs.Moments.{seconds_data};
 ghost use Rattle.oidc_claims.specs.Write.{IsInRange, GivesClaims, KeepsUtf8};
 
 use crate::claim::Claim;
@@ -20,6 +21,7 @@ use crate::claims::{AddressClaim, StandardClaims};
 use crate::gender::GenderClaim;
 use jiff::Timestamp;
 use oidc_members::{FieldName, OutMember};
+use oidc_readers::seconds_value;
 use oidc_types::{LanguageTag, LocalizedClaim, Marker, Text};
 use serde_json::{Map, Value};
 use std::alloc::{AllocError, Global};
@@ -260,13 +262,6 @@ fn text_value(alloc: Global, text: &str) -> Result<Value, AllocError>
     ensures { IfOk result (λ value. view value ≡ string text.now) }
 {
     Ok(Value::String(String::from_str(alloc, text)?))
-}
-
-// `as_second` rounds toward zero, so a moment before 1970 would be a second late.
-fn seconds_value(moment: Timestamp) -> Value
-    ensures { view result ≡ seconds_data moment.nanosecond }
-{
-    Value::from(moment.as_nanosecond().div_euclid(1_000_000_000) as i64)
 }
 
 fn address_value(alloc: Global, address: &AddressClaim) -> Result<Value, AllocError>

@@ -56,7 +56,8 @@ url_kind m = url_read m (as_str m.value)
 -- each of them a text
 abbrev pub texts_in : Items → Option (List (List ℕ))
 texts_in no_items = Some []
-texts_in (item value rest) = option_and_then (λ text. option_map (λ texts. text ∷ texts) (texts_in rest)) (as_str value)
+texts_in (item value rest) =
+    option_and_then (λ text. option_map (λ texts. text ∷ texts) (texts_in rest)) (as_str value)
 
 -- an array of texts
 abbrev pub texts_kind : Kind (List (List ℕ))
@@ -68,7 +69,7 @@ one_or_more (boolean b) = None
 one_or_more (number n) = None
 one_or_more (string text) = Some (text ∷ [])
 one_or_more (array items) = texts_in items
-one_or_more (object members) = None
+one_or_more (object entries) = None
 
 -- a text, or an array of texts
 abbrev pub text_or_texts_kind : Kind (List (List ℕ))

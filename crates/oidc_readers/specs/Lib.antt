@@ -1,5 +1,5 @@
--- In reading order: the pass over a list, the kinds of values, a field, a record, what a slot holds,
--- what is written. Lower words that these definitions cite follow.
+-- In reading order: the pass over a list, the kinds of values, a field, a record, what a slot
+-- holds, what is written. Lower words that these definitions cite follow.
 pub mod Passes
 pub mod Moments
 pub mod Kinds

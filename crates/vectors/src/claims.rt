@@ -82,8 +82,11 @@ fn is_additional_name(name: &str) -> bool
     matches!(belongs(name, &USER_INFO_FIELDS), Home::Additional)
 }
 
-// The additional ones of these members.
-fn additional_members(alloc: Global, members: &[Member]) -> Result<Vec<Member>, AllocError>
+/// The additional ones of these members.
+pub(crate) fn additional_members(
+    alloc: Global,
+    members: &[Member],
+) -> Result<Vec<Member>, AllocError>
     ensures { IfOk result (λ members. IsTrue (are_additional members.items)) }
 {
     let mut additional = Vec::new(alloc);

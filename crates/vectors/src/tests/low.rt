@@ -3,8 +3,9 @@
 
 mod keys;
 
-use oidc_members::{Members, ParseError, ParseKind, Refusal};
+use oidc_members::{FieldName, Members, OutMember, ParseError, ParseKind, Refusal, write_object};
 use oidc_pairs::{Pairs, escaped_text};
+use serde_json::Value;
 use std::alloc::Global;
 use std::test::Fail;
 
@@ -119,6 +120,36 @@ fn a_copy_equals_its_source(rt: HostRuntime) -> Result<(), Fail> {
     )?;
     let want = "a\n|{\"b\" : [null, -1]}|{\"b\":[null,-1]};c|true|true;.";
     assert_eq!(rt; list.as_str(), want);
+    Ok(())
+}
+
+// The text of members with these names, and with the values that these texts read as.
+fn written(alloc: Global, members: &[(&str, &str)]) -> Result<Vec<u8>, Fail> {
+    let mut list = Vec::new(alloc);
+    for (name, value) in members {
+        let name = FieldName::new(String::from_str(alloc, name)?);
+        match Value::from_str(alloc, value) {
+            Ok(value) => list.push(OutMember { name, value })?,
+            Err(_) => return Err(Fail::from("a value")),
+        }
+    }
+    Ok(write_object(alloc, &list)?)
+}
+
+// No members, a name that stands twice, and floats, of whose digits no clause speaks: as Python's
+// `json.dumps` with `separators=(',', ':')` writes them.
+#[test]
+fn members_are_written_in_order(rt: HostRuntime) -> Result<(), Fail> {
+    for (members, want) in [
+        ([].as_slice(), "{}"),
+        (&[("a", "2"), ("a", " 1 ")], "{\"a\":2,\"a\":1}"),
+        (
+            &[("a", "1.5"), ("b", "[-0.25]")],
+            "{\"a\":1.5,\"b\":[-0.25]}",
+        ),
+    ] {
+        assert_eq!(rt; written(rt.alloc(), members)?.as_slice(), want.as_bytes());
+    }
     Ok(())
 }
 

@@ -13,7 +13,7 @@ use Rattle.oidc_claims.proofs.write.write_standard.Goals as goal
 pub loop-claim-preserved : goal.loop-claim-preserved
 loop-claim-preserved g c = (
   c.in_ok-write_claim.ensures.members ∙ ap (λ l. l ++ claim_members g.GC.GenderClaim.write_of c.args.claims.now (get_or all_claims c.loop-claim.claim-index Subject)) c.loop-claim.invariant.0
-  ∙ sym (flat_more (claim_members g.GC.GenderClaim.write_of c.args.claims.now) all_claims c.loop-claim.claim-index Subject c.loop-claim-test.true),
+      ∙ sym (flat_more (claim_members g.GC.GenderClaim.write_of c.args.claims.now) all_claims c.loop-claim.claim-index Subject c.loop-claim-test.true),
   c.in_ok-write_claim.ensures.texts c.loop-claim.invariant.1,
 )
 
