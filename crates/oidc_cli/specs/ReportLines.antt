@@ -6,7 +6,7 @@ use Rattle.http_header.specs.HeaderMap.{get}
 use Rattle.http_header.specs.FieldValue.{FieldValue}
 use Rattle.form_urlencoded.specs.Form.{ampersand, serialize_pair}
 use Rattle.oidc_pairs.specs.Form.{form}
-use Rattle.oidc_members.specs.Written.{object_text}
+use Rattle.oidc_members.specs.Write.{object_text}
 use Rattle.oidc_keys.specs.declared.refusals.SignatureVerificationError.{SignatureVerificationError}
 use Rattle.oidc_keys.specs.declared.refusals.SignatureVerificationError.TheVariants as signature
 use Rattle.oidc_login.specs.declared.tokens.verification.ClaimsVerificationError.{ClaimsVerificationError}
