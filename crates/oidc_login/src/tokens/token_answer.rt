@@ -22,7 +22,13 @@ use std::marker::Model;
 pub(crate) struct IdTokenTextMarker;
 
 impl Marker for IdTokenTextMarker {
-    const NAME: &'static str = "IdTokenText";
+    ghost use Rattle.std.specs.Prelude.{codes};
+
+    ghost name = { codes "IdTokenText" };
+
+    fn name() -> &'static str {
+        "IdTokenText"
+    }
 }
 
 // The text of an ID token that isn't read yet.
