@@ -11,6 +11,8 @@ pub mod Home
 pub mod Address
 pub mod Claims
 pub mod Standard
+pub mod Slots
+pub mod Reader
 pub mod Gender
 pub mod Additional
 pub mod Others
@@ -20,6 +22,4 @@ pub mod Write
 pub mod SameClaims
 pub mod Same
 -- For private clauses
-pub mod Reader
-pub mod Slots
 pub mod SeenCode

@@ -1,5 +1,5 @@
 use Rattle.std.proofs.Common.{ap}
-use Rattle.oidc_readers.proofs.Chains.{kept_by}
+use Rattle.oidc_readers.proofs.Theorems.{kept_by}
 use Rattle.oidc_login.proofs.tokens.header.HeaderFieldsMemberReader.take.Goals as goal
 
 pub returns : goal.returns

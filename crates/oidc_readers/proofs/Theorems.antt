@@ -1,4 +1,6 @@
--- Slots that look at a member one after another.
+-- Lemmas that other crates may cite: slots that look at a member one after another, and members that
+-- are split back.
+pub use Rattle.oidc_readers.proofs.WrittenBack.{written_split_back}
 use Rattle.std.proofs.Common.{◌≡◌, ℕ, List, [], ◌∷◌, ◌++◌, Option, Result, Ok, Err, sym, ap, subst, ◌∙◌}
 use Rattle.std.specs.Option.{option_or}
 use Rattle.std.specs.Result.{result_and}
