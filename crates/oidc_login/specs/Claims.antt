@@ -5,7 +5,7 @@ use Rattle.serde_json.specs.Data.{Data, string, array}
 use Rattle.serde_json.specs.View.{items_of}
 use Rattle.oidc_members.specs.Seen.{SeenMember, OutSeen}
 use Rattle.oidc_members.specs.declared.refusal.Refusal.{Refusal}
-use Rattle.oidc_types.specs.UrlTexts.{TextAndUrl}
+use Rattle.oidc_types.specs.{TextAndUrl}
 use Rattle.oidc_readers.specs.Moments.{seconds_data}
 use Rattle.oidc_readers.specs.Kinds.{text_kind, url_kind, texts_kind, moment_kind, or_null}
 use Rattle.oidc_readers.specs.Fields.{Field, field, judged}

@@ -8,13 +8,28 @@
 //! standard output could not be written, and 0 otherwise.
 #![tactic(auto)]
 
+mod answers;
+mod case;
+mod claims;
+mod displays;
+mod keys;
+mod members;
+mod operations;
+mod pkce;
+mod scripts;
 #[cfg(test)]
 mod tests;
+mod types;
+mod vocabularies;
+mod words;
 
-ghost use Rattle.std.specs.Prelude.{◌≡◌, ◌↔◌, ◌⊎◌, ◌≢◌, None, Some, IfOk, IsTrue, slice_get};
+ghost use Rattle.std.specs.Prelude.{◌≡◌, ◌↔◌, ◌⊎◌, ◌≢◌, None, Some, Ok, Err, IfOk, IsErr, IsTrue};
+ghost use Rattle.std.specs.Prelude.{codes, slice_get};
 ghost use Rattle.std.specs.String.{string_bytes};
 ghost use Rattle.std.specs.IoError.{error_kind};
 
+use crate::case::{Case, CaseError};
+use crate::operations::{Operation, operation_named};
 use std::alloc::{AllocError, Global};
 use std::io;
 use std::io::{BufRead, BufReader, BufWriter, ErrorKind, Write};
@@ -33,15 +48,51 @@ fn is_comment(line: &str) -> bool
     line.is_empty() || line.as_bytes()[0] == b'#'
 }
 
+// The answer of a case.
+fn answer_case(alloc: Global, line: &str) -> Result<String, CaseError> {
+    let case = Case::read(alloc, line)?;
+    answer_operation(alloc, operation_named(case.op()), &case)
+}
+
+// The answer of a case by its operation.
+fn answer_operation(
+    alloc: Global,
+    operation: Option<Operation>,
+    case: &Case,
+) -> Result<String, CaseError>
+    ensures unknown { operation ≡ None → result ≡ Err CaseError.NoCase }
+{
+    match operation {
+        Some(operation) => operation.answer(alloc, case),
+        None => Err(CaseError::NoCase),
+    }
+}
+
+// The line of a case: its answer, or that it is none.
+fn case_line(alloc: Global, answered: Result<String, CaseError>) -> Result<String, AllocError>
+    ensures answered { IfOk answered (λ text. result ≡ Ok text) }
+    ensures no_case { answered ≡ Err CaseError.NoCase
+        → IfOk result (λ text. string_bytes text ≡ codes "no case") }
+    ensures memory { answered ≡ Err CaseError.Memory → IsErr result }
+{
+    match answered {
+        Ok(text) => Ok(text),
+        Err(CaseError::NoCase) => String::from_str(alloc, "no case"),
+        Err(CaseError::Memory) => Err(AllocError),
+    }
+}
+
 // The line that answers this one.
 fn answer(alloc: Global, line: &str) -> Result<String, AllocError>
-    ensures empty { slice_get line.now 0 ≡ None → IfOk result (λ text. string_bytes text ≡ line.now) }
-    ensures comment { slice_get line.now 0 ≡ Some 35 → IfOk result (λ text. string_bytes text ≡ line.now) }
+    ensures empty { slice_get line.now 0 ≡ None
+        → IfOk result (λ text. string_bytes text ≡ line.now) }
+    ensures comment { slice_get line.now 0 ≡ Some 35
+        → IfOk result (λ text. string_bytes text ≡ line.now) }
 {
     if is_comment(line) {
         return String::from_str(alloc, line);
     }
-    String::from_str(alloc, "no case")
+    case_line(alloc, answer_case(alloc, line))
 }
 
 // Writes a line for each line of the input.

@@ -5,4 +5,5 @@ mod claims;
 mod cli;
 mod login;
 mod low;
+mod readers;
 mod types;
