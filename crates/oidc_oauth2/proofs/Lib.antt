@@ -1,1 +1,3 @@
-pub mod FaultCounts
+mod FaultCounts
+mod Bearers
+mod Essences

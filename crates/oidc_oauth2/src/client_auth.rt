@@ -1,7 +1,5 @@
 //! How a client names itself to a token endpoint (RFC 6749 section 2.3.1).
 
-ghost use Rattle.std.specs.Prelude.{◌≡◌, ◌&&◌, is_some};
-ghost use Rattle.oidc_oauth2.specs.ClientAuth.{is_basic, uses_basic, seen_client};
 
 use oidc_types::{ClientId, ClientSecret};
 use thiserror::Error;

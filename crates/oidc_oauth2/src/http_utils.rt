@@ -1,7 +1,7 @@
 //! Header fields of requests and responses (RFC 9110, RFC 6750).
 
 ghost use Rattle.std.specs.Prelude.{◌≡◌, ◌==◌, ◌++◌, ◌↔◌, false, IfOk, IsErrOf, IsOk, IsTrue, codes};
-ghost use Rattle.std.specs.List.{before_first, list_all};
+ghost use Rattle.std.specs.List.{before_first, position};
 ghost use Rattle.std.specs.String.{string_bytes};
 ghost use Rattle.http_header.specs.Token.{is_visible_or_blank as visible_or_blank};
 ghost use Rattle.http_header.specs.FieldValue.{plain_value, is_visible_text, IsFieldValue};
@@ -66,18 +66,25 @@ fn is_visible(bytes: &[u8]) -> bool
     bytes.iter().all(|byte| is_visible_or_blank(*byte))
 }
 
+// The place of the first `;`.
+fn semicolon_in(value: &[u8]) -> Option<usize>
+    ensures { result ≡ position (λ b. b == 59) value.now }
+{
+    value.iter().position(|byte| *byte == b';')
+}
+
 // What stands before the first `;`.
+#[tactic(auto, using(crate::proofs::Essences::before_place, crate::proofs::Essences::before_none, crate::proofs::Essences::place_fits))]
 fn before_parameters(value: &[u8]) -> &[u8]
     ensures { result.now ≡ before_first (λ b. b == 59) value.now }
 {
-    match value.iter().position(|byte| *byte == b';') {
+    match semicolon_in(value) {
         Some(end) => &value[..end],
         None => value,
     }
 }
 
 // The essence of a media type.
-#[tactic(auto, unfolding(crate::specs::HttpUtils::essence))]
 fn essence(value: &[u8]) -> &[u8]
     ensures { result.now ≡ spec.essence value.now }
 {
@@ -119,9 +126,20 @@ fn bearer_text(alloc: Global, token: &str) -> Result<String, AllocError>
     Ok(text)
 }
 
+// The header's value that is this text.
+fn value_of(text: String) -> Result<HeaderValue, AllocError>
+    requires { IsFieldValue (string_bytes text) }
+    ensures { IfOk result (λ value. value ≡ plain_value (string_bytes text)) }
+{
+    match HeaderValue::from_string(text) {
+        Ok(value) => Ok(value),
+        Err(HeaderValueError::OutOfMemory) => Err(AllocError),
+        Err(HeaderValueError::Invalid) => unreachable!(),
+    }
+}
+
 /// The header that sends an access token: `authorization` with `Bearer`, one space and the token.
 /// `Value` exactly where the token has a byte outside 0x09 and 0x20 to 0x7E.
-#[tactic(auto, using(crate::proofs::Bearers::bearer_is_value))]
 pub fn auth_bearer(
     alloc: Global,
     token: &AccessToken,
@@ -134,9 +152,6 @@ pub fn auth_bearer(
         return Err(BearerError::Value);
     }
     let text = bearer_text(alloc, token.secret())?;
-    match HeaderValue::from_string(text) {
-        Ok(value) => Ok((AUTHORIZATION, value)),
-        Err(HeaderValueError::OutOfMemory) => Err(BearerError::Memory),
-        Err(HeaderValueError::Invalid) => unreachable!(),
-    }
+    let value = value_of(text)?;
+    Ok((AUTHORIZATION, value))
 }

@@ -2,9 +2,26 @@
 #![tactic(auto)]
 
 pub mod adapter;
+pub mod client_auth;
+pub mod error_types;
+pub mod http_utils;
+pub mod pkce;
 pub mod recorded;
+pub mod revocation;
+pub mod token_type;
 pub mod transport;
 
 pub use crate::adapter::Adapter;
+pub use crate::client_auth::{AuthType, ClientAuth, ConfigurationError};
+pub use crate::error_types::{
+    CoreErrorResponseType, DeviceCodeErrorResponseType, RevocationErrorResponseType,
+};
+pub use crate::http_utils::{
+    BEARER, BearerError, MIME_TYPE_JSON, MIME_TYPE_JWKS, MIME_TYPE_JWT, UnexpectedType, auth_bearer,
+    check_content_type, content_type_has_essence,
+};
+pub use crate::pkce::{PkceCodeChallenge, PkceError};
 pub use crate::recorded::{Answer, Fault, Recorded};
+pub use crate::revocation::{CoreRevocableToken, RevocableToken};
+pub use crate::token_type::{CoreTokenType, TokenType};
 pub use crate::transport::{Body, CallError, HttpRequest, HttpResponse, SyncHttpClient};
