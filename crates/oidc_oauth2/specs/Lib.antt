@@ -6,3 +6,5 @@ pub mod Pkce
 pub mod Words
 pub mod Revocation
 pub mod ClientAuth
+pub mod TokenResponse
+pub mod TokenFields

@@ -4,10 +4,13 @@
 pub mod adapter;
 pub mod client_auth;
 pub mod error_types;
+pub mod extra;
 pub mod http_utils;
 pub mod pkce;
 pub mod recorded;
 pub mod revocation;
+mod scopes;
+pub mod token;
 pub mod token_type;
 pub mod transport;
 
@@ -16,6 +19,10 @@ pub use crate::client_auth::{AuthType, ClientAuth, ConfigurationError};
 pub use crate::error_types::{
     CoreErrorResponseType, DeviceCodeErrorResponseType, RevocationErrorResponseType,
 };
+pub use crate::extra::{
+    EmptyExtraDeviceAuthorizationFields, EmptyExtraTokenFields, ExtraDeviceAuthorizationFields,
+    ExtraTokenFields,
+};
 pub use crate::http_utils::{
     BEARER, BearerError, MIME_TYPE_JSON, MIME_TYPE_JWKS, MIME_TYPE_JWT, UnexpectedType, auth_bearer,
     check_content_type, content_type_has_essence,
@@ -23,5 +30,6 @@ pub use crate::http_utils::{
 pub use crate::pkce::{PkceCodeChallenge, PkceError};
 pub use crate::recorded::{Answer, Fault, Recorded};
 pub use crate::revocation::{CoreRevocableToken, RevocableToken};
+pub use crate::token::{OAuth2TokenResponse, StandardTokenResponse};
 pub use crate::token_type::{CoreTokenType, TokenType};
 pub use crate::transport::{Body, CallError, HttpRequest, HttpResponse, SyncHttpClient};
