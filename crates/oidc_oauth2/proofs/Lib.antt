@@ -1,3 +1,5 @@
-mod FaultCounts
 mod Bearers
+mod Credentials
 mod Essences
+mod Exchanged
+mod FaultCounts

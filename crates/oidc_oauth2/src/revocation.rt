@@ -22,8 +22,8 @@ pub trait RevocableToken {
         ensures hint { option_copied result ≡ type_hint self.now };
 }
 
-/// An access token or a refresh token.
-#[derive(Debug, Drop)]
+/// An access token or a refresh token. It has no `Debug`, since it is a secret.
+#[derive(Drop)]
 pub enum CoreRevocableToken {
     /// An access token.
     AccessToken(AccessToken),
