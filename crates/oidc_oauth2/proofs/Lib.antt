@@ -1,0 +1,5 @@
+mod Bearers
+mod Credentials
+mod Essences
+mod Exchanged
+mod FaultCounts
