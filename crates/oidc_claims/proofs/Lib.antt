@@ -1,13 +1,16 @@
-pub mod Apart
-pub mod Homes
-pub mod Kept
-pub mod MayStand
-pub mod Moves
-pub mod Parts
-pub mod ReadsBack
-pub mod Seconds
-pub mod SplitBack
-pub mod Standing
-pub mod Steps
-pub mod Tags
-pub mod VariantsBack
+mod Apart
+mod Homes
+mod Kept
+mod MayStand
+mod Moves
+mod Names
+mod NoFloat
+mod Parts
+mod ReadsBack
+mod Seconds
+mod SplitBack
+mod Standing
+mod Steps
+mod Tags
+pub mod Theorems
+mod VariantsBack

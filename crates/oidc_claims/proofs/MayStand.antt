@@ -8,7 +8,7 @@ use Rattle.std.specs.List.Sorted.{IsStrictlySortedBy}
 use Rattle.std.proofs.lemmas.Bool.{leb-true}
 use Rattle.serde_json.specs.Data.{Data, boolean, string, members_depth}
 use Rattle.serde_json.specs.Find.{of_integer}
-use Rattle.oidc_types.specs.Variants.{Variants}
+use Rattle.oidc_types.specs.{Variants}
 use Rattle.oidc_members.specs.Seen.{OutSeen}
 use Rattle.oidc_members.specs.Write.{data_of}
 use Rattle.oidc_readers.specs.WrittenBack.{IsWholeNumber, AreInOrder, MembersAreWhole, MayStand, names_of}
@@ -19,11 +19,12 @@ use Rattle.oidc_claims.specs.declared.claims.part.AddressPart.{AddressPart}
 use Rattle.oidc_claims.specs.declared.claims.part.AddressPart.TheVariants as part
 use Rattle.oidc_claims.specs.Address.{part_name}
 use Rattle.oidc_claims.specs.Gender.{GenderIsValue}
-use Rattle.oidc_claims.specs.Kinds.{moment_at}
-use Rattle.oidc_claims.specs.RoundTrip.{IsInRange, IsWholeSecond}
+use Rattle.oidc_readers.specs.Moments.{moment_at, seconds_of, seconds_data}
+use Rattle.oidc_readers.specs.Writing.{text_member}
+use Rattle.oidc_claims.specs.Write.{IsInRange, IsWholeSecond}
 use Rattle.oidc_claims.specs.Seen.{SeenClaims}
 use Rattle.oidc_claims.specs.Table.{all_claims}
-use Rattle.oidc_claims.specs.Written.{text_member, part_members, parts_in_order, address_members, address_data, plain_member, variant_member, variant_members, claim_members, written, seconds_of, seconds_data}
+use Rattle.oidc_claims.specs.Write.{part_members, parts_in_order, address_members, address_data, plain_member, variant_member, variant_members, claim_members, written}
 use Rattle.oidc_claims.proofs.Seconds.{whole_second}
 
 -- each member's value may stand, one by one

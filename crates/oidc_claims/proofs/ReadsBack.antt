@@ -1,29 +1,31 @@
 -- Claims that were written are read back.
-use Rattle.std.proofs.Common.{◌≡◌, ◌≢◌, ℕ, ℤ, pos, negsuc, List, [], ◌∷◌, map, Option, None, Some, option_map, Result, Ok, true, false, ◌&&◌, cond, refl, ap, subst, ◌∙◌, append-nil, is_some}
+use Rattle.std.proofs.Common.{◌≡◌, ◌≢◌, ℕ, ℤ, pos, negsuc, List, [], ◌∷◌, map, Option, None, Some, option_map, Ok, false, cond, refl, ap, subst, ◌∙◌, append-nil, is_some, length}
 use Rattle.std.specs.List.{flat_map}
+use Rattle.std.specs.Option.{ok_or, option_flatten}
 use Rattle.std.specs.Result.{result_ok, result_err}
 use Rattle.serde_json.specs.Data.{Data, null, boolean, number, string, array, object}
 use Rattle.serde_json.specs.Find.{as_null, as_integer, of_integer}
 use Rattle.oidc_members.specs.Seen.{SeenMember, OutSeen}
-use Rattle.oidc_members.specs.declared.refusal.Refusal.{Refusal}
 use Rattle.oidc_members.specs.declared.refusal.ParseKind.TheVariants.{Moment}
+use Rattle.oidc_readers.specs.Moments.{moment_at, seconds_of, seconds_data}
+use Rattle.oidc_readers.specs.Kinds.{Kind, of_member, text_kind, flag_kind, moment_kind, seconds_read, or_null, there as as_there}
+use Rattle.oidc_readers.specs.Fields.{first_value}
 use Rattle.oidc_claims.specs.declared.claim.Claim.{Claim}
 use Rattle.oidc_claims.specs.declared.claim.Claim.TheVariants.{Subject, Name, GivenName, FamilyName, MiddleName, Nickname, PreferredUsername, Profile, Picture, Website, Email, EmailVerified, Gender, Birthday, Birthdate, Zoneinfo, Locale, PhoneNumber, PhoneNumberVerified, Address, UpdatedAt}
 use Rattle.oidc_claims.specs.declared.claims.address.AddressClaim.{AddressClaim}
 use Rattle.oidc_claims.specs.Seen.{SeenClaims}
 use Rattle.oidc_claims.specs.Gender.{GenderReadsBack, GenderIsValue}
-use Rattle.oidc_claims.specs.Table.{name_of, claim_of, all_claims, base_of, tag_of}
-use Rattle.oidc_claims.specs.Kinds.{of_member, or_refused, text_read, flag_read, moment_read, moment_at, seconds_read, misfit, held, plain}
-use Rattle.oidc_claims.specs.Address.{address_read}
-use Rattle.oidc_claims.specs.Claims.{own, variants, unless_empty, fault_by, fault_at, first_fault}
-use Rattle.oidc_claims.specs.Standard.{claims_of, with_subject, complete, unless_refused}
-use Rattle.oidc_claims.specs.Written.{written, claim_members, plain_member, with_tag, address_data, seconds_data, seconds_of}
-use Rattle.oidc_claims.specs.RoundTrip.{IsTag, IsInRange, IsWholeSecond}
+use Rattle.oidc_claims.specs.Table.{name_of, claim_of, kind_of, all_claims, base_of, tag_of}
+use Rattle.oidc_claims.specs.Address.{address_kind}
+use Rattle.oidc_claims.specs.Claims.{own, held, plain, variants, unless_empty, fault_of_kind, fault_by, fault_at, first_fault}
+use Rattle.oidc_claims.specs.Standard.{claims_of, with_subject, at_place, complete, unless_refused}
+use Rattle.oidc_claims.specs.Write.{written, claim_members, plain_member, with_tag, address_data}
+use Rattle.oidc_claims.specs.Write.{IsTag, IsInRange, IsWholeSecond}
 use Rattle.oidc_claims.proofs.Standing.{AddressStands, read_with}
 use Rattle.oidc_claims.proofs.Apart.{JudgesOwn, apart_from, own_among, no_fault}
 use Rattle.oidc_claims.proofs.Parts.{map_flat, address_reads_back}
 use Rattle.oidc_claims.proofs.Seconds.{whole_second}
-use Rattle.oidc_claims.proofs.VariantsBack.{key, same, judge, IsClaimPart, Named, variants_are_part, variants_back}
+use Rattle.oidc_claims.proofs.VariantsBack.{key, same, judge, keyed, IsClaimPart, Named, variants_are_part, variants_back}
 
 -- ---- the names of localized claims
 
@@ -37,7 +39,7 @@ name_base None = refl
 name_base (Some tag) = refl
 
 name_named : Named Name
-name_named = record { localized = refl; optional = refl; is_text = refl; is_base = name_base; is_tag = name_tag }
+name_named = record { is_text = refl; is_base = name_base; is_tag = name_tag }
 
 given_name_tag : (tag : Option (List ℕ)) → IsTag tag → tag_of (with_tag (name_of GivenName) tag) ≡ tag
 given_name_tag None h = refl
@@ -49,7 +51,7 @@ given_name_base None = refl
 given_name_base (Some tag) = refl
 
 given_name_named : Named GivenName
-given_name_named = record { localized = refl; optional = refl; is_text = refl; is_base = given_name_base; is_tag = given_name_tag }
+given_name_named = record { is_text = refl; is_base = given_name_base; is_tag = given_name_tag }
 
 family_name_tag : (tag : Option (List ℕ)) → IsTag tag → tag_of (with_tag (name_of FamilyName) tag) ≡ tag
 family_name_tag None h = refl
@@ -61,7 +63,7 @@ family_name_base None = refl
 family_name_base (Some tag) = refl
 
 family_name_named : Named FamilyName
-family_name_named = record { localized = refl; optional = refl; is_text = refl; is_base = family_name_base; is_tag = family_name_tag }
+family_name_named = record { is_text = refl; is_base = family_name_base; is_tag = family_name_tag }
 
 middle_name_tag : (tag : Option (List ℕ)) → IsTag tag → tag_of (with_tag (name_of MiddleName) tag) ≡ tag
 middle_name_tag None h = refl
@@ -73,7 +75,7 @@ middle_name_base None = refl
 middle_name_base (Some tag) = refl
 
 middle_name_named : Named MiddleName
-middle_name_named = record { localized = refl; optional = refl; is_text = refl; is_base = middle_name_base; is_tag = middle_name_tag }
+middle_name_named = record { is_text = refl; is_base = middle_name_base; is_tag = middle_name_tag }
 
 nickname_tag : (tag : Option (List ℕ)) → IsTag tag → tag_of (with_tag (name_of Nickname) tag) ≡ tag
 nickname_tag None h = refl
@@ -85,7 +87,7 @@ nickname_base None = refl
 nickname_base (Some tag) = refl
 
 nickname_named : Named Nickname
-nickname_named = record { localized = refl; optional = refl; is_text = refl; is_base = nickname_base; is_tag = nickname_tag }
+nickname_named = record { is_text = refl; is_base = nickname_base; is_tag = nickname_tag }
 
 profile_tag : (tag : Option (List ℕ)) → IsTag tag → tag_of (with_tag (name_of Profile) tag) ≡ tag
 profile_tag None h = refl
@@ -97,7 +99,7 @@ profile_base None = refl
 profile_base (Some tag) = refl
 
 profile_named : Named Profile
-profile_named = record { localized = refl; optional = refl; is_text = refl; is_base = profile_base; is_tag = profile_tag }
+profile_named = record { is_text = refl; is_base = profile_base; is_tag = profile_tag }
 
 picture_tag : (tag : Option (List ℕ)) → IsTag tag → tag_of (with_tag (name_of Picture) tag) ≡ tag
 picture_tag None h = refl
@@ -109,7 +111,7 @@ picture_base None = refl
 picture_base (Some tag) = refl
 
 picture_named : Named Picture
-picture_named = record { localized = refl; optional = refl; is_text = refl; is_base = picture_base; is_tag = picture_tag }
+picture_named = record { is_text = refl; is_base = picture_base; is_tag = picture_tag }
 
 website_tag : (tag : Option (List ℕ)) → IsTag tag → tag_of (with_tag (name_of Website) tag) ≡ tag
 website_tag None h = refl
@@ -121,7 +123,7 @@ website_base None = refl
 website_base (Some tag) = refl
 
 website_named : Named Website
-website_named = record { localized = refl; optional = refl; is_text = refl; is_base = website_base; is_tag = website_tag }
+website_named = record { is_text = refl; is_base = website_base; is_tag = website_tag }
 
 -- ---- values
 
@@ -138,17 +140,17 @@ integer_back (pos n) = refl
 integer_back (negsuc n) = refl
 
 -- a value that is there and of its kind has no misfit, and is held
-fitting : {V : Type 0} (read : SeenMember → Result V Refusal) (m : SeenMember) (v : V) → is_some (as_null m.value) ≡ false → read m ≡ Ok v → misfit true read m ≡ None
-fitting read m v there is = (λ i. cond (true && there i) None (result_err (is i)))
+fitting : {V : Type 0} (read : Kind V) (m : SeenMember) (v : V) → is_some (as_null m.value) ≡ false → read m ≡ Ok v → result_err (or_null read m) ≡ None
+fitting read m v there is = (λ i. result_err (cond (there i) (Ok None) (as_there (is i))))
 
-held_back : {V : Type 0} (read : SeenMember → Result V Refusal) (m : SeenMember) (v : V) → is_some (as_null m.value) ≡ false → read m ≡ Ok v → held true read m ≡ Some v
-held_back read m v there is = (λ i. cond (true && there i) None (result_ok (is i)))
+held_back : {V : Type 0} (read : Kind V) (m : SeenMember) (v : V) → is_some (as_null m.value) ≡ false → read m ≡ Ok v → held read m ≡ Some v
+held_back read m v there is = (λ i. option_flatten (result_ok (cond (there i) (Ok None) (as_there (is i)))))
 
 -- ---- the whole list
 
 module _
     {GC : Type 0}
-    (gender_read : SeenMember → Result GC Refusal)
+    (gender_read : Kind GC)
     (gender_data : GC → Data)
     (gender_back : GenderReadsBack gender_read gender_data)
     (gender_there : GenderIsValue gender_data)
@@ -160,7 +162,7 @@ module _
   one c value = read_with text_of (record { name = name_of c; value = value })
 
   judges : JudgesOwn key same (judge gender_read) (fault_at gender_read)
-  judges c before m is = ap (λ o. fault_by gender_read o before m) is
+  judges c before m is = ap (λ o. fault_by gender_read o before m) is ∙ ap (λ l. fault_of_kind gender_read (kind_of c) l m) (keyed c before)
 
   -- ---- claims that stand once
 
@@ -172,19 +174,19 @@ module _
   one_is_part c data_of None is fair = tt
   one_is_part c data_of (Some v) is fair = (is, fair v refl, tt)
 
-  one_back : {V : Type 0} (c : Claim) (data_of : V → Data) (read : SeenMember → Result V Refusal) (o : Option V)
-      → ((v : V) → o ≡ Some v → held true read (one c (data_of v)) ≡ Some v) → plain true read (seen (plain_member c (option_map data_of o))) ≡ o
+  one_back : {V : Type 0} (c : Claim) (data_of : V → Data) (read : Kind V) (o : Option V)
+      → ((v : V) → o ≡ Some v → held read (one c (data_of v)) ≡ Some v) → plain read (seen (plain_member c (option_map data_of o))) ≡ o
   one_back c data_of read None h = refl
   one_back c data_of read (Some v) h = h v refl
 
   gender_fits : (g : GC) → gender_read (one Gender (gender_data g)) ≡ Ok g
   gender_fits g = gender_back g (one Gender (gender_data g)) refl
 
-  moment_fits : (n : ℤ) → IsWholeSecond (Some n) → moment_read (one UpdatedAt (seconds_data n)) ≡ Ok n
+  moment_fits : (n : ℤ) → IsWholeSecond (Some n) → moment_kind (one UpdatedAt (seconds_data n)) ≡ Ok n
   moment_fits n whole = ap (seconds_read (one UpdatedAt (seconds_data n))) (integer_back (seconds_of n)) ∙ moment_by (moment_at (seconds_of n)) (whole_second n whole.0 whole.1)
     where
-      moment_by : (o : Option ℤ) → o ≡ Some n → or_refused o (of_member Moment (one UpdatedAt (seconds_data n))) ≡ Ok n
-      moment_by o is = ap (λ o. or_refused o (of_member Moment (one UpdatedAt (seconds_data n)))) is
+      moment_by : (o : Option ℤ) → o ≡ Some n → ok_or o (of_member Moment (one UpdatedAt (seconds_data n))) ≡ Ok n
+      moment_by o is = ap (λ o. ok_or o (of_member Moment (one UpdatedAt (seconds_data n)))) is
 
   module _ (s : SeenClaims GC) (r : IsInRange s) (stands : AddressStands text_of s.address) where
     abbrev parts : Claim → List SeenMember
@@ -193,7 +195,7 @@ module _
     abbrev members : List SeenMember
     members = flat_map parts all_claims
 
-    address_fits : (a : AddressClaim) → s.address ≡ Some a → address_read (one Address (address_data a)) ≡ Ok a
+    address_fits : (a : AddressClaim) → s.address ≡ Some a → address_kind (one Address (address_data a)) ≡ Ok a
     address_fits a is = address_reads_back text_of a (subst (AddressStands text_of) is stands)
 
     whole : (n : ℤ) → s.updated_at ≡ Some n → IsWholeSecond (Some n)
@@ -219,64 +221,64 @@ module _
     are_parts Locale = one_is_part Locale string s.locale refl (λ t is. refl)
     are_parts PhoneNumber = one_is_part PhoneNumber string s.phone_number refl (λ t is. refl)
     are_parts PhoneNumberVerified = one_is_part PhoneNumberVerified boolean s.phone_number_verified refl (λ t is. refl)
-    are_parts Address = one_is_part Address address_data s.address refl (λ a is. fitting address_read (one Address (address_data a)) a refl (address_fits a is))
-    are_parts UpdatedAt = one_is_part UpdatedAt seconds_data s.updated_at refl (λ n is. fitting moment_read (one UpdatedAt (seconds_data n)) n refl (moment_fits n (whole n is)))
+    are_parts Address = one_is_part Address address_data s.address refl (λ a is. fitting address_kind (one Address (address_data a)) a refl (address_fits a is))
+    are_parts UpdatedAt = one_is_part UpdatedAt seconds_data s.updated_at refl (λ n is. fitting moment_kind (one UpdatedAt (seconds_data n)) n refl (moment_fits n (whole n is)))
 
     own_is : (c : Claim) → own c members ≡ parts c
-    own_is Subject = own_among key same (judge gender_read) (fault_at gender_read) parts are_parts Subject all_claims ∙ append-nil (parts Subject)
-    own_is Name = own_among key same (judge gender_read) (fault_at gender_read) parts are_parts Name all_claims ∙ append-nil (parts Name)
-    own_is GivenName = own_among key same (judge gender_read) (fault_at gender_read) parts are_parts GivenName all_claims ∙ append-nil (parts GivenName)
-    own_is FamilyName = own_among key same (judge gender_read) (fault_at gender_read) parts are_parts FamilyName all_claims ∙ append-nil (parts FamilyName)
-    own_is MiddleName = own_among key same (judge gender_read) (fault_at gender_read) parts are_parts MiddleName all_claims ∙ append-nil (parts MiddleName)
-    own_is Nickname = own_among key same (judge gender_read) (fault_at gender_read) parts are_parts Nickname all_claims ∙ append-nil (parts Nickname)
-    own_is PreferredUsername = own_among key same (judge gender_read) (fault_at gender_read) parts are_parts PreferredUsername all_claims ∙ append-nil (parts PreferredUsername)
-    own_is Profile = own_among key same (judge gender_read) (fault_at gender_read) parts are_parts Profile all_claims ∙ append-nil (parts Profile)
-    own_is Picture = own_among key same (judge gender_read) (fault_at gender_read) parts are_parts Picture all_claims ∙ append-nil (parts Picture)
-    own_is Website = own_among key same (judge gender_read) (fault_at gender_read) parts are_parts Website all_claims ∙ append-nil (parts Website)
-    own_is Email = own_among key same (judge gender_read) (fault_at gender_read) parts are_parts Email all_claims ∙ append-nil (parts Email)
-    own_is EmailVerified = own_among key same (judge gender_read) (fault_at gender_read) parts are_parts EmailVerified all_claims ∙ append-nil (parts EmailVerified)
-    own_is Gender = own_among key same (judge gender_read) (fault_at gender_read) parts are_parts Gender all_claims ∙ append-nil (parts Gender)
-    own_is Birthday = own_among key same (judge gender_read) (fault_at gender_read) parts are_parts Birthday all_claims ∙ append-nil (parts Birthday)
-    own_is Birthdate = own_among key same (judge gender_read) (fault_at gender_read) parts are_parts Birthdate all_claims ∙ append-nil (parts Birthdate)
-    own_is Zoneinfo = own_among key same (judge gender_read) (fault_at gender_read) parts are_parts Zoneinfo all_claims ∙ append-nil (parts Zoneinfo)
-    own_is Locale = own_among key same (judge gender_read) (fault_at gender_read) parts are_parts Locale all_claims ∙ append-nil (parts Locale)
-    own_is PhoneNumber = own_among key same (judge gender_read) (fault_at gender_read) parts are_parts PhoneNumber all_claims ∙ append-nil (parts PhoneNumber)
-    own_is PhoneNumberVerified = own_among key same (judge gender_read) (fault_at gender_read) parts are_parts PhoneNumberVerified all_claims ∙ append-nil (parts PhoneNumberVerified)
-    own_is Address = own_among key same (judge gender_read) (fault_at gender_read) parts are_parts Address all_claims ∙ append-nil (parts Address)
-    own_is UpdatedAt = own_among key same (judge gender_read) (fault_at gender_read) parts are_parts UpdatedAt all_claims ∙ append-nil (parts UpdatedAt)
+    own_is Subject = keyed Subject members ∙ own_among key same (judge gender_read) (fault_at gender_read) parts are_parts Subject all_claims ∙ append-nil (parts Subject)
+    own_is Name = keyed Name members ∙ own_among key same (judge gender_read) (fault_at gender_read) parts are_parts Name all_claims ∙ append-nil (parts Name)
+    own_is GivenName = keyed GivenName members ∙ own_among key same (judge gender_read) (fault_at gender_read) parts are_parts GivenName all_claims ∙ append-nil (parts GivenName)
+    own_is FamilyName = keyed FamilyName members ∙ own_among key same (judge gender_read) (fault_at gender_read) parts are_parts FamilyName all_claims ∙ append-nil (parts FamilyName)
+    own_is MiddleName = keyed MiddleName members ∙ own_among key same (judge gender_read) (fault_at gender_read) parts are_parts MiddleName all_claims ∙ append-nil (parts MiddleName)
+    own_is Nickname = keyed Nickname members ∙ own_among key same (judge gender_read) (fault_at gender_read) parts are_parts Nickname all_claims ∙ append-nil (parts Nickname)
+    own_is PreferredUsername = keyed PreferredUsername members ∙ own_among key same (judge gender_read) (fault_at gender_read) parts are_parts PreferredUsername all_claims ∙ append-nil (parts PreferredUsername)
+    own_is Profile = keyed Profile members ∙ own_among key same (judge gender_read) (fault_at gender_read) parts are_parts Profile all_claims ∙ append-nil (parts Profile)
+    own_is Picture = keyed Picture members ∙ own_among key same (judge gender_read) (fault_at gender_read) parts are_parts Picture all_claims ∙ append-nil (parts Picture)
+    own_is Website = keyed Website members ∙ own_among key same (judge gender_read) (fault_at gender_read) parts are_parts Website all_claims ∙ append-nil (parts Website)
+    own_is Email = keyed Email members ∙ own_among key same (judge gender_read) (fault_at gender_read) parts are_parts Email all_claims ∙ append-nil (parts Email)
+    own_is EmailVerified = keyed EmailVerified members ∙ own_among key same (judge gender_read) (fault_at gender_read) parts are_parts EmailVerified all_claims ∙ append-nil (parts EmailVerified)
+    own_is Gender = keyed Gender members ∙ own_among key same (judge gender_read) (fault_at gender_read) parts are_parts Gender all_claims ∙ append-nil (parts Gender)
+    own_is Birthday = keyed Birthday members ∙ own_among key same (judge gender_read) (fault_at gender_read) parts are_parts Birthday all_claims ∙ append-nil (parts Birthday)
+    own_is Birthdate = keyed Birthdate members ∙ own_among key same (judge gender_read) (fault_at gender_read) parts are_parts Birthdate all_claims ∙ append-nil (parts Birthdate)
+    own_is Zoneinfo = keyed Zoneinfo members ∙ own_among key same (judge gender_read) (fault_at gender_read) parts are_parts Zoneinfo all_claims ∙ append-nil (parts Zoneinfo)
+    own_is Locale = keyed Locale members ∙ own_among key same (judge gender_read) (fault_at gender_read) parts are_parts Locale all_claims ∙ append-nil (parts Locale)
+    own_is PhoneNumber = keyed PhoneNumber members ∙ own_among key same (judge gender_read) (fault_at gender_read) parts are_parts PhoneNumber all_claims ∙ append-nil (parts PhoneNumber)
+    own_is PhoneNumberVerified = keyed PhoneNumberVerified members ∙ own_among key same (judge gender_read) (fault_at gender_read) parts are_parts PhoneNumberVerified all_claims ∙ append-nil (parts PhoneNumberVerified)
+    own_is Address = keyed Address members ∙ own_among key same (judge gender_read) (fault_at gender_read) parts are_parts Address all_claims ∙ append-nil (parts Address)
+    own_is UpdatedAt = keyed UpdatedAt members ∙ own_among key same (judge gender_read) (fault_at gender_read) parts are_parts UpdatedAt all_claims ∙ append-nil (parts UpdatedAt)
 
     claims_back : with_subject gender_read s.subject members ≡ s
     unfolding with_subject
     claims_back = λ i. record {
       subject = s.subject;
-      name = (ap (λ ms. unless_empty (variants true text_read ms)) (own_is Name) ∙ variants_back gender_read text_of Name name_named s.name r.name) i;
-      given_name = (ap (λ ms. unless_empty (variants true text_read ms)) (own_is GivenName) ∙ variants_back gender_read text_of GivenName given_name_named s.given_name r.given_name) i;
-      family_name = (ap (λ ms. unless_empty (variants true text_read ms)) (own_is FamilyName) ∙ variants_back gender_read text_of FamilyName family_name_named s.family_name r.family_name) i;
-      middle_name = (ap (λ ms. unless_empty (variants true text_read ms)) (own_is MiddleName) ∙ variants_back gender_read text_of MiddleName middle_name_named s.middle_name r.middle_name) i;
-      nickname = (ap (λ ms. unless_empty (variants true text_read ms)) (own_is Nickname) ∙ variants_back gender_read text_of Nickname nickname_named s.nickname r.nickname) i;
-      preferred_username = (ap (plain true text_read) (own_is PreferredUsername) ∙ one_back PreferredUsername string text_read s.preferred_username (λ t is. refl)) i;
-      profile = (ap (λ ms. unless_empty (variants true text_read ms)) (own_is Profile) ∙ variants_back gender_read text_of Profile profile_named s.profile r.profile) i;
-      picture = (ap (λ ms. unless_empty (variants true text_read ms)) (own_is Picture) ∙ variants_back gender_read text_of Picture picture_named s.picture r.picture) i;
-      website = (ap (λ ms. unless_empty (variants true text_read ms)) (own_is Website) ∙ variants_back gender_read text_of Website website_named s.website r.website) i;
-      email = (ap (plain true text_read) (own_is Email) ∙ one_back Email string text_read s.email (λ t is. refl)) i;
-      email_verified = (ap (plain true flag_read) (own_is EmailVerified) ∙ one_back EmailVerified boolean flag_read s.email_verified (λ b is. refl)) i;
-      gender = (ap (plain true gender_read) (own_is Gender) ∙ one_back Gender gender_data gender_read s.gender (λ g is. held_back gender_read (one Gender (gender_data g)) g (not_null (gender_data g) (gender_there g).0) (gender_fits g))) i;
-      birthday = (ap (plain true text_read) (own_is Birthday) ∙ one_back Birthday string text_read s.birthday (λ t is. refl)) i;
-      birthdate = (ap (plain true text_read) (own_is Birthdate) ∙ one_back Birthdate string text_read s.birthdate (λ t is. refl)) i;
-      zoneinfo = (ap (plain true text_read) (own_is Zoneinfo) ∙ one_back Zoneinfo string text_read s.zoneinfo (λ t is. refl)) i;
-      locale = (ap (plain true text_read) (own_is Locale) ∙ one_back Locale string text_read s.locale (λ t is. refl)) i;
-      phone_number = (ap (plain true text_read) (own_is PhoneNumber) ∙ one_back PhoneNumber string text_read s.phone_number (λ t is. refl)) i;
-      phone_number_verified = (ap (plain true flag_read) (own_is PhoneNumberVerified) ∙ one_back PhoneNumberVerified boolean flag_read s.phone_number_verified (λ b is. refl)) i;
-      address = (ap (plain true address_read) (own_is Address) ∙ one_back Address address_data address_read s.address (λ a is. held_back address_read (one Address (address_data a)) a refl (address_fits a is))) i;
-      updated_at = (ap (plain true moment_read) (own_is UpdatedAt) ∙ one_back UpdatedAt seconds_data moment_read s.updated_at (λ n is. held_back moment_read (one UpdatedAt (seconds_data n)) n refl (moment_fits n (whole n is)))) i;
+      name = (ap (λ ms. unless_empty (variants text_kind ms)) (own_is Name) ∙ variants_back gender_read text_of Name name_named s.name r.name) i;
+      given_name = (ap (λ ms. unless_empty (variants text_kind ms)) (own_is GivenName) ∙ variants_back gender_read text_of GivenName given_name_named s.given_name r.given_name) i;
+      family_name = (ap (λ ms. unless_empty (variants text_kind ms)) (own_is FamilyName) ∙ variants_back gender_read text_of FamilyName family_name_named s.family_name r.family_name) i;
+      middle_name = (ap (λ ms. unless_empty (variants text_kind ms)) (own_is MiddleName) ∙ variants_back gender_read text_of MiddleName middle_name_named s.middle_name r.middle_name) i;
+      nickname = (ap (λ ms. unless_empty (variants text_kind ms)) (own_is Nickname) ∙ variants_back gender_read text_of Nickname nickname_named s.nickname r.nickname) i;
+      preferred_username = (ap (plain text_kind) (own_is PreferredUsername) ∙ one_back PreferredUsername string text_kind s.preferred_username (λ t is. refl)) i;
+      profile = (ap (λ ms. unless_empty (variants text_kind ms)) (own_is Profile) ∙ variants_back gender_read text_of Profile profile_named s.profile r.profile) i;
+      picture = (ap (λ ms. unless_empty (variants text_kind ms)) (own_is Picture) ∙ variants_back gender_read text_of Picture picture_named s.picture r.picture) i;
+      website = (ap (λ ms. unless_empty (variants text_kind ms)) (own_is Website) ∙ variants_back gender_read text_of Website website_named s.website r.website) i;
+      email = (ap (plain text_kind) (own_is Email) ∙ one_back Email string text_kind s.email (λ t is. refl)) i;
+      email_verified = (ap (plain flag_kind) (own_is EmailVerified) ∙ one_back EmailVerified boolean flag_kind s.email_verified (λ b is. refl)) i;
+      gender = (ap (plain gender_read) (own_is Gender) ∙ one_back Gender gender_data gender_read s.gender (λ g is. held_back gender_read (one Gender (gender_data g)) g (not_null (gender_data g) (gender_there g).0) (gender_fits g))) i;
+      birthday = (ap (plain text_kind) (own_is Birthday) ∙ one_back Birthday string text_kind s.birthday (λ t is. refl)) i;
+      birthdate = (ap (plain text_kind) (own_is Birthdate) ∙ one_back Birthdate string text_kind s.birthdate (λ t is. refl)) i;
+      zoneinfo = (ap (plain text_kind) (own_is Zoneinfo) ∙ one_back Zoneinfo string text_kind s.zoneinfo (λ t is. refl)) i;
+      locale = (ap (plain text_kind) (own_is Locale) ∙ one_back Locale string text_kind s.locale (λ t is. refl)) i;
+      phone_number = (ap (plain text_kind) (own_is PhoneNumber) ∙ one_back PhoneNumber string text_kind s.phone_number (λ t is. refl)) i;
+      phone_number_verified = (ap (plain flag_kind) (own_is PhoneNumberVerified) ∙ one_back PhoneNumberVerified boolean flag_kind s.phone_number_verified (λ b is. refl)) i;
+      address = (ap (plain address_kind) (own_is Address) ∙ one_back Address address_data address_kind s.address (λ a is. held_back address_kind (one Address (address_data a)) a refl (address_fits a is))) i;
+      updated_at = (ap (plain moment_kind) (own_is UpdatedAt) ∙ one_back UpdatedAt seconds_data moment_kind s.updated_at (λ n is. held_back moment_kind (one UpdatedAt (seconds_data n)) n refl (moment_fits n (whole n is)))) i;
     }
 
     -- what is written is read back
     pub reads_back : claims_of gender_read (seen (written gender_data s)) ≡ Ok s
     reads_back =
         let clean : first_fault gender_read members ≡ None = no_fault key same (judge gender_read) (fault_at gender_read) parts are_parts judges all_claims (apart_from key same (judge gender_read) (fault_at gender_read) all_claims refl) in
-        let subject : plain false text_read (own Subject members) ≡ Some s.subject = ap (plain false text_read) (own_is Subject) in
+        let subject : first_value text_kind (own Subject members) ≡ Some s.subject = ap (first_value text_kind) (own_is Subject) in
         ap (claims_of gender_read) (map_flat (read_with text_of) (claim_members gender_data s) all_claims)
         ∙ ap (λ o. unless_refused gender_read o members) clean
-        ∙ ap (λ o. complete gender_read o members) subject
+        ∙ ap (λ o. at_place (length members) (complete gender_read o members)) subject
         ∙ ap Ok claims_back

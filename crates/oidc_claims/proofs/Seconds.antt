@@ -2,8 +2,7 @@
 use Rattle.std.proofs.Common.{◌≡◌, ℕ, suc, ◌+◌, ◌*◌, ◌/◌, ℤ, pos, negsuc, ◌*ℤ◌, neg_ℤ, Bool, true, false, cond, Some, None, sym, ap, ◌∙◌, arith}
 use Rattle.std.proofs.Math.IntN.{pos-*ℤ-pos, negsuc-*ℤ-pos, negsuc-eq, pos-+ℤ-pos, one}
 use Rattle.std.specs.Int.{int_div_euclid}
-use Rattle.oidc_claims.specs.Kinds.{moment_at}
-use Rattle.oidc_claims.specs.Written.{seconds_of}
+use Rattle.oidc_readers.specs.Moments.{moment_at, seconds_of}
 
 neg_one_more : (n : ℕ) → neg_ℤ (pos (n + 1)) ≡ negsuc n
 unfolding one

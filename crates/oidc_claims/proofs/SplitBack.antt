@@ -1,5 +1,5 @@
 -- Claims are read back from the text of the object that they are written as.
-use Rattle.std.proofs.Common.{◌≡◌, ◌≤◌, ℕ, zero, suc, List, [], ◌∷◌, ◌++◌, drop, All, Option, None, Some, option_map, Result, Ok, ap, ◌∙◌, arith}
+use Rattle.std.proofs.Common.{◌≡◌, ◌≤◌, ℕ, zero, suc, List, [], ◌∷◌, ◌++◌, drop, All, Option, None, Some, option_map, Result, Ok, ap, sym, subst, ◌∙◌, arith}
 use Rattle.std.specs.List.{flat_map}
 use Rattle.serde_json.specs.Data.{Data, members_depth}
 use Rattle.serde_json.specs.Written.{compact_text}
@@ -15,8 +15,8 @@ use Rattle.oidc_claims.specs.Seen.{SeenClaims}
 use Rattle.oidc_claims.specs.Gender.{GenderReadsBack, GenderIsValue}
 use Rattle.oidc_claims.specs.Table.{all_claims}
 use Rattle.oidc_claims.specs.Standard.{claims_of}
-use Rattle.oidc_claims.specs.Written.{written, claim_members, plain_member, address_members, address_data}
-use Rattle.oidc_claims.specs.RoundTrip.{IsInRange}
+use Rattle.oidc_claims.specs.Write.{written, claim_members, plain_member, address_members, address_data}
+use Rattle.oidc_claims.specs.Write.{IsInRange, GivesClaims}
 use Rattle.oidc_claims.proofs.MayStand.{EachStands, address_whole, address_shallow, written_stands}
 use Rattle.oidc_claims.proofs.Standing.{AddressStands}
 use Rattle.oidc_claims.proofs.ReadsBack.{reads_back}
@@ -78,3 +78,8 @@ module _
       let may = all_of (written gender_data s) (may_be_written (written gender_data s) (written_stands gender_data gender_there s range) texts) in
       ap (option_map (claims_of gender_read)) (written_split_back (written gender_data s) may)
       ∙ ap Some (reads_back gender_read gender_data gender_back gender_there (λ m. compact_text m.value) s range (address_back s.address _ (behind (claim_members gender_data s) 19 all_claims texts)))
+
+  -- the same of a list that is what the claims are written as
+  pub gives_claims : (s : SeenClaims GC) (members : List OutSeen) → members ≡ written gender_data s → All IsUtf8Member members → IsInRange s → GivesClaims gender_read members s
+  gives_claims s members is utf8 range =
+      subst (λ members. GivesClaims gender_read members s) (sym is) (split_reads_back s range (subst (All IsUtf8Member) is utf8))

@@ -5,7 +5,7 @@ use Rattle.oidc_members.specs.Objects.{members_of}
 use Rattle.oidc_claims.specs.declared.claim.Claim.TheVariants.{Address}
 use Rattle.oidc_claims.specs.declared.claims.address.AddressClaim.{AddressClaim}
 use Rattle.oidc_claims.specs.Table.{name_of}
-use Rattle.oidc_claims.specs.Written.{address_members, address_data}
+use Rattle.oidc_claims.specs.Write.{address_members, address_data}
 
 abbrev pub read_with : (OutSeen → List ℕ) → OutSeen → SeenMember
 read_with text_of m = record { name = m.name; value = m.value; text = text_of m }

@@ -1,16 +1,15 @@
 -- the tags that came are those of the members that came
-use Rattle.std.proofs.Common.{◌≡◌, ℕ, List, [], ◌∷◌, ◌++◌, Option, Some, refl, sym, ap, ◌∙◌, cond, Bool, true, false, ◌||◌, is_some, fold, Result}
+use Rattle.std.proofs.Common.{◌≡◌, ℕ, List, [], ◌∷◌, ◌++◌, Option, Some, refl, sym, ap, ◌∙◌, cond, Bool, true, false, ◌||◌, is_some, fold}
 use Rattle.std.specs.List.{list_any}
 use Rattle.std.specs.FinMap as finite
 use Rattle.std.specs.Ordering.{is_eq}
 use Rattle.std.proofs.lemmas.List.Sums.{fold_push}
-use Rattle.oidc_types.specs.Variants.{Variants, tag_cmp}
-use Rattle.oidc_types.proofs.Entries.{tags_total}
+use Rattle.oidc_types.specs.{Variants, tag_cmp}
+use Rattle.oidc_types.proofs.Theorems.{tags_total}
 use Rattle.oidc_members.specs.Seen.{SeenMember}
-use Rattle.oidc_members.specs.declared.refusal.Refusal.{Refusal}
 use Rattle.oidc_claims.specs.Table.{tag_of}
-use Rattle.oidc_claims.specs.Kinds.{held}
-use Rattle.oidc_claims.specs.Claims.{same_tag, variants, with_value}
+use Rattle.oidc_readers.specs.Kinds.{Kind}
+use Rattle.oidc_claims.specs.Claims.{same_tag, held, variants, with_value}
 use Rattle.oidc_claims.specs.Slots.{tags_of}
 
 some_cond : {V : Type 0} (b : Bool) (v : V) (o : Option V) → is_some (cond b (Some v) o) ≡ (b || is_some o)
@@ -46,6 +45,6 @@ seen_any m ms =
 pub tags_push : (ms : List SeenMember) (m : SeenMember) → tags_of (ms ++ m ∷ []) ≡ finite.insert (tags_of ms) (tag_of m.name) tt
 tags_push ms m = fold_push (λ tags m. finite.insert tags (tag_of m.name) tt) finite.empty ms m
 
-pub variants_push : {V : Type 0} (optional : Bool) (read : SeenMember → Result V Refusal) (ms : List SeenMember) (m : SeenMember)
-    → variants optional read (ms ++ m ∷ []) ≡ with_value (variants optional read ms) (tag_of m.name) (held optional read m)
-variants_push optional read ms m = fold_push (λ values m. with_value values (tag_of m.name) (held optional read m)) finite.empty ms m
+pub variants_push : {V : Type 0} (kind : Kind V) (ms : List SeenMember) (m : SeenMember)
+    → variants kind (ms ++ m ∷ []) ≡ with_value (variants kind ms) (tag_of m.name) (held kind m)
+variants_push kind ms m = fold_push (λ values m. with_value values (tag_of m.name) (held kind m)) finite.empty ms m

@@ -1,29 +1,32 @@
 -- A claim in several languages reads back.
-use Rattle.std.proofs.Common.{◌≡◌, ◌≢◌, ℕ, List, [], ◌∷◌, ◌++◌, map, fold, Option, None, Some, Result, Bool, true, false, not, ◌&&◌, ◌||◌, cond, refl, sym, ap, subst, ◌∙◌, append_assoc, append-nil, is_some, length, arith}
+use Rattle.std.proofs.Common.{◌≡◌, ◌≢◌, ℕ, List, [], ◌∷◌, ◌++◌, map, filter, fold, Option, None, Some, Bool, true, false, ◌&&◌, ◌||◌, cond, refl, sym, ap, subst, ◌∙◌, append_assoc, append-nil, length, arith}
 use Rattle.std.specs.Prelude.{T}
 use Rattle.std.specs.FinMap as finite
 use Rattle.std.specs.FinMap.Entries.{is_sorted, below_all}
 use Rattle.std.specs.List.{list_any}
+use Rattle.std.specs.Option.{option_map_or}
 use Rattle.std.specs.Str.{bytes_eq}
 use Rattle.std.specs.declared.cmp.Ordering.{Ordering}
 use Rattle.std.specs.declared.cmp.Ordering.TheVariants.{Equal, Less, Greater}
 use Rattle.std.specs.Ordering.{is_lt, is_eq}
 use Rattle.std.specs.Cmp.{eq_by_cmp_equiv}
-use Rattle.oidc_types.specs.Variants.{Variants, tag_cmp}
-use Rattle.oidc_types.proofs.Entries.{tags_total}
-use Rattle.oidc_types.proofs.Copies.{push, later, remade}
+use Rattle.oidc_types.specs.{Variants, tag_cmp}
+use Rattle.oidc_types.proofs.Theorems.{tags_total}
+use Rattle.oidc_types.proofs.Theorems.{from_entries-append, append-next, from_entries-entries}
 use Rattle.oidc_members.specs.Seen.{SeenMember, OutSeen}
 use Rattle.oidc_members.specs.declared.refusal.Refusal.{Refusal}
-use Rattle.oidc_members.specs.declared.refusal.ParseKind.TheVariants.{Duplicate, UnexpectedTag}
+use Rattle.oidc_members.specs.declared.refusal.ParseKind.TheVariants.{Duplicate}
+use Rattle.oidc_readers.specs.Kinds.{Kind, of_member, text_kind}
+use Rattle.oidc_readers.specs.Fields.{is_nil}
 use Rattle.oidc_claims.specs.declared.claim.Claim.{Claim}
 use Rattle.oidc_claims.specs.declared.claim.ClaimKind.TheVariants as kind
-use Rattle.oidc_claims.specs.Table.{name_of, claim_of, is_localized, is_optional, kind_of, base_of, tag_of}
-use Rattle.oidc_claims.specs.Kinds.{of_member, text_read, held, misfit}
-use Rattle.oidc_claims.specs.Claims.{fault_of_kind, fault_at, same_tag, with_value, variants, unless_empty, is_nil}
-use Rattle.oidc_claims.specs.Written.{with_tag, variant_member, variant_members}
-use Rattle.oidc_claims.specs.RoundTrip.{IsTag, AreTagged, HasVariants}
+use Rattle.oidc_claims.specs.Table.{name_of, claim_of, kind_of, base_of, tag_of}
+use Rattle.oidc_claims.specs.Claims.{own, fault_of_kind, fault_at, same_tag, held, with_value, variants, unless_empty}
+use Rattle.oidc_claims.specs.Write.{with_tag, variant_member, variant_members}
+use Rattle.oidc_claims.specs.Write.{IsTag, AreTagged, HasVariants}
 use Rattle.oidc_claims.proofs.Standing.{read_with}
 use Rattle.oidc_claims.proofs.Apart.{IsPart}
+use Rattle.oidc_claims.proofs.Moves.{is_of_named}
 
 -- ---- the members of a claim, as parts of the whole list
 
@@ -33,11 +36,15 @@ key m = claim_of (base_of m.name)
 abbrev pub same : Claim → Claim → Bool
 same a b = bytes_eq (name_of a) (name_of b)
 
-abbrev pub judge : {GC : Type 0} → (SeenMember → Result GC Refusal) → Claim → List SeenMember → SeenMember → Option Refusal
-judge gender_read c = fault_of_kind gender_read (kind_of c) c
+abbrev pub judge : {GC : Type 0} → Kind GC → Claim → List SeenMember → SeenMember → Option Refusal
+judge gender_read c = fault_of_kind gender_read (kind_of c)
 
-abbrev pub IsClaimPart : {GC : Type 0} → (SeenMember → Result GC Refusal) → Claim → List SeenMember → List SeenMember → Type 0
+abbrev pub IsClaimPart : {GC : Type 0} → Kind GC → Claim → List SeenMember → List SeenMember → Type 0
 IsClaimPart gender_read = IsPart key same (judge gender_read) (fault_at gender_read)
+
+-- the members of a claim, by the key
+pub keyed : (c : Claim) (ms : List SeenMember) → own c ms ≡ filter (λ m. option_map_or (λ other. same c other) (key m) false) ms
+keyed c ms = λ i. filter (λ m. is_of_named c m i) ms
 
 -- ---- tags in order
 
@@ -72,21 +79,17 @@ unseen (d ∷ done) rest e h =
 
 -- what is known of a localized claim's name
 pub record Named (c : Claim) : Type 0 where
-  pub localized : is_localized c ≡ true
-  pub optional : is_optional c ≡ true
-  pub is_text : kind_of c ≡ kind.Text
+  pub is_text : kind_of c ≡ kind.LocalizedText
   pub is_base : (tag : Option (List ℕ)) → claim_of (base_of (with_tag (name_of c) tag)) ≡ Some c
   pub is_tag : (tag : Option (List ℕ)) → IsTag tag → tag_of (with_tag (name_of c) tag) ≡ tag
 
-module _ {GC : Type 0} (gender_read : SeenMember → Result GC Refusal) (text_of : OutSeen → List ℕ) (c : Claim) (named : Named c) where
+module _ {GC : Type 0} (gender_read : Kind GC) (text_of : OutSeen → List ℕ) (c : Claim) (named : Named c) where
   abbrev member : Option (List ℕ) × List ℕ → SeenMember
   member e = read_with text_of (variant_member c e)
 
   fits : (e : Option (List ℕ) × List ℕ) (before : List SeenMember) → list_any (same_tag (member e)) before ≡ false → judge gender_read c before (member e) ≡ None
   fits e before new =
-      ap (λ k. fault_of_kind gender_read k c before (member e)) named.is_text
-      ∙ (λ i. cond (cond (named.localized i) (list_any (same_tag (member e)) before) (not (is_nil before))) (Some (of_member Duplicate (member e)))
-      (cond (not (named.localized i) && is_some (tag_of (member e).name)) (Some (of_member UnexpectedTag (member e))) (misfit (named.optional i) text_read (member e))))
+      ap (λ k. fault_of_kind gender_read k before (member e)) named.is_text
       ∙ ap (λ b. cond b (Some (of_member Duplicate (member e))) None) new
 
   same_tags : (done : List (Option (List ℕ) × List ℕ)) (e : Option (List ℕ) × List ℕ) → AreTagged done → IsTag e.0
@@ -112,12 +115,12 @@ module _ {GC : Type 0} (gender_read : SeenMember → Result GC Refusal) (text_of
   )
 
   fold_back : (all : Variants (List ℕ)) (done es : List (Option (List ℕ) × List ℕ)) → finite.entries all ≡ done ++ es → AreTagged es
-      → fold (λ values m. with_value values (tag_of m.name) (held true text_read m)) (finite.from_entries done) (map member es) ≡ all
-  fold_back all done [] is t = ap finite.from_entries (sym (is ∙ append-nil done)) ∙ remade all
+      → fold (λ values m. with_value values (tag_of m.name) (held text_kind m)) (finite.from_entries done) (map member es) ≡ all
+  fold_back all done [] is t = ap finite.from_entries (sym (is ∙ append-nil done)) ∙ from_entries-entries all
   fold_back all done (e ∷ es) is t =
-      ap (λ values. fold (λ values m. with_value values (tag_of m.name) (held true text_read m)) values (map member es))
-      (ap (λ tag. finite.insert (finite.from_entries done) tag e.1) (named.is_tag e.0 t.0) ∙ sym (push all done es (e ∷ es) e is refl))
-      ∙ fold_back all (done ++ e ∷ []) es (later done es (e ∷ es) (finite.entries all) e is refl) t.1
+      ap (λ values. fold (λ values m. with_value values (tag_of m.name) (held text_kind m)) values (map member es))
+      (ap (λ tag. finite.insert (finite.from_entries done) tag e.1) (named.is_tag e.0 t.0) ∙ sym (from_entries-append all done es (e ∷ es) e is refl))
+      ∙ fold_back all (done ++ e ∷ []) es (append-next done es (e ∷ es) (finite.entries all) e is refl) t.1
 
   pub variants_are_part : (o : Option (Variants (List ℕ))) → HasVariants o → IsClaimPart gender_read c [] (map (read_with text_of) (variant_members c o))
   variants_are_part None h = tt
@@ -141,10 +144,10 @@ module _ {GC : Type 0} (gender_read : SeenMember → Result GC Refusal) (text_of
       ap (λ b. cond b None (Some finite.empty))
       (nil_of_length (finite.entries finite.empty) (sym (finite.len-entries finite.empty) ∙ finite.len-empty tag_cmp (List ℕ)))
 
-  pub variants_back : (o : Option (Variants (List ℕ))) → HasVariants o → unless_empty (variants true text_read (map (read_with text_of) (variant_members c o))) ≡ o
+  pub variants_back : (o : Option (Variants (List ℕ))) → HasVariants o → unless_empty (variants text_kind (map (read_with text_of) (variant_members c o))) ≡ o
   variants_back None h = nothing_back
   variants_back (Some all) h =
-      ap (λ ms. unless_empty (variants true text_read ms)) (sym (mapped (finite.entries all)))
+      ap (λ ms. unless_empty (variants text_kind ms)) (sym (mapped (finite.entries all)))
       ∙ ap unless_empty (fold_back all [] (finite.entries all) refl h.1)
       ∙ ap (λ b. cond b None (Some all)) (not_nil (finite.entries all) h.0)
     where

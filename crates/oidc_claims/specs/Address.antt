@@ -1,20 +1,18 @@
 -- The claim `address`: an object of optional texts (OpenID Connect Core 1.0 section 5.1.1).
-use Rattle.std.specs.Prelude.{ℕ, List, [], ◌∷◌, Bool, true, false, cond, codes, filter, is_some, Option, Some, None, Result, Ok, Err}
-use Rattle.std.specs.List.{find}
-use Rattle.std.specs.Option.{option_map_or}
-use Rattle.std.specs.Str.{bytes_eq}
+use Rattle.std.specs.Prelude.{ℕ, List, [], ◌∷◌, codes, if◌then◌else◌, is_some, Option, Result, Ok, Err}
 use Rattle.serde_json.specs.Find.{as_object}
 use Rattle.oidc_members.specs.Seen.{SeenMember}
 use Rattle.oidc_members.specs.Objects.{split_of}
 use Rattle.oidc_members.specs.declared.refusal.Refusal.{Refusal}
-use Rattle.oidc_members.specs.declared.refusal.ParseKind.TheVariants.{Duplicate, WrongType}
-use Rattle.oidc_readers.specs.Passes.{first_by}
+use Rattle.oidc_members.specs.declared.refusal.ParseKind.TheVariants.{WrongType}
+use Rattle.oidc_readers.specs.Kinds.{Kind, of_member, text_kind, or_null}
+use Rattle.oidc_readers.specs.Fields.{Field, field, judged}
+use Rattle.oidc_readers.specs.Records.{◌>>=◌, Rule, by_table, faultless, optional}
 use Rattle.oidc_claims.specs.declared.claims.address.AddressClaim.{AddressClaim}
 use Rattle.oidc_claims.specs.declared.claims.part.AddressPart.{AddressPart}
 use Rattle.oidc_claims.specs.declared.claims.part.AddressPart.TheVariants.{Formatted, StreetAddress, Locality, Region, PostalCode, Country}
-use Rattle.oidc_claims.specs.Kinds.{of_member, text_read, misfit, plain}
 
--- ---- the parts
+-- ---- the table
 
 abbrev pub part_name : AddressPart → List ℕ
 part_name Formatted = codes "formatted"
@@ -24,56 +22,41 @@ part_name Region = codes "region"
 part_name PostalCode = codes "postal_code"
 part_name Country = codes "country"
 
-abbrev pub all_parts : List AddressPart
-all_parts = Formatted ∷ StreetAddress ∷ Locality ∷ Region ∷ PostalCode ∷ Country ∷ []
-
--- the part of that name
-abbrev pub part_of : List ℕ → Option AddressPart
-part_of name = find (λ part. bytes_eq (part_name part) name) all_parts
-
-abbrev pub is_part : AddressPart → SeenMember → Bool
-is_part part m = option_map_or (λ other. bytes_eq (part_name part) (part_name other)) (part_of m.name) false
-
--- the members that are a part
-abbrev pub own_part : AddressPart → List SeenMember → List SeenMember
-own_part part members = filter (is_part part) members
-
--- ---- faults
-
--- A part may stand once, and is a text or null.
-abbrev pub part_judged : List SeenMember → SeenMember → Option Refusal
-part_judged [] m = misfit true text_read m
-part_judged (n ∷ ns) m = Some (of_member Duplicate m)
-
-abbrev pub part_fault_by : Option AddressPart → List SeenMember → SeenMember → Option Refusal
-part_fault_by None before m = None
-part_fault_by (Some part) before m = part_judged (own_part part before) m
+-- A part is a text or null.
+abbrev pub part_field : AddressPart → Field (Option (List ℕ))
+part_field part = field (part_name part) (or_null text_kind)
 
 -- why a member of an address is faulty, after those before it; other members may be anything
-abbrev pub part_fault : List SeenMember → SeenMember → Option Refusal
-part_fault before m = part_fault_by (part_of m.name) before m
+abbrev pub address_rule : Rule
+address_rule =
+    by_table
+    (judged (part_field Formatted)
+    ∷ judged (part_field StreetAddress)
+    ∷ judged (part_field Locality)
+    ∷ judged (part_field Region)
+    ∷ judged (part_field PostalCode)
+    ∷ judged (part_field Country)
+    ∷ [])
 
 -- ---- the address
 
 unfoldable pub address_of : List SeenMember → AddressClaim
 address_of members = record {
-  formatted = plain true text_read (own_part Formatted members);
-  street_address = plain true text_read (own_part StreetAddress members);
-  locality = plain true text_read (own_part Locality members);
-  region = plain true text_read (own_part Region members);
-  postal_code = plain true text_read (own_part PostalCode members);
-  country = plain true text_read (own_part Country members);
+  formatted = optional (part_field Formatted) members;
+  street_address = optional (part_field StreetAddress) members;
+  locality = optional (part_field Locality) members;
+  region = optional (part_field Region) members;
+  postal_code = optional (part_field PostalCode) members;
+  country = optional (part_field Country) members;
 }
 
 -- the address, or why its first faulty member is refused
-abbrev pub address_unless : Option (ℕ × Refusal) → List SeenMember → Result AddressClaim Refusal
-address_unless (Some fault) members = Err fault.1
-address_unless None members = Ok (address_of members)
-
-abbrev pub address_in : Result (List SeenMember) Refusal → Result AddressClaim Refusal
-address_in (Err refusal) = Err refusal
-address_in (Ok members) = address_unless (first_by part_fault [] members) members
+abbrev pub address_in : List SeenMember → Result AddressClaim Refusal
+address_in members = faultless address_rule members >>= λ u. Ok (address_of members)
 
 -- An object, whose own members are those of its text.
-abbrev pub address_read : SeenMember → Result AddressClaim Refusal
-address_read m = cond (is_some (as_object m.value)) (address_in (split_of m.text)) (Err (of_member WrongType m))
+abbrev pub address_kind : Kind AddressClaim
+address_kind m =
+    if is_some (as_object m.value)
+    then split_of m.text >>= address_in
+    else Err (of_member WrongType m)

@@ -1,4 +1,4 @@
--- The claim `gender` (OpenID Connect Core 1.0 section 5.1), and the laws of a type that tells it.
+-- The claim `gender` (OpenID Connect Core 1.0 section 5.1), and the laws of its type.
 use Rattle.std.specs.Prelude.{◌≡◌, ◌≢◌, Result, Ok}
 use Rattle.serde_json.specs.Data.{Data, null}
 use Rattle.oidc_members.specs.Seen.{SeenMember}

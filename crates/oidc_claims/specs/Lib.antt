@@ -1,20 +1,20 @@
-pub mod Additional
+-- The claims and their table
+pub mod Table
+pub mod Seen
+pub mod Home
+-- What is read
 pub mod Address
 pub mod Claims
-pub mod Gender
-pub mod Home
-pub mod Kinds
-pub mod Others
-pub mod PutParts
-pub mod Reader
-pub mod RoundTrip
-pub mod SameClaims
-pub mod SameData
-pub mod SameLaws
-pub mod Seen
-pub mod SeenCode
-pub mod Slots
-pub mod Sound
 pub mod Standard
-pub mod Table
-pub mod Written
+pub mod Gender
+pub mod Additional
+pub mod Others
+-- What is written
+pub mod Write
+-- Equality
+pub mod SameClaims
+pub mod Same
+-- For private clauses
+pub mod Reader
+pub mod Slots
+pub mod SeenCode

@@ -1,59 +1,54 @@
 -- What the readers of a list of members keep.
-use Rattle.std.specs.Prelude.{ℕ, List, Result, Ok, Err, Option, None, Some, codes, true, false}
+use Rattle.std.specs.Prelude.{ℕ, List}
+use Rattle.std.specs.Option.{option_flatten}
 use Rattle.oidc_members.specs.Seen.{SeenMember}
-use Rattle.oidc_members.specs.declared.refusal.Refusal.{Refusal}
-use Rattle.oidc_members.specs.declared.refusal.ParseKind.TheVariants.{Missing}
+use Rattle.oidc_readers.specs.Kinds.{Kind, text_kind, flag_kind, moment_kind, or_null}
+use Rattle.oidc_readers.specs.Slots.{slot, slot_among}
 use Rattle.oidc_claims.specs.declared.claim.Claim.{Claim}
 use Rattle.oidc_claims.specs.declared.claim.Claim.TheVariants.{Subject, Name, GivenName, FamilyName, MiddleName, Nickname, PreferredUsername, Profile, Picture, Website, Email, EmailVerified, Gender, Birthday, Birthdate, Zoneinfo, Locale, PhoneNumber, PhoneNumberVerified, Address, UpdatedAt}
-use Rattle.oidc_claims.specs.declared.claims.part.AddressPart.{AddressPart}
 use Rattle.oidc_claims.specs.declared.claims.part.AddressPart.TheVariants as part
 use Rattle.oidc_claims.specs.declared.claims.part.AddressReader.{AddressReader}
 use Rattle.oidc_claims.specs.declared.claims.reader.ClaimsReader.{ClaimsReader}
 use Rattle.oidc_claims.specs.Seen.{SeenClaims}
-use Rattle.oidc_claims.specs.Kinds.{text_read, flag_read, moment_read}
-use Rattle.oidc_claims.specs.Address.{address_read, own_part}
+use Rattle.oidc_claims.specs.Address.{part_field, address_kind}
 use Rattle.oidc_claims.specs.Claims.{own, unless_empty}
-use Rattle.oidc_claims.specs.Slots.{once_slot, languages_slot}
+use Rattle.oidc_claims.specs.Slots.{languages_slot}
 
--- the slots of an address's parts, of the members of each
-abbrev pub address_slots : (AddressPart → List SeenMember) → AddressReader
-address_slots f = record {
-  formatted = once_slot true text_read (f part.Formatted);
-  street_address = once_slot true text_read (f part.StreetAddress);
-  locality = once_slot true text_read (f part.Locality);
-  region = once_slot true text_read (f part.Region);
-  postal_code = once_slot true text_read (f part.PostalCode);
-  country = once_slot true text_read (f part.Country);
+abbrev pub address_reader_of : List SeenMember → AddressReader
+address_reader_of members = record {
+  formatted = slot (part_field part.Formatted) members;
+  street_address = slot (part_field part.StreetAddress) members;
+  locality = slot (part_field part.Locality) members;
+  region = slot (part_field part.Region) members;
+  postal_code = slot (part_field part.PostalCode) members;
+  country = slot (part_field part.Country) members;
 }
 
-unfoldable pub address_reader_of : List SeenMember → AddressReader
-address_reader_of members = address_slots (λ part. own_part part members)
-
-module _ {GC : Type 0} (gender_read : SeenMember → Result GC Refusal) where
+module _ {GC : Type 0} (gender_read : Kind GC) where
   -- the slots of the claims, of the members of each
   abbrev pub claim_slots : (Claim → List SeenMember) → ClaimsReader GC
   claim_slots f = record {
-    subject = once_slot false text_read (f Subject);
-    name = languages_slot true text_read (f Name);
-    given_name = languages_slot true text_read (f GivenName);
-    family_name = languages_slot true text_read (f FamilyName);
-    middle_name = languages_slot true text_read (f MiddleName);
-    nickname = languages_slot true text_read (f Nickname);
-    preferred_username = once_slot true text_read (f PreferredUsername);
-    profile = languages_slot true text_read (f Profile);
-    picture = languages_slot true text_read (f Picture);
-    website = languages_slot true text_read (f Website);
-    email = once_slot true text_read (f Email);
-    email_verified = once_slot true flag_read (f EmailVerified);
-    gender = once_slot true gender_read (f Gender);
-    birthday = once_slot true text_read (f Birthday);
-    birthdate = once_slot true text_read (f Birthdate);
-    zoneinfo = once_slot true text_read (f Zoneinfo);
-    locale = once_slot true text_read (f Locale);
-    phone_number = once_slot true text_read (f PhoneNumber);
-    phone_number_verified = once_slot true flag_read (f PhoneNumberVerified);
-    address = once_slot true address_read (f Address);
-    updated_at = once_slot true moment_read (f UpdatedAt);
+    subject = slot_among text_kind (f Subject);
+    name = languages_slot text_kind (f Name);
+    given_name = languages_slot text_kind (f GivenName);
+    family_name = languages_slot text_kind (f FamilyName);
+    middle_name = languages_slot text_kind (f MiddleName);
+    nickname = languages_slot text_kind (f Nickname);
+    preferred_username = slot_among (or_null text_kind) (f PreferredUsername);
+    profile = languages_slot text_kind (f Profile);
+    picture = languages_slot text_kind (f Picture);
+    website = languages_slot text_kind (f Website);
+    email = slot_among (or_null text_kind) (f Email);
+    email_verified = slot_among (or_null flag_kind) (f EmailVerified);
+    gender = slot_among (or_null gender_read) (f Gender);
+    birthday = slot_among (or_null text_kind) (f Birthday);
+    birthdate = slot_among (or_null text_kind) (f Birthdate);
+    zoneinfo = slot_among (or_null text_kind) (f Zoneinfo);
+    locale = slot_among (or_null text_kind) (f Locale);
+    phone_number = slot_among (or_null text_kind) (f PhoneNumber);
+    phone_number_verified = slot_among (or_null flag_kind) (f PhoneNumberVerified);
+    address = slot_among (or_null address_kind) (f Address);
+    updated_at = slot_among (or_null moment_kind) (f UpdatedAt);
   }
 
   unfoldable pub reader_of : List SeenMember → ClaimsReader GC
@@ -69,26 +64,19 @@ module _ {GC : Type 0} where
     family_name = unless_empty reader.family_name.values;
     middle_name = unless_empty reader.middle_name.values;
     nickname = unless_empty reader.nickname.values;
-    preferred_username = reader.preferred_username.value;
+    preferred_username = option_flatten reader.preferred_username.value;
     profile = unless_empty reader.profile.values;
     picture = unless_empty reader.picture.values;
     website = unless_empty reader.website.values;
-    email = reader.email.value;
-    email_verified = reader.email_verified.value;
-    gender = reader.gender.value;
-    birthday = reader.birthday.value;
-    birthdate = reader.birthdate.value;
-    zoneinfo = reader.zoneinfo.value;
-    locale = reader.locale.value;
-    phone_number = reader.phone_number.value;
-    phone_number_verified = reader.phone_number_verified.value;
-    address = reader.address.value;
-    updated_at = reader.updated_at.value;
+    email = option_flatten reader.email.value;
+    email_verified = option_flatten reader.email_verified.value;
+    gender = option_flatten reader.gender.value;
+    birthday = option_flatten reader.birthday.value;
+    birthdate = option_flatten reader.birthdate.value;
+    zoneinfo = option_flatten reader.zoneinfo.value;
+    locale = option_flatten reader.locale.value;
+    phone_number = option_flatten reader.phone_number.value;
+    phone_number_verified = option_flatten reader.phone_number_verified.value;
+    address = option_flatten reader.address.value;
+    updated_at = option_flatten reader.updated_at.value;
   }
-
-  abbrev pub finished_by : Option (List ℕ) → ClaimsReader GC → ℕ → Result (SeenClaims GC) (ℕ × Refusal)
-  finished_by None reader end = Err (end, record { kind = Missing; field = codes "sub" })
-  finished_by (Some subject) reader end = Ok (finished_claims reader subject)
-
-  abbrev pub finished : ClaimsReader GC → ℕ → Result (SeenClaims GC) (ℕ × Refusal)
-  finished reader end = finished_by reader.subject.value reader end

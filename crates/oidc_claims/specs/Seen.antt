@@ -1,6 +1,6 @@
 -- The standard claims as contracts see them (OpenID Connect Core 1.0 section 5.1).
 use Rattle.std.specs.Prelude.{ℕ, ℤ, Bool, List, Option, None}
-use Rattle.oidc_types.specs.Variants.{Variants}
+use Rattle.oidc_types.specs.{Variants}
 use Rattle.oidc_claims.specs.declared.claims.address.AddressClaim.{AddressClaim}
 
 -- A claim that isn't there is none. A moment is in nanoseconds since the Unix epoch.
@@ -27,7 +27,7 @@ pub record SeenClaims (Gender : Type 0) : Type 0 where
   pub address : Option AddressClaim
   pub updated_at : Option ℤ
 
--- the claims of a subject of whom nothing else is told
+-- the claims of a subject, with every other claim absent
 abbrev pub only_subject : {Gender : Type 0} → List ℕ → SeenClaims Gender
 only_subject subject = record {
   subject = subject;

@@ -1,7 +1,7 @@
 -- How the logic stores the standard claims: as the tuple of their fields. No clause speaks of it.
 use Rattle.std.specs.Prelude.{ℕ, ℤ, Bool, List, Option, refl}
 use Rattle.std.specs.Coded.{Coded, code_by, coded×, coded_option, coded_list, coded_ℕ, coded_ℤ, coded_bool}
-use Rattle.oidc_types.specs.Variants.{Variants, variants_code}
+use Rattle.oidc_types.specs.{Variants, variants_code}
 use Rattle.oidc_claims.specs.declared.claims.address.AddressClaim.{AddressClaim}
 use Rattle.oidc_claims.specs.Seen.{SeenClaims}
 

@@ -1,6 +1,6 @@
--- The table of the standard claims (OpenID Connect Core 1.0 section 5.1), and how a member's name is
--- cut into a claim's name and a language tag (section 5.2).
-use Rattle.std.specs.Prelude.{ℕ, ◌==◌, List, [], ◌∷◌, Bool, true, false, codes, Option, Some, None}
+-- The table of the standard claims (OpenID Connect Core 1.0 section 5.1), and how a member's name
+-- is cut into a claim's name and a language tag (section 5.2).
+use Rattle.std.specs.Prelude.{ℕ, ◌==◌, List, [], ◌∷◌, Bool, codes, Option, Some, None}
 use Rattle.std.specs.List.{find, before_first, after_first}
 use Rattle.std.specs.Str.{bytes_eq}
 use Rattle.oidc_claims.specs.declared.claim.Claim.{Claim}
@@ -33,19 +33,17 @@ name_of PhoneNumberVerified = codes "phone_number_verified"
 name_of Address = codes "address"
 name_of UpdatedAt = codes "updated_at"
 
--- the claims that may stand in several languages
-abbrev pub is_localized : Claim → Bool
-is_localized Name = true
-is_localized GivenName = true
-is_localized FamilyName = true
-is_localized MiddleName = true
-is_localized Nickname = true
-is_localized Profile = true
-is_localized Picture = true
-is_localized Website = true
-is_localized claim = false
-
+-- `sub` alone must be there and be no null; eight claims may stand in several languages.
 abbrev pub kind_of : Claim → ClaimKind
+kind_of Subject = kind.RequiredText
+kind_of Name = kind.LocalizedText
+kind_of GivenName = kind.LocalizedText
+kind_of FamilyName = kind.LocalizedText
+kind_of MiddleName = kind.LocalizedText
+kind_of Nickname = kind.LocalizedText
+kind_of Profile = kind.LocalizedText
+kind_of Picture = kind.LocalizedText
+kind_of Website = kind.LocalizedText
 kind_of EmailVerified = kind.Flag
 kind_of PhoneNumberVerified = kind.Flag
 kind_of UpdatedAt = kind.Moment
@@ -53,14 +51,13 @@ kind_of Address = kind.Address
 kind_of Gender = kind.Gender
 kind_of claim = kind.Text
 
--- `sub` alone is required
-abbrev pub is_optional : Claim → Bool
-is_optional Subject = false
-is_optional claim = true
-
 -- in the order in which they are written
 abbrev pub all_claims : List Claim
-all_claims = Subject ∷ Name ∷ GivenName ∷ FamilyName ∷ MiddleName ∷ Nickname ∷ PreferredUsername ∷ Profile ∷ Picture ∷ Website ∷ Email ∷ EmailVerified ∷ Gender ∷ Birthday ∷ Birthdate ∷ Zoneinfo ∷ Locale ∷ PhoneNumber ∷ PhoneNumberVerified ∷ Address ∷ UpdatedAt ∷ []
+all_claims =
+    Subject ∷ Name ∷ GivenName ∷ FamilyName ∷ MiddleName ∷ Nickname ∷ PreferredUsername
+    ∷ Profile ∷ Picture ∷ Website ∷ Email ∷ EmailVerified ∷ Gender
+    ∷ Birthday ∷ Birthdate ∷ Zoneinfo ∷ Locale
+    ∷ PhoneNumber ∷ PhoneNumberVerified ∷ Address ∷ UpdatedAt ∷ []
 
 -- the claim of that name
 abbrev pub claim_of : List ℕ → Option Claim

@@ -1,9 +1,11 @@
 //! The claims beside the standard ones (OpenID Connect Core 1.0 section 5.1.2).
 
 ghost use Rattle.std.specs.Prelude.{◌≡◌, List, Result, IfOk, IsTrue, refl};
+ghost use Rattle.std.specs.List.{All};
 ghost use Rattle.oidc_members.specs.Answers.{Answers};
 ghost use Rattle.oidc_members.specs.Seen.{SeenMember, OutSeen};
 ghost use Rattle.oidc_members.specs.declared.refusal.Refusal.{Refusal};
+ghost use Rattle.oidc_readers.specs.WrittenBack.{IsUtf8Member};
 ghost use Rattle.oidc_claims.specs.Additional.{are_additional, ReadsBack, StaysAdditional};
 
 use oidc_members::{Member, OutMember, ParseError};
@@ -27,10 +29,11 @@ pub trait AdditionalClaims: Drop {
         requires { IsTrue (are_additional members.now) }
         ensures answer { Answers (read_of members.now) result };
 
-    /// The members that stand for this value, in their order. `AllocError` is want of memory, the one
-    /// error.
+    /// The members that stand for this value, in their order. Their names and texts are UTF-8.
+    /// `AllocError` is want of memory, the one error.
     fn write(&self, alloc: Global) -> Result<Vec<OutMember>, AllocError>
-        ensures members { IfOk result (λ members. members.items ≡ write_of self.now) };
+        ensures members { IfOk result (λ members. members.items ≡ write_of self.now) }
+        ensures texts { IfOk result (λ members. All IsUtf8Member members.items) };
 
     // What is written reads back, from every list with those names and values.
     ghost reads_back: { ReadsBack read_of write_of };

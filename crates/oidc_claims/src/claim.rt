@@ -1,6 +1,6 @@
 // The table of the standard claims.
 ghost use Rattle.std.specs.Prelude.{◌≡◌};
-ghost use Rattle.oidc_claims.specs.Table.{name_of, is_localized, is_optional, kind_of, claim_of, base_of};
+ghost use Rattle.oidc_claims.specs.Table.{name_of, kind_of, claim_of, base_of};
 
 use crate::name::base_of_name;
 use oidc_members::Member;
@@ -52,11 +52,15 @@ pub(crate) enum Claim {
     UpdatedAt,
 }
 
-/// What a claim's value is.
+/// What a claim's value is. It may be null, but for a required text.
 #[derive(Clone, Copy, Debug, Drop, PartialEq, Eq)]
 pub(crate) enum ClaimKind {
+    /// A text that has to be there.
+    RequiredText,
     /// A text.
     Text,
+    /// A text, which may stand in several languages (OpenID Connect Core 1.0 section 5.2).
+    LocalizedText,
     /// True or false.
     Flag,
     /// A whole number of seconds since the Unix epoch.
@@ -122,35 +126,20 @@ impl Claim {
         }
     }
 
-    /// Whether it may be absent or null. `sub` alone may not.
-    pub fn is_optional(self) -> bool
-        ensures { result ≡ is_optional self }
-    {
-        !matches!(self, Claim::Subject)
-    }
-
-    /// Whether it may stand in several languages (OpenID Connect Core 1.0 section 5.2).
-    pub fn is_localized(self) -> bool
-        ensures { result ≡ is_localized self }
-    {
-        matches!(
-            self,
-            Claim::Name
-                | Claim::GivenName
-                | Claim::FamilyName
-                | Claim::MiddleName
-                | Claim::Nickname
-                | Claim::Profile
-                | Claim::Picture
-                | Claim::Website
-        )
-    }
-
     /// What its value is.
     pub fn kind(self) -> ClaimKind
         ensures { result ≡ kind_of self }
     {
         match self {
+            Claim::Subject => ClaimKind::RequiredText,
+            Claim::Name
+            | Claim::GivenName
+            | Claim::FamilyName
+            | Claim::MiddleName
+            | Claim::Nickname
+            | Claim::Profile
+            | Claim::Picture
+            | Claim::Website => ClaimKind::LocalizedText,
             Claim::EmailVerified | Claim::PhoneNumberVerified => ClaimKind::Flag,
             Claim::UpdatedAt => ClaimKind::Moment,
             Claim::Address => ClaimKind::Address,

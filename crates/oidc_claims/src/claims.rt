@@ -10,13 +10,11 @@ mod copies;
 mod part;
 mod reader;
 mod slots;
-#[cfg(test)]
-mod tests;
 mod values;
 
 pub use crate::claims::address::AddressClaim;
 use crate::claims::copies::{copied_address, copied_gender, copied_localized, copied_text};
-pub use crate::claims::reader::read_standard;
+pub use crate::claims::reader::{ClaimsReader, read_standard};
 use crate::gender::GenderClaim;
 use jiff::Timestamp;
 use oidc_types::{
@@ -31,7 +29,7 @@ use std::marker::Model;
 /// The standard claims. A contract sees them as the record of these claims, each absent or there; a
 /// moment is seen as nanoseconds since the Unix epoch.
 ///
-/// `GC` is the type that tells the gender. No getter, setter or comparison takes memory.
+/// `GC` is the type of the gender. No getter, setter or comparison takes memory.
 #[derive(Drop)]
 pub struct StandardClaims<GC: GenderClaim> {
     pub(super) subject: SubjectIdentifier,
@@ -514,8 +512,7 @@ impl<GC: GenderClaim + PartialEq> StandardClaims<GC> {
 
 /// Equal where each claim is, an absent one to an absent one.
 impl<GC: GenderClaim + PartialEq> PartialEq for StandardClaims<GC> {
-    ghost use Rattle.oidc_claims.specs.SameClaims.{same_claims};
-    ghost use Rattle.oidc_claims.specs.SameLaws.{claims_equality};
+    ghost use Rattle.oidc_claims.specs.SameClaims.{same_claims, claims_equality};
 
     ghost eq = { same_claims GC.eq };
 

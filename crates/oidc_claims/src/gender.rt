@@ -6,6 +6,7 @@ ghost use Rattle.serde_json.specs.View.{view};
 ghost use Rattle.oidc_members.specs.Answers.{Answers};
 ghost use Rattle.oidc_members.specs.Seen.{SeenMember};
 ghost use Rattle.oidc_members.specs.declared.refusal.Refusal.{Refusal};
+ghost use Rattle.oidc_readers.specs.WrittenBack.{HasTexts};
 ghost use Rattle.oidc_claims.specs.Gender.{GenderReadsBack, GenderIsValue};
 
 use oidc_members::{Member, ParseError, ParseKind, Refusal};
@@ -13,11 +14,8 @@ use oidc_types::CoreGenderClaim;
 use serde_json::Value;
 use std::alloc::{AllocError, Global};
 
-#[cfg(test)]
-mod tests;
-
-/// What a user's gender is told by. A value's meanings are what a member reads as, and what the
-/// value is written as.
+/// The type of a user's gender. Its meanings are what a member reads as, and what a value is written
+/// as.
 ///
 /// It may be let go, so that code which is generic over it can drop what it read.
 pub trait GenderClaim: Drop {
@@ -27,14 +25,16 @@ pub trait GenderClaim: Drop {
     // The value that is written.
     ghost write_of: { Self → Data };
 
-    /// Reads the value of the member. It is not asked about a null, which stands for an absent
-    /// claim. The answer is the meaning, with the kind and the field that it names, or `Memory`.
+    /// Reads the value of the member. The answer is the meaning, with the kind and the field that it
+    /// names, or `Memory`. For a null the answer counts for nothing: in claims it is an absent gender.
     fn read(alloc: Global, member: &Member) -> Result<Self, ParseError>
         ensures answer { Answers (read_of member.now) result };
 
-    /// The value that stands for this one. `AllocError` is want of memory, the one error.
+    /// The value that stands for this one, with UTF-8 texts. `AllocError` is want of memory, the one
+    /// error.
     fn write(&self, alloc: Global) -> Result<Value, AllocError>
-        ensures value { IfOk result (λ value. view value ≡ write_of self.now) };
+        ensures value { IfOk result (λ value. view value ≡ write_of self.now) }
+        ensures texts { IfOk result (λ value. HasTexts (view value)) };
 
     /// A copy, which equals its source. `AllocError` is want of memory, the one error.
     fn clone_in(&self, alloc: Global) -> Result<Self, AllocError>
@@ -53,14 +53,16 @@ impl GenderClaim for CoreGenderClaim {
     ghost use Rattle.std.proofs.Common.{ap, lit≤};
     ghost use Rattle.serde_json.specs.Find.{as_str};
     ghost use Rattle.serde_json.specs.Data.{string};
-    ghost use Rattle.oidc_claims.specs.Kinds.{text_read, or_refused, of_member};
+    ghost use Rattle.std.specs.Option.{ok_or};
+    ghost use Rattle.oidc_readers.specs.Kinds.{text_kind, of_member};
     ghost use Rattle.oidc_members.specs.declared.refusal.ParseKind.TheVariants.{WrongType};
 
-    ghost read_of = { text_read };
+    ghost read_of = { text_kind };
 
     ghost write_of = { string };
 
-    ghost reads_back = { λ _ member is. ap (λ value. or_refused (as_str value) (of_member WrongType member)) is };
+    ghost reads_back = { λ _ member is. ap
+        (λ value. ok_or (as_str value) (of_member WrongType member)) is };
 
     ghost written_is_value = { λ _. (λ e. Prim.cc, (tt, lit≤ tt)) };
 
@@ -74,6 +76,7 @@ impl GenderClaim for CoreGenderClaim {
         }
     }
 
+    #[tactic(auto, using(crate::proofs::Theorems::value_has_texts))]
     fn write(&self, alloc: Global) -> Result<Value, AllocError> {
         Ok(Value::String(String::from_str(alloc, self.as_str())?))
     }

@@ -7,9 +7,6 @@ ghost use Rattle.oidc_claims.specs.Home.{home_of};
 
 use crate::claim::Claim;
 
-#[cfg(test)]
-mod tests;
-
 /// What a member of claims is, by its name.
 #[derive(Clone, Copy, Debug, Drop, PartialEq, Eq)]
 pub enum Home {

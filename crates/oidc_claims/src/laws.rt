@@ -1,27 +1,24 @@
 //! What holds of the claims as a whole. Each function here says a law in its contract, and does
 //! nothing.
 
-ghost use Rattle.std.specs.Prelude.{◌≡◌, List, Some, Ok, IsTrue, map, option_map};
+ghost use Rattle.std.specs.Prelude.{◌≡◌, List, Ok, IsTrue, map};
 ghost use Rattle.std.specs.List.{All};
-ghost use Rattle.oidc_members.specs.Objects.{members_of};
 ghost use Rattle.oidc_members.specs.Seen.{SeenMember};
-ghost use Rattle.oidc_members.specs.Write.{object_text};
 ghost use Rattle.oidc_readers.specs.WrittenBack.{IsUtf8Member};
 ghost use Rattle.oidc_claims.specs.Additional.{are_additional, out_of};
 ghost use Rattle.oidc_claims.specs.Others.{Others, list_of, read_others};
-ghost use Rattle.oidc_claims.specs.RoundTrip.{IsInRange};
 ghost use Rattle.oidc_claims.specs.Seen.{SeenClaims};
-ghost use Rattle.oidc_claims.specs.Standard.{claims_of};
-ghost use Rattle.oidc_claims.specs.Written.{written};
+ghost use Rattle.oidc_claims.specs.Write.{written, IsInRange, GivesClaims};
 
 use crate::gender::GenderClaim;
 
-/// Claims that are written as an object's text are read back from it as equal claims. No claim in
-/// several languages may be without a value, no tag empty, and every moment is a whole second. The
-/// texts of what is written must be UTF-8, as the texts of a program always are.
+/// Claims that are written as an object's text are read back from it as equal claims, where no claim
+/// in several languages is without a value, no tag is empty, `updated_at` is at a whole second, and the
+/// written texts are UTF-8. That they are is a clause of [`write_standard`](crate::write_standard),
+/// which carries the whole round trip too (`reads_back`).
 pub fn written_claims_read_back<GC: GenderClaim>()
     ensures { (claims : SeenClaims GC) → IsInRange claims → All IsUtf8Member (written GC.write_of claims)
-        → option_map (claims_of GC.read_of) (members_of (object_text (written GC.write_of claims))) ≡ Some (Ok claims) }
+        → GivesClaims GC.read_of (written GC.write_of claims) claims }
 {}
 
 /// [`AllOtherClaims`](crate::AllOtherClaims) refuses no additional members, and keeps exactly their

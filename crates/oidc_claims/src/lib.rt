@@ -4,9 +4,8 @@
 //! - [`StandardClaims`] are the claims of OpenID Connect Core 1.0 section 5.1, and [`AddressClaim`] is
 //!   the address among them (section 5.1.1).
 //!   [`read_standard`] reads them, [`write_standard`] writes them.
-//! - [`GenderClaim`] is the type of the claim `gender`. A caller may bring one of its own; its laws
-//!   say that what is written reads back, and that a copy equals its source. `CoreGenderClaim` is a
-//!   plain text.
+//! - [`GenderClaim`] is the type of the claim `gender`. A caller may bring one of its own: what it
+//!   writes isn't null and reads back, and a copy equals its source. `CoreGenderClaim` is a plain text.
 //! - [`AdditionalClaims`] is the type of the claims beside the standard ones (section 5.1.2):
 //!   [`EmptyAdditionalClaims`] keeps none, [`AllOtherClaims`] all. [`belongs`] says to which of them a
 //!   member belongs.
@@ -14,7 +13,7 @@
 //! What it promises. `read_standard` answers the claims that the definition `claims_of` of the member
 //! list has, or refuses the first faulty member with its place, kind and field: each member is judged
 //! against all that stand before it (`fault_at`), so a repeated claim is refused whatever its values
-//! are. A missing `sub` is told where no member is faulty. A setter changes its claim alone, and a
+//! are. A missing `sub` refuses where no member is faulty. A setter changes its claim alone, and a
 //! copy equals its source. Want of memory is an answer of its own, and no clause says when it comes.
 #![tactic(auto)]
 
@@ -30,7 +29,7 @@ mod same;
 pub mod write;
 
 pub use crate::additional::{AdditionalClaims, EmptyAdditionalClaims};
-pub use crate::claims::{AddressClaim, StandardClaims, read_standard};
+pub use crate::claims::{AddressClaim, ClaimsReader, StandardClaims, read_standard};
 pub use crate::gender::GenderClaim;
 pub use crate::home::{Home, ID_TOKEN_FIELDS, USER_INFO_FIELDS, belongs};
 pub use crate::others::AllOtherClaims;

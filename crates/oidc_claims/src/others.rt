@@ -1,17 +1,18 @@
 //! All additional claims, kept as they came.
 
-ghost use Rattle.std.specs.Prelude.{◌≡◌, map, Bool, IfOk};
+ghost use Rattle.std.specs.Prelude.{◌≡◌, [], ◌∷◌, ◌++◌, map, Bool, IfOk, OnOk};
+ghost use Rattle.std.specs.List.{All};
+ghost use Rattle.oidc_readers.specs.WrittenBack.{IsUtf8Member};
 ghost use Rattle.oidc_claims.specs.Additional.{are_written_additional, out_of};
 ghost use Rattle.oidc_claims.specs.Others.{list_of};
+ghost use Rattle.oidc_claims.specs.Write.{KeepsUtf8};
 
 use crate::additional::AdditionalClaims;
 use crate::same::is_same_list;
-use oidc_members::{FieldName, Member, OutMember, ParseError};
+use crate::write::push_member;
+use oidc_members::{Member, OutMember, ParseError};
 use std::alloc::{AllocError, Global};
 use std::marker::Model;
-
-#[cfg(test)]
-mod tests;
 
 /// All additional members, with their names and values in their order. Nothing is refused, and they
 /// are written as they were read.
@@ -49,21 +50,32 @@ fn outs_of(alloc: Global, members: &[Member]) -> Result<Vec<OutMember>, AllocErr
 {
     let mut outs = Vec::new(alloc);
     for member in members {
-        let name = FieldName::new(String::from_str(alloc, member.name())?);
-        let value = member.value().clone()?;
-        outs.push(OutMember { name, value })?;
+        let name = String::from_str(alloc, member.name())?;
+        push_member(&mut outs, name, member.value().clone()?)?;
     }
     Ok(outs)
 }
 
+// Appends a copy of a member.
+fn push_copy(
+    alloc: Global,
+    copies: &mut Vec<OutMember>,
+    member: &OutMember,
+) -> Result<(), AllocError>
+    ensures members { OnOk result (copies.new.items ≡ copies.old.items ++ member.now ∷ []) }
+    ensures texts { OnOk result (KeepsUtf8 copies.old.items copies.new.items) }
+{
+    let name = String::from_str(alloc, member.name.as_str())?;
+    push_member(copies, name, member.value.clone()?)
+}
+
 fn copies_of(alloc: Global, members: &[OutMember]) -> Result<Vec<OutMember>, AllocError>
-    ensures { IfOk result (λ copies. copies.items ≡ members.now) }
+    ensures copies { IfOk result (λ copies. copies.items ≡ members.now) }
+    ensures texts { IfOk result (λ copies. All IsUtf8Member copies.items) }
 {
     let mut copies = Vec::new(alloc);
     for member in members {
-        let name = FieldName::new(String::from_str(alloc, member.name.as_str())?);
-        let value = member.value.clone()?;
-        copies.push(OutMember { name, value })?;
+        push_copy(alloc, &mut copies, member)?;
     }
     Ok(copies)
 }
@@ -95,9 +107,9 @@ impl AdditionalClaims for AllOtherClaims {
 
 impl PartialEq for AllOtherClaims {
     ghost use Rattle.std.specs.Cmp.{on_per};
-    ghost use Rattle.oidc_claims.specs.SameData.{same_list};
+    ghost use Rattle.oidc_claims.specs.Same.{same_list};
     ghost use Rattle.oidc_claims.specs.Others.{list_of};
-    ghost use Rattle.oidc_claims.specs.Sound.{partly_equal, list_sound};
+    ghost use Rattle.oidc_claims.specs.Same.{partly_equal, list_sound};
 
     ghost eq = { λ a b. same_list a.list b.list };
 

@@ -1,7 +1,7 @@
 // When two JSON values are the same. `==` of `serde_json` states nothing, so the walk is our own.
 ghost use Rattle.std.specs.Prelude.{◌≡◌};
 ghost use Rattle.serde_json.specs.View.{view, items_view, members_view, number_view};
-ghost use Rattle.oidc_claims.specs.SameData.{same_number, same_data, same_items, same_members, same_list};
+ghost use Rattle.oidc_claims.specs.Same.{same_number, same_data, same_items, same_members, same_list};
 
 use oidc_members::OutMember;
 use serde_json::{Map, Number, Value};

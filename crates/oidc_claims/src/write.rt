@@ -1,35 +1,49 @@
 //! The standard claims, written as members.
 
-ghost use Rattle.std.specs.Prelude.{◌≡◌, ◌++◌, Some, IfOk, OnOk, option_map};
+ghost use Rattle.std.specs.Prelude.{◌≡◌, ◌∷◌, ◌++◌, [], false, Option, Some, IfOk, OnOk, option_map};
+ghost use Rattle.std.specs.List.{All};
 ghost use Rattle.std.specs.String.{string_bytes};
 ghost use Rattle.std.specs.Option.{option_copied};
-ghost use Rattle.serde_json.specs.Data.{string, boolean};
+ghost use Rattle.serde_json.specs.Data.{Data, string, boolean};
 ghost use Rattle.serde_json.specs.View.{view, members_view};
+ghost use Rattle.oidc_members.specs.Seen.{OutSeen};
+ghost use Rattle.oidc_members.specs.Write.{any_float};
+ghost use Rattle.oidc_readers.specs.WrittenBack.{IsUtf8Member};
 ghost use Rattle.oidc_claims.specs.Table.{name_of};
-ghost use Rattle.oidc_claims.specs.Written.{written, claim_members, plain_member, variant_members, with_tag, address_data, seconds_data};
-ghost use Rattle.oidc_claims.specs.PutParts.{put_part};
+ghost use Rattle.oidc_claims.specs.Write.{written, claim_members, plain_member};
+ghost use Rattle.oidc_claims.specs.Write.{variant_member, variant_members, with_tag};
+ghost use Rattle.oidc_claims.specs.Write.{address_data, put_part};
+ghost use Rattle.oidc_readers.specs.Moments.{seconds_data};
+ghost use Rattle.oidc_claims.specs.Write.{IsInRange, GivesClaims, KeepsUtf8};
 
 use crate::claim::Claim;
 use crate::claims::{AddressClaim, StandardClaims};
 use crate::gender::GenderClaim;
 use jiff::Timestamp;
 use oidc_members::{FieldName, OutMember};
+use oidc_readers::seconds_value;
 use oidc_types::{LanguageTag, LocalizedClaim, Marker, Text};
 use serde_json::{Map, Value};
 use std::alloc::{AllocError, Global};
 
-#[cfg(test)]
-mod tests;
-
 /// The standard claims as members: in the order of the getters of [`StandardClaims`], which is that of
 /// the table in OpenID Connect Core 1.0 section 5.1, absent claims left out. The variants of a claim
-/// stand in the order of `iter`, a tag behind a `#` (section 5.2). Moments are whole seconds, rounded down. The members of
-/// `address` stand in the byte order of their names. `AllocError` is want of memory, the one error.
+/// stand in the order of `iter`, a tag behind a `#` (section 5.2). Moments are whole seconds, rounded
+/// down. The members of `address` stand in the byte order of their names. No value holds a float, and
+/// all names and texts are UTF-8.
+///
+/// Claims are read back from the object's text of what is written, where no claim in several languages
+/// is without a value, no tag is empty, and `updated_at` is at a whole second. `AllocError` is want of
+/// memory, the one error.
 pub fn write_standard<GC: GenderClaim>(
     alloc: Global,
     claims: &StandardClaims<GC>,
 ) -> Result<Vec<OutMember>, AllocError>
     ensures members { IfOk result (λ out. out.items ≡ written GC.write_of claims.now) }
+    ensures no_float { IfOk result (λ out. any_float out.items ≡ false) }
+    ensures texts { IfOk result (λ out. All IsUtf8Member out.items) }
+    ensures reads_back { IsInRange claims.now
+        → IfOk result (λ out. GivesClaims GC.read_of out.items claims.now) }
 {
     let mut out = Vec::new(alloc);
     for claim in Claim::ALL {
@@ -45,7 +59,9 @@ fn write_claim<GC: GenderClaim>(
     claim: Claim,
     claims: &StandardClaims<GC>,
 ) -> Result<(), AllocError>
-    ensures { OnOk result (out.new.items ≡ out.old.items ++ claim_members GC.write_of claims.now claim) }
+    ensures members { OnOk result (out.new.items
+        ≡ out.old.items ++ claim_members GC.write_of claims.now claim) }
+    ensures texts { OnOk result (KeepsUtf8 out.old.items out.new.items) }
 {
     match claim {
         Claim::Subject => write_text(alloc, out, claim, Some(&claims.subject)),
@@ -82,7 +98,9 @@ fn write_text<M: Marker>(
     claim: Claim,
     text: Option<&Text<M>>,
 ) -> Result<(), AllocError>
-    ensures { OnOk result (out.new.items ≡ out.old.items ++ plain_member claim (option_map string (option_copied text.entry))) }
+    ensures members { OnOk result (out.new.items
+        ≡ out.old.items ++ plain_member claim (option_map string (option_copied text.entry))) }
+    ensures texts { OnOk result (KeepsUtf8 out.old.items out.new.items) }
 {
     match text {
         None => Ok(()),
@@ -96,22 +114,34 @@ fn write_variants<M: Marker>(
     claim: Claim,
     variants: Option<&LocalizedClaim<Text<M>>>,
 ) -> Result<(), AllocError>
-    ensures { OnOk result (out.new.items ≡ out.old.items ++ variant_members claim (option_copied variants.entry)) }
+    ensures members { OnOk result (out.new.items
+        ≡ out.old.items ++ variant_members claim (option_copied variants.entry)) }
+    ensures texts { OnOk result (KeepsUtf8 out.old.items out.new.items) }
 {
     match variants {
         None => Ok(()),
         Some(variants) => {
             for (tag, text) in variants.iter() {
-                let name = FieldName::new(tagged_name(alloc, claim, tag)?);
-                let variant = OutMember {
-                    name,
-                    value: text_value(alloc, text.as_str())?,
-                };
-                out.push(variant)?;
+                write_variant(alloc, out, claim, tag, text)?;
             }
             Ok(())
         }
     }
+}
+
+fn write_variant<M: Marker>(
+    alloc: Global,
+    out: &mut Vec<OutMember>,
+    claim: Claim,
+    tag: Option<&LanguageTag>,
+    text: &Text<M>,
+) -> Result<(), AllocError>
+    ensures members { OnOk result (out.new.items
+        ≡ out.old.items ++ variant_member claim (option_copied tag.entry, text.now) ∷ []) }
+    ensures texts { OnOk result (KeepsUtf8 out.old.items out.new.items) }
+{
+    let name = tagged_name(alloc, claim, tag)?;
+    push_member(out, name, text_value(alloc, text.as_str())?)
 }
 
 fn write_flag(
@@ -120,7 +150,9 @@ fn write_flag(
     claim: Claim,
     flag: Option<bool>,
 ) -> Result<(), AllocError>
-    ensures { OnOk result (out.new.items ≡ out.old.items ++ plain_member claim (option_map boolean flag)) }
+    ensures members { OnOk result (out.new.items
+        ≡ out.old.items ++ plain_member claim (option_map boolean flag)) }
+    ensures texts { OnOk result (KeepsUtf8 out.old.items out.new.items) }
 {
     match flag {
         None => Ok(()),
@@ -134,7 +166,9 @@ fn write_gender<GC: GenderClaim>(
     claim: Claim,
     gender: Option<&GC>,
 ) -> Result<(), AllocError>
-    ensures { OnOk result (out.new.items ≡ out.old.items ++ plain_member claim (option_map GC.write_of (option_copied gender.entry))) }
+    ensures members { OnOk result (let gender = option_copied gender.entry in
+        out.new.items ≡ out.old.items ++ plain_member claim (option_map GC.write_of gender)) }
+    ensures texts { OnOk result (KeepsUtf8 out.old.items out.new.items) }
 {
     match gender {
         None => Ok(()),
@@ -148,7 +182,9 @@ fn write_address(
     claim: Claim,
     address: Option<&AddressClaim>,
 ) -> Result<(), AllocError>
-    ensures { OnOk result (out.new.items ≡ out.old.items ++ plain_member claim (option_map address_data (option_copied address.entry))) }
+    ensures members { OnOk result (let address = option_copied address.entry in
+        out.new.items ≡ out.old.items ++ plain_member claim (option_map address_data address)) }
+    ensures texts { OnOk result (KeepsUtf8 out.old.items out.new.items) }
 {
     match address {
         None => Ok(()),
@@ -162,7 +198,10 @@ fn write_moment(
     claim: Claim,
     moment: Option<Timestamp>,
 ) -> Result<(), AllocError>
-    ensures { OnOk result (out.new.items ≡ out.old.items ++ plain_member claim (option_map (λ moment. seconds_data moment.nanosecond) moment)) }
+    ensures members { OnOk result (
+        let seconds : Option Data = option_map (λ moment. seconds_data moment.nanosecond) moment in
+        out.new.items ≡ out.old.items ++ plain_member claim seconds) }
+    ensures texts { OnOk result (KeepsUtf8 out.old.items out.new.items) }
 {
     match moment {
         None => Ok(()),
@@ -179,16 +218,34 @@ fn push(
     claim: Claim,
     value: Value,
 ) -> Result<(), AllocError>
-    ensures { OnOk result (out.new.items ≡ out.old.items ++ plain_member claim (Some (view value))) }
+    ensures members { OnOk result (out.new.items
+        ≡ out.old.items ++ plain_member claim (Some (view value))) }
+    ensures texts { OnOk result (KeepsUtf8 out.old.items out.new.items) }
 {
-    let name = FieldName::new(tagged_name(alloc, claim, None)?);
+    let name = tagged_name(alloc, claim, None)?;
+    push_member(out, name, value)
+}
+
+// Appends a member. It is UTF-8, as a `String` and the texts of a `Value` are.
+pub(crate) fn push_member(
+    out: &mut Vec<OutMember>,
+    name: String,
+    value: Value,
+) -> Result<(), AllocError>
+    ensures members { OnOk result (
+        let member : OutSeen = record { name = string_bytes name; value = view value } in
+        out.new.items ≡ out.old.items ++ member ∷ []) }
+    ensures texts { OnOk result (KeepsUtf8 out.old.items out.new.items) }
+{
+    let name = FieldName::new(name);
     out.push(OutMember { name, value })?;
     Ok(())
 }
 
 // A claim's name, with its tag behind a `#`.
 fn tagged_name(alloc: Global, claim: Claim, tag: Option<&LanguageTag>) -> Result<String, AllocError>
-    ensures { IfOk result (λ name. string_bytes name ≡ with_tag (name_of claim) (option_copied tag.entry)) }
+    ensures { IfOk result (λ name.
+        string_bytes name ≡ with_tag (name_of claim) (option_copied tag.entry)) }
 {
     let mut name = String::from_str(alloc, claim.name())?;
     match tag {
@@ -205,13 +262,6 @@ fn text_value(alloc: Global, text: &str) -> Result<Value, AllocError>
     ensures { IfOk result (λ value. view value ≡ string text.now) }
 {
     Ok(Value::String(String::from_str(alloc, text)?))
-}
-
-// `as_second` rounds toward zero, so a moment before 1970 would be a second late.
-fn seconds_value(moment: Timestamp) -> Value
-    ensures { view result ≡ seconds_data moment.nanosecond }
-{
-    Value::from(moment.as_nanosecond().div_euclid(1_000_000_000) as i64)
 }
 
 fn address_value(alloc: Global, address: &AddressClaim) -> Result<Value, AllocError>
@@ -233,7 +283,8 @@ fn insert_part<M: Marker>(
     name: &str,
     part: &Option<Text<M>>,
 ) -> Result<(), AllocError>
-    ensures { OnOk result (members_view parts.new.entries ≡ put_part name.now part.now (members_view parts.old.entries)) }
+    ensures { OnOk result (members_view parts.new.entries
+        ≡ put_part name.now part.now (members_view parts.old.entries)) }
 {
     match part {
         None => Ok(()),

@@ -8,8 +8,8 @@ use Rattle.oidc_members.specs.Write.{object_text}
 use Rattle.oidc_login.specs.Transport.{SeenRequest}
 use Rattle.oidc_login.specs.SignedIns.{SeenSignedIn}
 use Rattle.oidc_login.specs.WrittenClaims.{written}
-use Rattle.oidc_cli.specs.FormParts.{behind}
-use Rattle.oidc_cli.specs.Report.{header_pair, body_pair, request_list, request_line, verdict_line}
+use Rattle.oidc_cli.specs.ReportLines.{behind}
+use Rattle.oidc_cli.specs.ReportLines.{header_pair, body_pair, request_list, request_line, verdict_line}
 
 form_first : (pair : List ℕ × List ℕ) (list : List (List ℕ × List ℕ)) → form (pair ∷ list) ≡ serialize_pair pair ++ behind list
 unfolding form

@@ -10,7 +10,7 @@ use Rattle.std.proofs.lemmas.Bool.Decides.{nat_tests}
 use Rattle.std.proofs.lemmas.Str.Parse.{IsNumeralModel, numerals_by_value, tells_all_ascii_digits, parse_signed_minus, parse_signed_plain, parse_plain, digits_value_short}
 use Rattle.http.specs.StatusCode.{IsStatusCode}
 use Rattle.oidc_login.specs.IdTokens.{moment_at}
-use Rattle.oidc_cli.specs.Values.{decimal_of, whole_of, moment_of, status_of}
+use Rattle.oidc_cli.specs.Values.{decimal_of, whole_of, moment_of_text, status_code_of}
 
 numerals : IsNumeralModel (λ ds. all_ascii_digits ds ≡ true) (digits_value 10)
 numerals = numerals_by_value _ tells_all_ascii_digits
@@ -55,8 +55,8 @@ by_sign b text r false minus plain read =
     (parse_signed_plain numerals w64 (b ∷ text) r read (grind (arith, nat_tests)) (grind (arith, nat_tests))) (far_after (digits_value 10 (b ∷ text)))
 
 pub parsed_seconds : {E : Type 0} (text : List ℕ) (r : Result ℤ E) → (slice_index text 0 == 43) ≡ false
-    → ParsesSigned w64 10 text r → option_and_then moment_at (result_ok r) ≡ moment_of text
-unfolding moment_of
+    → ParsesSigned w64 10 text r → option_and_then moment_at (result_ok r) ≡ moment_of_text text
+unfolding moment_of_text
 parsed_seconds [] r plain read =
     picked_digits (0 < 2 ^ 63) pos [] r (parse_signed_plain numerals w64 [] r read (omega arith) (omega arith)) (far_after 0)
 parsed_seconds (b ∷ text) r plain read = by_sign b text r (b == 45) refl plain read
@@ -68,8 +68,8 @@ no_number false n = refl
 plus_is_no_number : (text : List ℕ) → decimal_of (43 ∷ text) ≡ None
 plus_is_no_number text = no_number (nat_lt 0 (length (43 ∷ text))) (digits_value 10 (43 ∷ text))
 
-pub plus_is_no_moment : (text : List ℕ) → (slice_index text 0 == 43) ≡ true → None ≡ moment_of text
-unfolding moment_of
+pub plus_is_no_moment : (text : List ℕ) → (slice_index text 0 == 43) ≡ true → None ≡ moment_of_text text
+unfolding moment_of_text
 plus_is_no_moment [] plus = refl
 plus_is_no_moment (b ∷ text) plus =
     let is : b ≡ 43 = grind (arith, nat_tests) in
@@ -85,12 +85,12 @@ none_from : (three : Bool) → None ≡ status_from three None
 none_from true = refl
 none_from false = refl
 
-pub other_length_is_no_status : (text : List ℕ) → ¬ (length text ≡ 3) → None ≡ status_of text
-unfolding status_of
+pub other_length_is_no_status : (text : List ℕ) → ¬ (length text ≡ 3) → None ≡ status_code_of text
+unfolding status_code_of
 other_length_is_no_status text other = ap (λ three. status_from three (decimal_of text)) (sym (ne_eqb (length text) 3 other))
 
-pub plus_is_no_status : (text : List ℕ) → (slice_index text 0 == 43) ≡ true → None ≡ status_of text
-unfolding status_of
+pub plus_is_no_status : (text : List ℕ) → (slice_index text 0 == 43) ≡ true → None ≡ status_code_of text
+unfolding status_code_of
 plus_is_no_status [] plus = refl
 plus_is_no_status (b ∷ text) plus =
     let is : b ≡ 43 = grind (arith, nat_tests) in
@@ -106,8 +106,8 @@ unread_number P text true h n = absurd (n (h refl))
 unread_number P text false h n = no_number (nat_lt 0 (length text)) (digits_value 10 text)
 
 pub unread_is_no_status : {E : Type 0} (text : List ℕ) (e : E) → length text ≡ 3 → (slice_index text 0 == 43) ≡ false
-    → ParsesUnsigned 16 10 text (Err e) → None ≡ status_of text
-unfolding status_of
+    → ParsesUnsigned 16 10 text (Err e) → None ≡ status_code_of text
+unfolding status_code_of
 unread_is_no_status text e three plain read =
     let no = parse_plain numerals 16 text (Err e) read (grind (arith, nat_tests)) in
     let unread : decimal_of text ≡ None = unread_number _ text (all_ascii_digits text) (λ digits.
@@ -123,8 +123,8 @@ code_of n (Ok code) small read = let low = read.0.0 in rw (read.1) (grind (arith
 code_of n (Err e) small read = too_low n (nat_le 100 n) (λ high. read (grind (arith, nat_tests), small))
 
 pub read_status : {F : Type 0} (E : Type 0) (text : List ℕ) (n : ℕ) (r : Result ℕ F) → length text ≡ 3 → (slice_index text 0 == 43) ≡ false
-    → ParsesUnsigned {E = E} 16 10 text (Ok n) → OkIff r (IsStatusCode n) n → result_ok r ≡ status_of text
-unfolding status_of
+    → ParsesUnsigned {E = E} 16 10 text (Ok n) → OkIff r (IsStatusCode n) n → result_ok r ≡ status_code_of text
+unfolding status_code_of
 read_status {F} E text n r three plain read code =
     let own = parse_plain numerals {E = E} 16 text (Ok n) read (grind (arith, nat_tests)) in
     let some : nat_lt 0 (length text) ≡ true = grind (arith, nat_tests) in

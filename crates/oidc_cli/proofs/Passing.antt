@@ -3,7 +3,8 @@ use Rattle.std.proofs.Common.{◌≡◌, ℕ, ◌+◌, ◌<◌, ◌≤◌, List,
 use Rattle.std.proofs.Math.Seq.{take-append_seam, take-append-add}
 use Rattle.std.proofs.lemmas.List.{take-append-le}
 use Rattle.std.proofs.lemmas.Grind.{common_steps}
-use Rattle.oidc_cli.specs.Told.{Takes, Puts, PutsPrefix}
+use Rattle.oidc_cli.specs.Sources.{Takes}
+use Rattle.oidc_cli.specs.Sinks.{Puts, PutsPrefix}
 
 pub Takes-append : (a b c : Option (List ℕ)) (xs ys : List ℕ) → Takes a b xs → Takes b c ys → Takes a c (xs ++ ys)
 Takes-append a b None xs ys p q = p ∙ ap (option_map (λ left. xs ++ left)) q

@@ -2,17 +2,17 @@
 use Rattle.std.proofs.Common.{◌≡◌, ◌⊎◌, inl, inr, ℕ, ◌+◌, ◌<◌, ◌≤◌, nat_lt, length, List, [], ◌∷◌, ◌++◌, Option, None, Some, option_map, Bool, true, false, Result, Ok, Err, IfOk, OnOk, OnErr, IsErrOf, refl, sym, ap, subst, ◌∙◌, arith, append-nil, length-append}
 use Rattle.std.specs.Io.KnownBytes.{IsAtEnd}
 use Rattle.std.proofs.lemmas.Bool.Decides.{nat_tests}
-use Rattle.oidc_cli.specs.Told.{Takes, Puts, PutsPrefix}
-use Rattle.oidc_cli.specs.Faults.{limit, fault_of}
-use Rattle.oidc_cli.specs.Report.{report}
-use Rattle.oidc_cli.specs.Endings.{ending_of}
-use Rattle.oidc_cli.specs.Statuses.{EndsInFault, status_after}
-use Rattle.oidc_cli.specs.declared.replay.Ending.{Ending}
-use Rattle.oidc_cli.specs.declared.replay.Ending.TheVariants.{Pending, Fault}
-use Rattle.oidc_cli.specs.declared.replay.Halt.{Halt}
-use Rattle.oidc_cli.specs.declared.replay.Halt.TheVariants.{Sink, Memory}
-use Rattle.oidc_cli.proofs.Steps.{too_long_report, too_long_fault}
-use Rattle.oidc_cli.proofs.Endings.{ends_in_fault}
+use Rattle.oidc_cli.specs.Sources.{Takes}
+use Rattle.oidc_cli.specs.Sinks.{Puts, PutsPrefix}
+use Rattle.oidc_cli.specs.Script.{limit, lines, fault_of}
+use Rattle.oidc_cli.specs.ReportLines.{fault_line}
+use Rattle.oidc_cli.specs.Report.{events_lines, events_before_fault, last_line, store_after_events, report, ending_of}
+use Rattle.oidc_cli.specs.Program.{EndsInFault, status_after}
+use Rattle.oidc_cli.specs.declared.report.Ending.{Ending}
+use Rattle.oidc_cli.specs.declared.report.Ending.TheVariants.{Pending, Fault}
+use Rattle.oidc_cli.specs.declared.report.Halt.{Halt}
+use Rattle.oidc_cli.specs.declared.report.Halt.TheVariants.{Sink, Memory}
+use Rattle.oidc_cli.proofs.Steps.{too_long_report, too_long_fault, fault_alone}
 
 -- what was read has the fault and the report of the whole script
 pub record SameReport (script read : List ℕ) : Type 0 where
@@ -38,11 +38,24 @@ some_is x y e = cc
 
 pub same_of : (before after : Option (List ℕ)) (script read : List ℕ) → before ≡ Some script → Takes before after read
     → (length read ≤ limit → IsAtEnd after) → SameReport script read
-same_of before None script read told takes ended = absurd (let e : None ≡ Some script = sym takes ∙ told in cc)
-same_of before (Some left) script read told takes ended =
-    same_when script read left (nat_lt limit (length read)) refl (some_is script (read ++ left) (sym told ∙ takes)) ended
+same_of before None script read known takes ended = absurd (let e : None ≡ Some script = sym takes ∙ known in cc)
+same_of before (Some left) script read known takes ended =
+    same_when script read left (nat_lt limit (length read)) refl (some_is script (read ++ left) (sym known ∙ takes)) ended
 
 -- ---- endings
+
+ends_alone : (script : List ℕ) (number : ℕ) → fault_of script ≡ Some number → number ≡ 0 → report script ≡ fault_line 0
+ends_alone script number fault none = fault_alone script 0 (omega arith) (fault ∙ ap Some none)
+
+-- by definition the report of a script with a fault ends in its line
+pub ends_in_fault : (script : List ℕ) (number : ℕ) → fault_of script ≡ Some number → EndsInFault script
+unfolding report
+ends_in_fault script number fault = record {
+  number = number;
+  first_fault = fault;
+  ends = ap (λ f. events_lines (events_before_fault script) ++ last_line f (store_after_events (events_before_fault script))) fault;
+  alone = ends_alone script number fault;
+}
 
 no_fault : (fault : Option ℕ) → Pending ≡ ending_of fault → fault ≡ None
 no_fault None e = refl

@@ -1,9 +1,10 @@
 -- A piece that is written part by part.
-use Rattle.std.proofs.Common.{◌≡◌, ℕ, ◌-◌, arith, Result, Ok, Err, List, [], ◌++◌, Option, None, Some, take, drop, length, refl, sym, ap, subst, ◌∙◌, append-nil, append_assoc, take-append-drop}
+use Rattle.std.proofs.Common.{◌≡◌, ℕ, ◌+◌, ◌-◌, ◌<◌, ◌==◌, false, arith, length-append, Result, Ok, Err, List, [], ◌++◌, Option, None, Some, take, drop, length, refl, sym, ap, subst, ◌∙◌, append-nil, append_assoc, take-append-drop}
 use Rattle.std.proofs.Math.Seq.{take-append_seam}
 use Rattle.std.proofs.lemmas.Grind.{common_steps}
+use Rattle.std.proofs.lemmas.Bool.Decides.{nat_tests}
 use Rattle.std.specs.Io.KnownBytes.{Appends, Keeps, WriteAppends}
-use Rattle.oidc_cli.specs.Writers.{AppendsPrefix}
+use Rattle.oidc_cli.specs.Sinks.{AppendsPrefix}
 
 -- of the piece, all but the rest was written
 abbrev pub IsWrittenSoFar : Option (List ℕ) → Option (List ℕ) → List ℕ → List ℕ → Type 0
@@ -32,6 +33,12 @@ written_more before now after piece rest n so_far more =
       append_assoc so_far.0 (take n rest) (drop n rest) ∙ ap (λ l. so_far.0 ++ l) (take-append-drop n rest) ∙ so_far.1,
       Appends-append before now after so_far.0 (take n rest) so_far.2 more,
     )
+
+-- where something is left, there was something to write
+pub unfinished : (before now : Option (List ℕ)) (piece rest : List ℕ) → IsWrittenSoFar before now piece rest → (length rest == 0) ≡ false → piece ≡ [] → ⊥
+unfinished before now piece rest so_far left none =
+    let some : 0 < length rest = grind (arith, nat_tests) in
+    let all : length so_far.0 + length rest ≡ 0 = sym (length-append so_far.0 rest) ∙ ap length (so_far.1 ∙ none) in omega arith
 
 -- what was written begins the piece
 prefix_written : (before now : Option (List ℕ)) (piece rest : List ℕ) → IsWrittenSoFar before now piece rest → AppendsPrefix before now piece

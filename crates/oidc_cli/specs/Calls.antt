@@ -1,14 +1,27 @@
--- The calls of an object in memory.
-use Rattle.std.specs.Prelude.{ℕ, ◌==◌, ◌+◌, Bool, List, refl}
+-- The calls of an object outside the program: which fail, and how they are counted.
+use Rattle.std.specs.Prelude.{◌≡◌, ℕ, ◌==◌, ◌+◌, ◌-◌, ◌^◌, ◌<◌, ◌⊎◌, min, Bool, List, refl}
 use Rattle.std.specs.List.{list_any}
 use Rattle.std.specs.Coded.{Coded, code_by, coded_ℕ, coded_list, coded×}
-use Rattle.oidc_cli.specs.Told.{risen}
+
+-- a count of faults has risen in a call, or stands at its last value
+abbrev pub HasRisen : ℕ → ℕ → Type 0
+HasRisen before after = (before < after) ⊎ (after ≡ 2 ^ 64 - 1)
+
+-- a count after one more; it stops at its last value
+abbrev pub risen : ℕ → ℕ
+risen count = min (count + 1) (2 ^ 64 - 1)
+
+-- ---- objects in memory
 
 -- the numbers of the calls that fail, counted from 1; how many calls were made; and how many of them failed
 pub record SeenCalls : Type 0 where
   pub failing : List ℕ
   pub made : ℕ
   pub faults : ℕ
+
+-- no call was made yet, and the calls with these numbers are to fail
+abbrev pub no_calls : List ℕ → SeenCalls
+no_calls failing = record { failing = failing; made = 0; faults = 0 }
 
 -- the next call is one of those that fail
 abbrev pub fails_next : SeenCalls → Bool

@@ -1,6 +1,6 @@
 -- What the lines of a script say.
 use Rattle.std.specs.Prelude.{ℕ, ℤ, List}
-use Rattle.oidc_types.specs.UrlTexts.{TextAndUrl}
+use Rattle.oidc_types.specs.{TextAndUrl}
 use Rattle.oidc_types.specs.declared.core_algorithms.CoreJwsSigningAlgorithm.{CoreJwsSigningAlgorithm}
 
 -- a client line: the client's ID and secret, its provider's issuer and two endpoints, and the signing

@@ -1,15 +1,17 @@
-pub mod Told
+-- What the contracts of this crate cite: first what stands outside, then a script, then its report and the
+-- statuses. The words of `run` are passed on, so that a caller need not know the files.
 pub mod Calls
 pub mod Sources
 pub mod Sinks
-pub mod Readers
-pub mod Writers
-pub mod Lines
-pub mod Values
 pub mod Events
+pub mod Values
 pub mod Script
-pub mod Faults
-pub mod FormParts
+pub mod ReportLines
 pub mod Report
-pub mod Endings
-pub mod Statuses
+pub mod Program
+pub use Rattle.oidc_cli.specs.Calls.{HasRisen}
+pub use Rattle.oidc_cli.specs.Sources.{Takes}
+pub use Rattle.oidc_cli.specs.Sinks.{Puts, PutsPrefix}
+pub use Rattle.oidc_cli.specs.Script.{fault_of}
+pub use Rattle.oidc_cli.specs.Report.{report}
+pub use Rattle.oidc_cli.specs.Program.{EndsInFault}

@@ -1,111 +1,21 @@
 -- The report of a script.
-use Rattle.std.specs.Prelude.{ℕ, ◌+◌, nat_lt, List, [], ◌∷◌, ◌++◌, length, Option, None, Some, Result, Ok, Err, if◌then◌else◌, bytes_eq, codes, decimal}
+use Rattle.std.specs.Prelude.{ℕ, ◌-◌, List, [], ◌∷◌, ◌++◌, map, take, Option, None, Some, Result, codes}
 use Rattle.std.specs.FinMap as finite
-use Rattle.url.specs.Parts.{Parts, serialize}
-use Rattle.http_header.specs.HeaderMap.{get}
-use Rattle.http_header.specs.FieldValue.{FieldValue}
+use Rattle.url.specs.Parts.{Parts}
 use Rattle.oidc_pairs.specs.Pairs.{pairs}
-use Rattle.oidc_pairs.specs.Form.{form}
-use Rattle.oidc_members.specs.Write.{object_text}
-use Rattle.oidc_keys.specs.declared.refusals.SignatureVerificationError.{SignatureVerificationError}
-use Rattle.oidc_keys.specs.declared.refusals.SignatureVerificationError.TheVariants as signature
-use Rattle.oidc_login.specs.declared.tokens.verification.ClaimsVerificationError.{ClaimsVerificationError}
-use Rattle.oidc_login.specs.declared.tokens.verification.ClaimsVerificationError.TheVariants.{InvalidIssuer, InvalidAudience, SignatureVerification, Expired, InvalidNonce}
 use Rattle.oidc_login.specs.declared.errors.BeginError.{BeginError}
-use Rattle.oidc_login.specs.declared.errors.BeginError.TheVariants as begin
-use Rattle.oidc_login.specs.declared.errors.LoginError.{LoginError}
-use Rattle.oidc_login.specs.declared.errors.LoginError.TheVariants as login
-use Rattle.oidc_login.specs.Transport.{SeenRequest, SeenAnswer}
+use Rattle.oidc_login.specs.Transport.{SeenAnswer}
 use Rattle.oidc_login.specs.Clients.{SeenClient}
 use Rattle.oidc_login.specs.Authorization.{SeenAuthorization}
 use Rattle.oidc_login.specs.Pending.{Pending}
-use Rattle.oidc_login.specs.SignedIns.{SeenSignedIn}
-use Rattle.oidc_login.specs.WrittenClaims.{written}
 use Rattle.oidc_login.specs.Outcome.{Run, begin_reply, begin_store, callback_store, outcome}
-use Rattle.oidc_cli.specs.Lines.{lines}
 use Rattle.oidc_cli.specs.Events.{SeenClientLine, SeenBeginLine, SeenCallbackLine}
-use Rattle.oidc_cli.specs.Script.{event_of}
-use Rattle.oidc_cli.specs.Faults.{limit, is_step}
-use Rattle.oidc_cli.specs.declared.script.Event.{Event}
-use Rattle.oidc_cli.specs.declared.script.Event.TheVariants.{Client, Begin, Callback}
-
--- each line ends in a line feed
-abbrev pub line_of : List ℕ → List ℕ
-line_of words = words ++ 10 ∷ []
-
--- ---- begins
-
--- No begin means want of memory, and so it has no line here.
-unfoldable pub begin_line : Result Parts BeginError → List ℕ
-begin_line (Ok url) = line_of (codes "begin ok " ++ serialize url)
-begin_line (Err begin.Verifier) = line_of (codes "begin refused verifier")
-begin_line (Err begin.Pending) = line_of (codes "begin refused pending")
-begin_line (Err begin.Memory) = []
-
--- ---- requests
-
--- the pair of a header, where the request has it
-abbrev pub header_pair : List ℕ → Option FieldValue → List (List ℕ × List ℕ)
-header_pair name None = []
-header_pair name (Some value) = (name, value.bytes) ∷ []
-
--- the pair of the body, where the method is POST
-abbrev pub body_pair : SeenRequest → List (List ℕ × List ℕ)
-body_pair request = if bytes_eq request.method (codes "POST") then (codes "body", request.body) ∷ [] else []
-
-abbrev pub request_list : SeenRequest → List (List ℕ × List ℕ)
-request_list request =
-    (codes "method", request.method)
-    ∷ (codes "address", request.address)
-    ∷ header_pair (codes "accept") (get request.headers (codes "accept"))
-    ++ header_pair (codes "content_type") (get request.headers (codes "content-type"))
-    ++ header_pair (codes "authorization") (get request.headers (codes "authorization"))
-    ++ body_pair request
-
-unfoldable pub request_line : SeenRequest → List ℕ
-request_line request = line_of (codes "request " ++ form (request_list request))
-
-abbrev pub request_lines : List SeenRequest → List ℕ
-request_lines [] = []
-request_lines (request ∷ later) = request_line request ++ request_lines later
-
--- ---- verdicts
-
-abbrev pub signed_list : SeenSignedIn → List (List ℕ × List ℕ)
-signed_list signed =
-    (codes "access_token", signed.access_token) ∷ (codes "claims", object_text (written signed.id_token.claims)) ∷ []
-
--- No key's verdict on a signature is want of memory: that is a law of keys. So `Memory` never stands in a
--- verdict, and has no word here.
-abbrev pub signature_word : SignatureVerificationError → List ℕ
-signature_word signature.AmbiguousKeyId = codes "ambiguous_key"
-signature_word signature.CryptoError = codes "crypto_error"
-signature_word signature.DisallowedAlg = codes "disallowed_alg"
-signature_word signature.InvalidKey = codes "invalid_key"
-signature_word signature.NoMatchingKey = codes "no_matching_key"
-signature_word signature.NoSignature = codes "no_signature"
-signature_word signature.UnsupportedAlg = codes "unsupported_alg"
-signature_word signature.Memory = []
-
-abbrev pub claims_word : ClaimsVerificationError → List ℕ
-claims_word InvalidIssuer = codes "invalid_issuer"
-claims_word InvalidAudience = codes "invalid_audience"
-claims_word (SignatureVerification kind) = signature_word kind
-claims_word Expired = codes "expired"
-claims_word InvalidNonce = codes "invalid_nonce"
-
--- No callback means want of memory, and so it has no line here.
-unfoldable pub verdict_line : Result SeenSignedIn LoginError → List ℕ
-verdict_line (Ok signed) = line_of (codes "callback ok " ++ form (signed_list signed))
-verdict_line (Err login.State) = line_of (codes "callback refused state")
-verdict_line (Err login.Callback) = line_of (codes "callback refused callback")
-verdict_line (Err login.Unbuilt) = line_of (codes "callback refused unbuilt")
-verdict_line (Err (login.Claims kind)) = line_of (codes "callback refused claims " ++ claims_word kind)
-verdict_line (Err (login.Memory spent)) = []
-
--- the requests that a callback sends, in their order, and its verdict
-unfoldable pub callback_lines : Run → List ℕ
-callback_lines run = request_lines run.sent ++ verdict_line run.reply
+use Rattle.oidc_cli.specs.Script.{lines, event_of, fault_of}
+use Rattle.oidc_cli.specs.ReportLines.{begin_line, callback_lines, pending_line, fault_line}
+use Rattle.oidc_cli.specs.declared.events.Event.{Event}
+use Rattle.oidc_cli.specs.declared.events.Event.TheVariants.{Client, Begin, Callback}
+use Rattle.oidc_cli.specs.declared.report.Ending.{Ending}
+use Rattle.oidc_cli.specs.declared.report.Ending.TheVariants as ending
 
 -- ---- events
 
@@ -126,7 +36,11 @@ request_of line = record { state = line.state; nonce = line.nonce }
 
 -- the answer of a callback line
 abbrev pub answer_of : SeenCallbackLine → SeenAnswer
-answer_of line = Some (record { status = line.status; content_type = Some line.content_type; body = line.body })
+answer_of line = Some (record {
+  status = line.status;
+  content_type = Some line.content_type;
+  body = line.body;
+})
 
 abbrev pub reply_of_begin : SeenClient → Pending → SeenBeginLine → Result Parts BeginError
 reply_of_begin client pending line = begin_reply client pending (request_of line) line.verifier
@@ -151,32 +65,56 @@ store_after client pending (Some (Callback line)) = callback_store pending (pair
 
 -- ---- the report
 
-abbrev pub fault_line : ℕ → List ℕ
-fault_line n = codes "script fault line " ++ decimal n ++ 10 ∷ []
+-- the lines of these begins and callbacks, one after another, each over the store that those before it left
+abbrev pub steps_lines : SeenClient → Pending → List (Option Event) → List ℕ
+steps_lines client pending [] = []
+steps_lines client pending (event ∷ later) =
+    step_lines client pending event ++ steps_lines client (store_after client pending event) later
 
-abbrev pub pending_line : Pending → List ℕ
-pending_line pending = codes "pending " ++ decimal (finite.len pending) ++ 10 ∷ []
+-- the store after them
+abbrev pub store_after_steps : SeenClient → Pending → List (Option Event) → Pending
+store_after_steps client pending [] = pending
+store_after_steps client pending (event ∷ later) =
+    store_after_steps client (store_after client pending event) later
 
--- the report of the lines behind the client line, where the first of them has number n: each begin and
--- callback in turn, over the store that those before it left, and then the number of pending logins, or
--- the first line that is no event in its place
-abbrev pub steps_report : SeenClient → Pending → ℕ → List (List ℕ) → List ℕ
-steps_report client pending n [] = pending_line pending
-steps_report client pending n (line ∷ later) =
-    if is_step (event_of line)
-    then step_lines client pending (event_of line) ++ steps_report client (store_after client pending (event_of line)) (n + 1) later
-    else fault_line n
+-- the lines of a script's events, of which the first is the client, and the store after them
+abbrev pub events_lines : List (Option Event) → List ℕ
+events_lines (Some (Client line) ∷ steps) =
+    codes "client ok\n" ++ steps_lines (client_of line) finite.empty steps
+events_lines others = []
 
--- the report whose first line says this
-abbrev pub client_report : Option Event → List (List ℕ) → List ℕ
-client_report None later = fault_line 1
-client_report (Some (Client line)) later = codes "client ok\n" ++ steps_report (client_of line) finite.empty 2 later
-client_report (Some (Begin line)) later = fault_line 1
-client_report (Some (Callback line)) later = fault_line 1
+abbrev pub store_after_events : List (Option Event) → Pending
+store_after_events (Some (Client line) ∷ steps) = store_after_steps (client_of line) finite.empty steps
+store_after_events others = finite.empty
 
-abbrev pub lines_report : List (List ℕ) → List ℕ
-lines_report [] = fault_line 1
-lines_report (first ∷ later) = client_report (event_of first) later
+-- of lines whose first has number n, those before the line with a fault; all of them where there is none
+abbrev pub lines_before : ℕ → Option ℕ → List (List ℕ) → List (List ℕ)
+lines_before n None all = all
+lines_before n (Some fault) all = take (fault - n) all
 
+-- a script's events before its first fault
+abbrev pub events_before_fault : List ℕ → List (Option Event)
+events_before_fault script = map event_of (lines_before 1 (fault_of script) (lines script))
+
+-- the last line of a report: that of the script's first fault, or else that of the pending logins
+abbrev pub last_line : Option ℕ → Pending → List ℕ
+last_line None pending = pending_line pending
+last_line (Some fault) pending = fault_line fault
+
+-- the lines of the events before the first fault, and then the line of the fault, or that of the logins
+-- that are left pending where there is none
 unfoldable pub report : List ℕ → List ℕ
-report script = if nat_lt limit (length script) then fault_line 0 else lines_report (lines script)
+report script =
+    let events = events_before_fault script in
+    events_lines events ++ last_line (fault_of script) (store_after_events events)
+
+-- the rest of a report, from the begin or callback line with number n on
+abbrev pub rest_of_report : SeenClient → Pending → ℕ → List (List ℕ) → Option ℕ → List ℕ
+rest_of_report client pending n all fault =
+    let steps = map event_of (lines_before n fault all) in
+    steps_lines client pending steps ++ last_line fault (store_after_steps client pending steps)
+
+-- how it ends
+abbrev pub ending_of : Option ℕ → Ending
+ending_of None = ending.Pending
+ending_of (Some fault) = ending.Fault

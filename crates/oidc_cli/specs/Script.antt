@@ -1,89 +1,84 @@
--- Which lines of a script are events, and what they say.
-use Rattle.std.specs.Prelude.{ℕ, ◌==◌, List, [], ◌∷◌, length, Option, None, Some, option_and_then, option_map, if◌then◌else◌, codes}
+-- A script: its lines, what they say, and the first that says nothing in its place.
+use Rattle.std.specs.Prelude.{ℕ, ◌==◌, ◌+◌, nat_lt, Bool, true, false, List, [], ◌∷◌, length, Option, None, Some, option_map, if◌then◌else◌, codes}
 use Rattle.std.specs.Str.{bytes_eq}
-use Rattle.oidc_pairs.specs.Pairs.{pairs, values_in, only_of}
+use Rattle.std.specs.List.{slice_split}
+use Rattle.oidc_pairs.specs.Pairs.{pairs}
 use Rattle.oidc_login.specs.IdTokens.{url_of_text}
-use Rattle.oidc_cli.specs.Values.{algorithms_of, moment_of, status_of, content_type_of}
+use Rattle.oidc_cli.specs.Values.{◌>>=◌, pair_text, pair_value, algorithms_of, moment_of_text, status_code_of, content_type_of}
 use Rattle.oidc_cli.specs.Events.{SeenClientLine, SeenBeginLine, SeenCallbackLine}
-use Rattle.oidc_cli.specs.declared.script.Event.{Event}
-use Rattle.oidc_cli.specs.declared.script.Event.TheVariants.{Client, Begin, Callback}
+use Rattle.oidc_cli.specs.declared.events.Event.{Event}
+use Rattle.oidc_cli.specs.declared.events.Event.TheVariants.{Client, Begin, Callback}
 
--- the value of the one pair with this name
-abbrev pub text_in : List (List ℕ × List ℕ) → List ℕ → Option (List ℕ)
-text_in line name = only_of (values_in line name)
+-- how many bytes a script may have
+abbrev pub limit : ℕ
+limit = 67_108_864
 
--- that value, where it is of a kind
-abbrev pub read_in : {A : Type 0} → (List ℕ → Option A) → List (List ℕ × List ℕ) → List ℕ → Option A
-read_in kind line name = option_and_then kind (text_in line name)
+-- ---- lines
+
+-- the parts between line feeds: an empty last part is no line
+abbrev pub lines_of_parts : List (List ℕ) → List (List ℕ)
+lines_of_parts [] = []
+lines_of_parts (part ∷ []) = if length part == 0 then [] else part ∷ []
+lines_of_parts (part ∷ next ∷ rest) = part ∷ lines_of_parts (next ∷ rest)
+
+-- A script is cut at its line feeds. A last line without one counts, a text that ends in one has no
+-- further line, and the empty script has no lines. A carriage return is a byte of its line.
+unfoldable pub lines : List ℕ → List (List ℕ)
+lines script = lines_of_parts (slice_split (λ b. b == 10) script)
+
+-- ---- events
 
 -- Each kind of line has its names beside `op`. As many pairs as names, and exactly one pair of each name:
 -- so each stands once, in any order, and there is no other name and no second `op`.
 
 abbrev pub client_values : List (List ℕ × List ℕ) → Option SeenClientLine
-client_values line =
-    option_and_then (λ id.
-    option_and_then (λ secret.
-    option_and_then (λ issuer.
-    option_and_then (λ auth.
-    option_and_then (λ token.
-    option_map (λ algorithms. record {
-      id = id;
-      secret = secret;
-      issuer = issuer;
-      auth = auth;
-      token = token;
-      algorithms = algorithms;
-    })
-    (read_in algorithms_of line (codes "algs")))
-    (read_in url_of_text line (codes "token")))
-    (read_in url_of_text line (codes "auth")))
-    (read_in url_of_text line (codes "issuer")))
-    (text_in line (codes "secret")))
-    (text_in line (codes "id"))
+client_values line = do
+  id ← pair_text line (codes "id")
+  secret ← pair_text line (codes "secret")
+  issuer ← pair_value url_of_text line (codes "issuer")
+  auth ← pair_value url_of_text line (codes "auth")
+  token ← pair_value url_of_text line (codes "token")
+  algorithms ← pair_value algorithms_of line (codes "algs")
+  Some (record {
+    id = id;
+    secret = secret;
+    issuer = issuer;
+    auth = auth;
+    token = token;
+    algorithms = algorithms;
+  })
 
 abbrev pub begin_values : List (List ℕ × List ℕ) → Option SeenBeginLine
-begin_values line =
-    option_and_then (λ state.
-    option_and_then (λ nonce.
-    option_map (λ verifier. record { state = state; nonce = nonce; verifier = verifier })
-    (text_in line (codes "verifier")))
-    (text_in line (codes "nonce")))
-    (text_in line (codes "state"))
+begin_values line = do
+  state ← pair_text line (codes "state")
+  nonce ← pair_text line (codes "nonce")
+  verifier ← pair_text line (codes "verifier")
+  Some (record { state = state; nonce = nonce; verifier = verifier })
 
 abbrev pub callback_values : List (List ℕ × List ℕ) → Option SeenCallbackLine
-callback_values line =
-    option_and_then (λ now.
-    option_and_then (λ query.
-    option_and_then (λ status.
-    option_and_then (λ content_type.
-    option_map (λ body. record {
-      now = now;
-      query = query;
-      status = status;
-      content_type = content_type;
-      body = body;
-    })
-    (text_in line (codes "token_body")))
-    (read_in content_type_of line (codes "token_type")))
-    (read_in status_of line (codes "token_status")))
-    (text_in line (codes "query")))
-    (read_in moment_of line (codes "now"))
+callback_values line = do
+  now ← pair_value moment_of_text line (codes "now")
+  query ← pair_text line (codes "query")
+  status ← pair_value status_code_of line (codes "token_status")
+  content_type ← pair_value content_type_of line (codes "token_type")
+  body ← pair_text line (codes "token_body")
+  Some (record { now = now; query = query; status = status; content_type = content_type; body = body })
 
-unfoldable pub client_in : List (List ℕ × List ℕ) → Option SeenClientLine
-client_in line = if length line == 7 then client_values line else None
+unfoldable pub client_event_of : List (List ℕ × List ℕ) → Option SeenClientLine
+client_event_of line = if length line == 7 then client_values line else None
 
-unfoldable pub begin_in : List (List ℕ × List ℕ) → Option SeenBeginLine
-begin_in line = if length line == 4 then begin_values line else None
+unfoldable pub begin_event_of : List (List ℕ × List ℕ) → Option SeenBeginLine
+begin_event_of line = if length line == 4 then begin_values line else None
 
-unfoldable pub callback_in : List (List ℕ × List ℕ) → Option SeenCallbackLine
-callback_in line = if length line == 6 then callback_values line else None
+unfoldable pub callback_event_of : List (List ℕ × List ℕ) → Option SeenCallbackLine
+callback_event_of line = if length line == 6 then callback_values line else None
 
 -- the event of a line of this kind
 abbrev pub event_of_kind : List ℕ → List (List ℕ × List ℕ) → Option Event
 event_of_kind kind line =
-    if bytes_eq kind (codes "client") then option_map Client (client_in line)
-    else if bytes_eq kind (codes "begin") then option_map Begin (begin_in line)
-    else if bytes_eq kind (codes "callback") then option_map Callback (callback_in line)
+    if bytes_eq kind (codes "client") then option_map Client (client_event_of line)
+    else if bytes_eq kind (codes "begin") then option_map Begin (begin_event_of line)
+    else if bytes_eq kind (codes "callback") then option_map Callback (callback_event_of line)
     else None
 
 -- the kind of a line: the value of its first pair, which is named `op`
@@ -91,9 +86,41 @@ abbrev pub kind_of : List (List ℕ × List ℕ) → Option (List ℕ)
 kind_of [] = None
 kind_of (first ∷ others) = if bytes_eq first.0 (codes "op") then Some first.1 else None
 
--- What a line says, where it is an event. It is read as form pairs.
-unfoldable pub event_in : List (List ℕ × List ℕ) → Option Event
-event_in line = option_and_then (λ kind. event_of_kind kind line) (kind_of line)
+unfoldable pub event_of_pairs : List (List ℕ × List ℕ) → Option Event
+event_of_pairs line = kind_of line >>= λ kind. event_of_kind kind line
 
+-- What a line says, where it is an event. It is read as form pairs.
 abbrev pub event_of : List ℕ → Option Event
-event_of line = event_in (pairs line)
+event_of line = event_of_pairs (pairs line)
+
+-- ---- the first fault
+
+-- The first line is a client line, and no later one is.
+
+abbrev pub is_client : Option Event → Bool
+is_client None = false
+is_client (Some (Client line)) = true
+is_client (Some (Begin line)) = false
+is_client (Some (Callback line)) = false
+
+-- a begin or a callback
+abbrev pub is_step : Option Event → Bool
+is_step None = false
+is_step (Some (Client line)) = false
+is_step (Some (Begin line)) = true
+is_step (Some (Callback line)) = true
+
+-- the number of the first of these lines that is no begin and no callback, where the first has number n
+abbrev pub fault_from : ℕ → List (List ℕ) → Option ℕ
+fault_from n [] = None
+fault_from n (line ∷ rest) = if is_step (event_of line) then fault_from (n + 1) rest else Some n
+
+-- the number of the first line that is no event in its place; without lines that is 1
+abbrev pub fault_in : List (List ℕ) → Option ℕ
+fault_in [] = Some 1
+fault_in (first ∷ rest) = if is_client (event_of first) then fault_from 2 rest else Some 1
+
+-- The number of the line with a script's first fault: 0 for a script that is too long. `None` where the
+-- script has a line, and each of its lines is an event in its place.
+unfoldable pub fault_of : List ℕ → Option ℕ
+fault_of script = if nat_lt limit (length script) then Some 0 else fault_in (lines script)

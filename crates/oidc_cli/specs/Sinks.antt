@@ -1,7 +1,30 @@
--- Sinks in memory.
-use Rattle.std.specs.Prelude.{ℕ, ◌+◌, Bool, ◌||◌, nat_lt, List, ◌++◌, length, refl}
+-- Sinks: what a call puts, and what contracts see of those in memory and over a writer.
+use Rattle.std.specs.Prelude.{◌≡◌, ℕ, ◌+◌, Bool, ◌||◌, nat_lt, List, ◌++◌, length, take, Option, refl}
+use Rattle.std.specs.Option.{option_map}
 use Rattle.std.specs.Coded.{Coded, code_by, coded_ℕ, coded_list, coded×}
+use Rattle.std.specs.Io.KnownBytes.{Appends}
 use Rattle.oidc_cli.specs.Calls.{SeenCalls, calls_code, fails_next, after_success, after_fault}
+
+-- these bytes were put: what is held now is what was held, and then the bytes
+abbrev pub Puts : Option (List ℕ) → Option (List ℕ) → List ℕ → Type 0
+Puts before after bytes = after ≡ option_map (λ held. held ++ bytes) before
+
+-- some of the piece's first bytes were put, or none, or all
+abbrev pub PutsPrefix : Option (List ℕ) → Option (List ℕ) → List ℕ → Type 0
+PutsPrefix before after piece = (n : ℕ) × Puts before after (take n piece)
+
+-- ---- over a writer
+
+-- the writer, and how many calls failed
+pub record SeenWriteSink (W : Type 0) : Type 0 where
+  pub writer : W
+  pub faults : ℕ
+
+-- what a writer is known to hold grew by some of the piece's first bytes, or none, or all
+abbrev pub AppendsPrefix : Option (List ℕ) → Option (List ℕ) → List ℕ → Type 0
+AppendsPrefix before after piece = (n : ℕ) × Appends before after (take n piece)
+
+-- ---- in memory
 
 -- the bytes that are held, how many there is room for, and the calls
 pub record SeenSink : Type 0 where

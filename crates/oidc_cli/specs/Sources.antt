@@ -1,7 +1,22 @@
--- Sources in memory, and over a reader.
-use Rattle.std.specs.Prelude.{ℕ, List, drop, refl}
+-- Sources: what a call takes, and what contracts see of those in memory and over a reader.
+use Rattle.std.specs.Prelude.{◌≡◌, ℕ, List, ◌++◌, drop, Option, refl}
+use Rattle.std.specs.Option.{option_map}
 use Rattle.std.specs.Coded.{Coded, code_by, coded_ℕ, coded_list, coded×}
 use Rattle.oidc_cli.specs.Calls.{SeenCalls, calls_code, after_success, after_fault}
+
+-- These bytes were taken: what remained is the bytes, and then what remains now. What isn't known before
+-- isn't known after, and what is known stays known.
+abbrev pub Takes : Option (List ℕ) → Option (List ℕ) → List ℕ → Type 0
+Takes before after bytes = before ≡ option_map (λ left. bytes ++ left) after
+
+-- ---- over a reader
+
+-- the reader, and how many of its calls failed
+pub record SeenReadSource (R : Type 0) : Type 0 where
+  pub reader : R
+  pub faults : ℕ
+
+-- ---- in memory
 
 -- the bytes that are left, and the calls
 pub record SeenSource : Type 0 where

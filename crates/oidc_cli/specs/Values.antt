@@ -1,13 +1,38 @@
--- The kinds of values on the lines of a script.
-use Rattle.std.specs.Prelude.{ℕ, ◌==◌, nat_lt, nat_le, ℤ, pos, neg_ℤ, List, [], ◌∷◌, length, Bool, ◌&&◌, Option, None, Some, option_and_then, option_map, if◌then◌else◌}
+-- The values on the lines of a script, and their kinds.
+use Rattle.std.specs.Prelude.{◌≡◌, ℕ, ◌==◌, nat_lt, nat_le, ℤ, pos, neg_ℤ, List, [], ◌∷◌, length, Bool, ◌&&◌, Option, None, Some, Result, Ok, Err, option_and_then, option_map, if◌then◌else◌}
 use Rattle.std.specs.List.{list_all, slice_split}
 use Rattle.std.specs.Str.{all_ascii_digits}
 use Rattle.std.specs.Str.Parse.{digits_value}
 use Rattle.http_header.specs.Token.{is_visible_or_blank}
 use Rattle.oidc_types.specs.declared.core_algorithms.CoreJwsSigningAlgorithm.{CoreJwsSigningAlgorithm}
-use Rattle.oidc_types.specs.SigningAlgorithms.{signing_text, signing_algorithms}
-use Rattle.oidc_types.specs.Words.{find_word}
+use Rattle.oidc_types.specs.{signing_text, signing_algorithms}
+use Rattle.oidc_types.specs.{find_word}
 use Rattle.oidc_login.specs.IdTokens.{moment_at}
+use Rattle.oidc_pairs.specs.Pairs.{values_in, only_of}
+use Rattle.oidc_cli.specs.declared.events.LineError.{LineError}
+use Rattle.oidc_cli.specs.declared.events.LineError.TheVariants.{NoEvent, Memory}
+
+-- one step after another, as long as each has a value
+infixl 10 ◌>>=◌
+abbrev pub ◌>>=◌ : {A B : Type 0} → Option A → (A → Option B) → Option B
+None >>= f = None
+(Some value) >>= f = f value
+
+-- what a reader answers is the value that is meant, but for want of memory
+abbrev pub Reads : {A B : Type 0} → (A → B) → Result A LineError → Option B → Type 0
+Reads view (Ok value) meant = meant ≡ Some (view value)
+Reads view (Err NoEvent) meant = meant ≡ None
+Reads view (Err Memory) meant = Unit {0}
+
+-- ---- the pairs of a line
+
+-- the value of the one pair with this name
+abbrev pub pair_text : List (List ℕ × List ℕ) → List ℕ → Option (List ℕ)
+pair_text line name = only_of (values_in line name)
+
+-- that value, where it is of a kind
+abbrev pub pair_value : {A : Type 0} → (List ℕ → Option A) → List (List ℕ × List ℕ) → List ℕ → Option A
+pair_value kind line name = pair_text line name >>= kind
 
 -- ---- signing algorithms
 
@@ -15,7 +40,8 @@ use Rattle.oidc_login.specs.IdTokens.{moment_at}
 abbrev pub all_algorithms : List (List ℕ) → Option (List CoreJwsSigningAlgorithm)
 all_algorithms [] = Some []
 all_algorithms (text ∷ texts) =
-    option_and_then (λ algorithm. option_map (λ later. algorithm ∷ later) (all_algorithms texts)) (find_word signing_text signing_algorithms text)
+    option_and_then (λ algorithm. option_map (λ later. algorithm ∷ later) (all_algorithms texts))
+    (find_word signing_text signing_algorithms text)
 
 -- texts of algorithms, joined by one space; the empty text is the empty list
 unfoldable pub algorithms_of : List ℕ → Option (List CoreJwsSigningAlgorithm)
@@ -26,24 +52,27 @@ algorithms_of (b ∷ text) = all_algorithms (slice_split (λ c. c == 32) (b ∷ 
 
 -- the number that one decimal digit or more write
 abbrev pub decimal_of : List ℕ → Option ℕ
-decimal_of text = if nat_lt 0 (length text) && all_ascii_digits text then Some (digits_value 10 text) else None
+decimal_of text =
+    if nat_lt 0 (length text) && all_ascii_digits text then Some (digits_value 10 text) else None
 
 -- the whole number that digits write, below zero behind a `-`
 abbrev pub whole_of : List ℕ → Option ℤ
 whole_of [] = None
 whole_of (b ∷ text) =
-    if b == 45 then option_map (λ n. neg_ℤ (pos n)) (decimal_of text) else option_map pos (decimal_of (b ∷ text))
+    if b == 45 then option_map (λ n. neg_ℤ (pos n)) (decimal_of text)
+    else option_map pos (decimal_of (b ∷ text))
 
 -- a moment at whole seconds since the Unix epoch, as nanoseconds
-unfoldable pub moment_of : List ℕ → Option ℤ
-moment_of text = option_and_then moment_at (whole_of text)
+unfoldable pub moment_of_text : List ℕ → Option ℤ
+moment_of_text text = option_and_then moment_at (whole_of text)
 
 -- ---- parts of an answer
 
 -- a status code: three digits that write a number from 100 on
-unfoldable pub status_of : List ℕ → Option ℕ
-status_of text =
-    option_and_then (λ n. if nat_le 100 n then Some n else None) (if length text == 3 then decimal_of text else None)
+unfoldable pub status_code_of : List ℕ → Option ℕ
+status_code_of text =
+    option_and_then (λ n. if nat_le 100 n then Some n else None)
+    (if length text == 3 then decimal_of text else None)
 
 -- a content type: tabs, spaces and visible ASCII
 unfoldable pub content_type_of : List ℕ → Option (List ℕ)

@@ -1,9 +1,9 @@
-//! The calls of an object outside, and which of them fail.
-ghost use Rattle.std.specs.Prelude.{◌≡◌, ◌==◌, ◌+◌, ◌≤◌};
+//! The calls of an object outside the program: which of them fail, and how often they did.
+ghost use Rattle.std.specs.Prelude.{◌≡◌, ◌==◌, ◌+◌, ◌≤◌, Ok, IfOk, OnOk, OnErr, IsErr};
 ghost use Rattle.std.specs.List.{list_any};
-ghost use Rattle.oidc_cli.specs.Told.{HasRisen};
-ghost use Rattle.oidc_cli.specs.Calls.{fails_next, after_success, after_fault};
+ghost use Rattle.oidc_cli.specs.Calls.{HasRisen, risen, no_calls, fails_next, after_success, after_fault};
 
+use std::io;
 use std::marker::Model;
 use thiserror::Error;
 
@@ -11,6 +11,56 @@ use thiserror::Error;
 #[derive(Clone, Copy, Debug, PartialEq, Eq, Error)]
 #[error("the call failed")]
 pub struct Failed;
+
+/// How often an object over std has failed. The count stops at `u64::MAX`.
+#[derive(Drop)]
+pub struct Faults {
+    count: u64,
+}
+
+impl Model for Faults {
+    ghost use Rattle.std.specs.Prelude.{ℕ};
+
+    ghost Value = { ℕ };
+
+    ghost view = { λ f. f.count };
+}
+
+impl Faults {
+    /// No fault yet.
+    pub fn new() -> Self
+        ensures { result ≡ 0 }
+    {
+        Faults { count: 0 }
+    }
+
+    /// Counts a fault.
+    pub fn count(&mut self)
+        ensures counted { self.new ≡ risen self.old }
+        ensures blamed { HasRisen self.old self.new }
+        ensures counts { self.old ≤ self.new }
+    {
+        self.count = self.count.saturating_add(1);
+    }
+
+    /// What std answered, as a source or a sink answers it: its error is a fault, and nothing else is.
+    pub fn answered<T: Drop>(&mut self, answer: io::Result<T>) -> Result<T, Failed>
+        ensures ok { IfOk result (λ value. answer ≡ Ok value) }
+        ensures err { OnErr result (IsErr answer) }
+        ensures uncounted { OnOk result (self.new ≡ self.old) }
+        ensures counted { OnErr result (self.new ≡ risen self.old) }
+        ensures blamed { OnErr result (HasRisen self.old self.new) }
+        ensures counts { self.old ≤ self.new }
+    {
+        match answer {
+            Ok(value) => Ok(value),
+            Err(_) => {
+                self.count();
+                Err(Failed)
+            }
+        }
+    }
+}
 
 /// Which calls fail, how many were made, and how many of them failed. Both counts stop at `u64::MAX`.
 #[derive(Drop)]
@@ -21,7 +71,6 @@ pub struct Calls {
 }
 
 impl Model for Calls {
-    ghost use Rattle.oidc_cli.specs.Told.{HasRisen};
     ghost use Rattle.oidc_cli.specs.Calls.{SeenCalls, calls_code};
 
     ghost Value = { SeenCalls };
@@ -32,11 +81,9 @@ impl Model for Calls {
 }
 
 impl Calls {
-    ghost use Rattle.std.specs.Prelude.{[]};
-
     /// No call yet, and the numbers of those that are to fail, from 1.
     pub fn new(failing: Vec<u64>) -> Self
-        ensures { result ≡ record { failing = failing.items; made = 0; faults = 0 } }
+        ensures { result ≡ no_calls failing.items }
     {
         Calls {
             failing,

@@ -2,13 +2,14 @@
 //!
 //! - [`run`] is the whole program but for its words and its adapters. It reads a script of a
 //!   [`Source`], runs its events through a store of pending logins of `oidc_login`, and puts the report
-//!   into a [`Sink`]. Its contract says that 2 comes exactly for wrong words, that on 1 and 4 the sink
-//!   and the source has failed, and, where the source tells its bytes, that on 0 the script has no fault
-//!   and on 3 it has one. 5 is free. Where source and sink tell, what it wrote is the report of the
-//!   script, or begins it.
-//! - [`Source`] gives the bytes of a script and [`Sink`] takes those of a report. Each tells its bytes,
-//!   or doesn't, and counts its faults. [`MemorySource`] and [`MemorySink`] are in memory and fail where
-//!   they are told to; [`ReadSource`] and [`WriteSink`] are over a reader and a writer of std.
+//!   into a [`Sink`]. Its contract says that 2 comes exactly for wrong words, that on 1 and 4 the count
+//!   of faults of sink and source rose, or stands at its last value, and, where the source's bytes are
+//!   known, that on 0 the script has no fault and on 3 it has one. 5 is free. Where the bytes of both are
+//!   known, what it wrote is the report of the script, or begins it.
+//! - [`Source`] gives the bytes of a script and [`Sink`] takes those of a report. The bytes of each are
+//!   known, or are not, and each counts its faults. [`MemorySource`] and [`MemorySink`] are in memory and
+//!   fail at the calls that they are given; [`ReadSource`] and [`WriteSink`] are over a reader and a
+//!   writer of std.
 //!
 //! # Scripts
 //!
@@ -31,15 +32,14 @@
 #![tactic(auto)]
 
 mod calls;
+mod events;
 mod program;
 mod reading;
-mod replay;
+mod report;
+mod report_lines;
 mod script;
 mod sinks;
 mod sources;
-#[cfg(test)]
-mod tests;
-mod texts;
 
 pub use crate::calls::Failed;
 pub use crate::program::{

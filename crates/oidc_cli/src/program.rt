@@ -2,13 +2,11 @@
 ghost use Rattle.std.specs.Prelude.{◌≡◌, ◌≢◌, ◌↔◌, ◌⊎◌, ◌≤◌, ◌<◌, ◌+◌, ℕ, List, [], ◌∷◌, map, length, Some, None, IsSome, codes};
 ghost use Rattle.std.specs.String.{string_bytes};
 ghost use Rattle.std.specs.Io.KnownBytes.{IsAtEnd};
-ghost use Rattle.oidc_cli.specs.Told.{HasRisen, Takes, Puts, PutsPrefix};
-ghost use Rattle.oidc_cli.specs.Faults.{limit, fault_of};
-ghost use Rattle.oidc_cli.specs.Report.{report};
-ghost use Rattle.oidc_cli.specs.Statuses.{EndsInFault, status_after};
+ghost use Rattle.oidc_cli.specs.{HasRisen, Takes, Puts, PutsPrefix, fault_of, report, EndsInFault};
+ghost use Rattle.oidc_cli.specs.Program.{status_after};
 
 use crate::reading::{ReadError, is_replay, read_script};
-use crate::replay::{Ending, Halt, replay};
+use crate::report::{Ending, Halt, put_report};
 use crate::{Sink, Source};
 use std::alloc::Global;
 
@@ -16,7 +14,7 @@ use std::alloc::Global;
 /// written.
 pub const DONE: u8 = 0;
 
-/// The sink failed.
+/// The sink failed: its count of faults rose, or stands at its last value.
 pub const SINK_FAULT: u8 = 1;
 
 /// The words aren't the one word `replay`.
@@ -25,7 +23,7 @@ pub const WRONG_WORDS: u8 = 2;
 /// The script has a fault, and the report that ends in its line was written.
 pub const SCRIPT_FAULT: u8 = 3;
 
-/// The source failed.
+/// The source failed: its count of faults rose, or stands at its last value.
 pub const SOURCE_FAULT: u8 = 4;
 
 /// There was no memory.
@@ -34,49 +32,51 @@ pub const NO_MEMORY: u8 = 5;
 /// Runs the program: reads a script of the source, runs it through a store of pending logins, and
 /// writes the report to the sink. The result is the exit status.
 ///
-/// The body reads first, to the end of the source or past 67,108,864 bytes, and then writes, a line of
+/// The body reads first, to the end of the source or one byte past 67,108,864, and then writes, a line of
 /// the report at a call of the sink. No clause says in which order it reads and writes. What the clauses
-/// say of bytes, they say of a source that tells them; a sink that tells nothing tells nothing after the
-/// call either. For want of memory the status may be 5 wherever the words are right.
+/// say of bytes, they say of a source whose bytes are known; a sink whose bytes aren't known is not known
+/// after the call either. For want of memory the status may be 5 wherever the words are right.
 pub fn run<S: Source, O: Sink>(alloc: Global, words: &[String], source: &mut S, sink: &mut O) -> u8
     ensures status { result ≤ 5 }
 
     // 2 exactly where the words are wrong. Nothing is read then, and nothing written.
     ensures words { (result ≡ 2) ↔ (map string_bytes words.now ≢ codes "replay" ∷ []) }
+    ensures one_word { result ≢ 2 → map string_bytes words.now ≡ codes "replay" ∷ [] }
     ensures unread { result ≡ 2 → source.new ≡ source.old }
     ensures unwritten { (result ≡ 2) ⊎ (result ≡ 4) → sink.new ≡ sink.old }
 
-    // 1 and 4 only where that object has failed.
+    // 1 and 4 only where that object's count of faults rose, or stands at its last value.
     ensures sink_fault { result ≡ 1 → HasRisen (O.faults sink.old) (O.faults sink.new) }
     ensures source_fault { result ≡ 4 → HasRisen (S.faults source.old) (S.faults source.new) }
     ensures counts { (S.faults source.old ≤ S.faults source.new)
         × (O.faults sink.old ≤ O.faults sink.new) }
 
     // On 0 the source was read to its end, and the whole report stands behind what the sink held.
-    ensures ended { result ≡ 0 → IsAtEnd (S.told source.new) }
-    ensures whole { (script : List ℕ) → S.told source.old ≡ Some script → result ≡ 0
+    ensures ended { result ≡ 0 → IsAtEnd (S.remaining source.new) }
+    ensures whole { (script : List ℕ) → S.remaining source.old ≡ Some script → result ≡ 0
         → fault_of script ≡ None }
-    ensures reported { (script : List ℕ) → S.told source.old ≡ Some script → result ≡ 0
-        → Puts (O.told sink.old) (O.told sink.new) (report script) }
+    ensures reported { (script : List ℕ) → S.remaining source.old ≡ Some script → result ≡ 0
+        → Puts (O.written sink.old) (O.written sink.new) (report script) }
 
     // On 3 the script has a fault, and its report ends in the line of the first. An over-long script has
     // that line alone.
-    ensures fault { (script : List ℕ) → S.told source.old ≡ Some script → result ≡ 3
+    ensures fault { (script : List ℕ) → S.remaining source.old ≡ Some script → result ≡ 3
         → EndsInFault script }
-    ensures fault_reported { (script : List ℕ) → S.told source.old ≡ Some script → result ≡ 3
-        → Puts (O.told sink.old) (O.told sink.new) (report script) }
+    ensures fault_reported { (script : List ℕ) → S.remaining source.old ≡ Some script → result ≡ 3
+        → Puts (O.written sink.old) (O.written sink.new) (report script) }
 
     // On 1 and 5 what was written begins the report.
-    ensures begun { (script : List ℕ) → S.told source.old ≡ Some script → (result ≡ 1) ⊎ (result ≡ 5)
-        → PutsPrefix (O.told sink.old) (O.told sink.new) (report script) }
+    ensures begun { (script : List ℕ) → S.remaining source.old ≡ Some script
+        → (result ≡ 1) ⊎ (result ≡ 5)
+        → PutsPrefix (O.written sink.old) (O.written sink.new) (report script) }
 
-    // Reading stops once more than 67,108,864 bytes are held: at most one piece more is taken.
-    ensures bounded { (read : List ℕ) × Takes (S.told source.old) (S.told source.new) read
-        × (length read ≤ 67_108_864 + 8_192) }
+    // Reading stops at one byte more than 67,108,864.
+    ensures bounded { (read : List ℕ) × Takes (S.remaining source.old) (S.remaining source.new) read
+        × (length read ≤ 67_108_865) }
 
     // A script without a fault is reported, where nothing fails and there is memory.
     ensures completes { (script : List ℕ) → map string_bytes words.now ≡ codes "replay" ∷ []
-        → S.told source.old ≡ Some script → fault_of script ≡ None
+        → S.remaining source.old ≡ Some script → fault_of script ≡ None
         → ¬ (HasRisen (S.faults source.old) (S.faults source.new))
         → ¬ (HasRisen (O.faults sink.old) (O.faults sink.new))
         → (result ≡ 0) ⊎ (result ≡ 5) }
@@ -85,14 +85,14 @@ pub fn run<S: Source, O: Sink>(alloc: Global, words: &[String], source: &mut S, 
         return WRONG_WORDS;
     }
     match read_script(alloc, source) {
-        Ok(script) => status_of(replay(alloc, script.as_slice(), sink)),
+        Ok(script) => status_of_run(put_report(alloc, script.as_slice(), sink)),
         Err(ReadError::Source) => SOURCE_FAULT,
         Err(ReadError::Memory) => NO_MEMORY,
     }
 }
 
 // The status of a run whose script was read.
-fn status_of(ended: Result<Ending, Halt>) -> u8
+fn status_of_run(ended: Result<Ending, Halt>) -> u8
     ensures { result ≡ status_after ended }
 {
     match ended {

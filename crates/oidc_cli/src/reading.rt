@@ -2,8 +2,9 @@
 ghost use Rattle.std.specs.Prelude.{◌≡◌, ◌≢◌, ◌↔◌, ◌+◌, ◌≤◌, ℕ, List, [], ◌∷◌, map, length, take, IsTrue, IsErrOf, IfOk, codes};
 ghost use Rattle.std.specs.String.{string_bytes};
 ghost use Rattle.std.specs.Io.KnownBytes.{IsAtEnd};
-ghost use Rattle.oidc_cli.specs.Told.{HasRisen, Takes};
-ghost use Rattle.oidc_cli.specs.Faults.{limit};
+ghost use Rattle.oidc_cli.specs.Calls.{HasRisen};
+ghost use Rattle.oidc_cli.specs.Sources.{Takes};
+ghost use Rattle.oidc_cli.specs.Script.{limit};
 
 use crate::{Failed, Source};
 use std::alloc::{AllocError, Global};
@@ -11,7 +12,7 @@ use std::alloc::{AllocError, Global};
 /// The most bytes that a script may have.
 pub const LIMIT: usize = 67_108_864;
 
-/// How many bytes are taken of a source at a time.
+/// The most bytes that are taken of a source at a time.
 pub const PIECE: usize = 8_192;
 
 /// Why there is no script.
@@ -61,21 +62,26 @@ fn is_word_replay(word: &str) -> bool
     word == "replay"
 }
 
-/// Reads a source to its end, or until more than `LIMIT` bytes are held.
+/// Reads a source to its end, or until one byte more than `LIMIT` is held.
 pub fn read_script<S: Source>(alloc: Global, source: &mut S) -> Result<Vec<u8>, ReadError>
-    ensures script { IfOk result (λ script. Takes (S.told source.old) (S.told source.new) script.items) }
-    ensures ended { IfOk result (λ script. length script.items ≤ limit → IsAtEnd (S.told source.new)) }
+    ensures script { IfOk result
+        (λ script. Takes (S.remaining source.old) (S.remaining source.new) script.items) }
+    ensures ended { IfOk result
+        (λ script. length script.items ≤ limit → IsAtEnd (S.remaining source.new)) }
 
     // What was taken, whatever came of it.
-    ensures bounded { (read : List ℕ) × Takes (S.told source.old) (S.told source.new) read × (length read ≤ limit + 8_192) }
+    ensures bounded { (read : List ℕ) × Takes (S.remaining source.old) (S.remaining source.new) read
+        × (length read ≤ limit + 1) }
 
-    ensures blamed { IsErrOf result ReadError.Source → HasRisen (S.faults source.old) (S.faults source.new) }
+    ensures blamed { IsErrOf result ReadError.Source
+        → HasRisen (S.faults source.old) (S.faults source.new) }
     ensures counts { S.faults source.old ≤ S.faults source.new }
 {
     let mut script = Vec::new(alloc);
     let mut piece = [0u8; PIECE];
     while script.len() <= LIMIT {
-        let count = source.take(&mut piece)?;
+        let room = PIECE.min(LIMIT + 1 - script.len());
+        let count = source.take(&mut piece[..room])?;
         if count == 0 {
             return Ok(script);
         }

@@ -1,104 +1,18 @@
 //! The lines of a script, and what they say.
-ghost use Rattle.std.specs.Prelude.{◌≡◌, ◌==◌, ◌∷◌, ◌<◌, [], length, position, option_map, IfOk, IfSome, IsNone, ◌↔◌};
+ghost use Rattle.std.specs.Prelude.{◌≡◌, ◌==◌, ◌∷◌, ◌<◌, [], length, position, IfOk, IfSome, IsNone, ◌↔◌};
 ghost use Rattle.std.specs.Option.{option_copied};
-ghost use Rattle.std.specs.String.{string_bytes};
-ghost use Rattle.oidc_pairs.specs.Pairs.{pairs};
-ghost use Rattle.oidc_cli.specs.Lines.{lines};
-ghost use Rattle.oidc_cli.specs.Script.{text_in, kind_of as kind_in, client_in, begin_in, callback_in, event_in, event_of};
+ghost use Rattle.oidc_cli.specs.Values.{Reads};
+ghost use Rattle.oidc_cli.specs.Script.{lines, kind_of as kind_in, client_event_of, begin_event_of, callback_event_of, event_of_pairs, event_of};
 
 mod values;
 
+use crate::events::{BeginLine, CallbackLine, ClientLine, Event, LineError};
 use crate::script::values::{
-    algorithms_named, content_type_named, moment_named, status_named, url_named,
+    pair_algorithms, pair_content_type, pair_moment, pair_status, pair_text, pair_url,
 };
-use http::StatusCode;
-use http_header::HeaderValue;
-use jiff::Timestamp;
 use oidc_pairs::Pairs;
-use oidc_types::{
-    AuthUrl, ClientId, ClientSecret, CoreJwsSigningAlgorithm, CsrfToken, IssuerUrl, Nonce,
-    PkceCodeVerifier, TokenUrl,
-};
+use oidc_types::{ClientId, ClientSecret, CsrfToken, Nonce, PkceCodeVerifier};
 use std::alloc::{AllocError, Global};
-use std::marker::Model;
-
-/// What a client line says.
-#[derive(Drop)]
-pub struct ClientLine {
-    pub id: ClientId,
-    pub secret: ClientSecret,
-    pub issuer: IssuerUrl,
-    pub auth: AuthUrl,
-    pub token: TokenUrl,
-    pub algorithms: Vec<CoreJwsSigningAlgorithm>,
-}
-
-impl Model for ClientLine {
-    ghost use Rattle.oidc_cli.specs.Events.{SeenClientLine};
-
-    ghost Value = { SeenClientLine };
-
-    ghost view = { λ c. record {
-      id = c.id;
-      secret = c.secret;
-      issuer = c.issuer;
-      auth = c.auth;
-      token = c.token;
-      algorithms = c.algorithms.items;
-    } };
-}
-
-/// What a begin line says.
-#[derive(Drop)]
-pub struct BeginLine {
-    pub state: CsrfToken,
-    pub nonce: Nonce,
-    pub verifier: PkceCodeVerifier,
-}
-
-impl Model for BeginLine {
-    ghost use Rattle.oidc_cli.specs.Events.{SeenBeginLine};
-
-    ghost Value = { SeenBeginLine };
-
-    ghost view = { λ b. record { state = b.state; nonce = b.nonce; verifier = b.verifier } };
-}
-
-/// What a callback line says: the moment, the query, and the answer to the token request.
-#[derive(Drop)]
-pub struct CallbackLine {
-    pub now: Timestamp,
-    pub query: String,
-    pub status: StatusCode,
-    pub content_type: HeaderValue,
-    pub body: String,
-}
-
-impl Model for CallbackLine {
-    ghost use Rattle.std.specs.String.{string_bytes};
-    ghost use Rattle.oidc_cli.specs.Events.{SeenCallbackLine};
-
-    ghost Value = { SeenCallbackLine };
-
-    ghost view = { λ c. record {
-      now = c.now.nanosecond;
-      query = string_bytes c.query;
-      status = c.status;
-      content_type = c.content_type.bytes;
-      body = string_bytes c.body;
-    } };
-}
-
-/// What a line of a script says.
-#[derive(Drop)]
-pub enum Event {
-    /// The client that the script is for.
-    Client(ClientLine),
-    /// A login begins.
-    Begin(BeginLine),
-    /// A user comes back, and the provider answers.
-    Callback(CallbackLine),
-}
 
 /// The first line of a script, and the script behind its line feed. `None` where there is no line.
 pub fn first_line(script: &[u8]) -> Option<(&[u8], &[u8])>
@@ -127,7 +41,11 @@ pub fn read_line(alloc: Global, line: &[u8]) -> Result<Option<Event>, AllocError
     ensures { IfOk result (λ event. event ≡ event_of line.now) }
 {
     let pairs = Pairs::parse(alloc, line)?;
-    read_event(alloc, &pairs)
+    match read_event(alloc, &pairs) {
+        Ok(event) => Ok(Some(event)),
+        Err(LineError::NoEvent) => Ok(None),
+        Err(LineError::Memory) => Err(AllocError),
+    }
 }
 
 // The value of the first pair, where that is named `op`.
@@ -142,113 +60,75 @@ fn kind_of(line: &Pairs) -> Option<&str>
     }
 }
 
-#[tactic(auto, unfolding(crate::specs::Script::event_in))]
-fn read_event(alloc: Global, line: &Pairs) -> Result<Option<Event>, AllocError>
-    ensures { IfOk result (λ event. event ≡ event_in line.now) }
+#[tactic(auto, unfolding(crate::specs::Script::event_of_pairs))]
+fn read_event(alloc: Global, line: &Pairs) -> Result<Event, LineError>
+    ensures { Reads (λ event. event) result (event_of_pairs line.now) }
 {
     match kind_of(line) {
-        Some("client") => Ok(read_client(alloc, line)?.map(Event::Client)),
-        Some("begin") => Ok(read_begin(alloc, line)?.map(Event::Begin)),
-        Some("callback") => Ok(read_callback(alloc, line)?.map(Event::Callback)),
-        _ => Ok(None),
+        Some("client") => Ok(Event::Client(read_client(alloc, line)?)),
+        Some("begin") => Ok(Event::Begin(read_begin(alloc, line)?)),
+        Some("callback") => Ok(Event::Callback(read_callback(alloc, line)?)),
+        _ => Err(LineError::NoEvent),
     }
 }
 
-// A copy of the value of the one pair with this name.
-fn text_named(alloc: Global, line: &Pairs, name: &str) -> Result<Option<String>, AllocError>
-    ensures { IfOk result (λ text. option_map string_bytes text ≡ text_in line.now name.now) }
-{
-    match line.only(name) {
-        Some(text) => Ok(Some(String::from_str(alloc, text)?)),
-        None => Ok(None),
-    }
-}
-
-#[tactic(auto, unfolding(crate::specs::Script::client_in))]
-fn read_client(alloc: Global, line: &Pairs) -> Result<Option<ClientLine>, AllocError>
-    ensures { IfOk result (λ read. read ≡ client_in line.now) }
+#[tactic(auto, unfolding(crate::specs::Script::client_event_of))]
+fn read_client(alloc: Global, line: &Pairs) -> Result<ClientLine, LineError>
+    ensures { Reads (λ read. read) result (client_event_of line.now) }
 {
     if line.len() != 7 {
-        return Ok(None);
+        return Err(LineError::NoEvent);
     }
-    let Some(id) = text_named(alloc, line, "id")? else {
-        return Ok(None);
-    };
-    let Some(secret) = text_named(alloc, line, "secret")? else {
-        return Ok(None);
-    };
-    let Some(issuer) = url_named(alloc, line, "issuer")? else {
-        return Ok(None);
-    };
-    let Some(auth) = url_named(alloc, line, "auth")? else {
-        return Ok(None);
-    };
-    let Some(token) = url_named(alloc, line, "token")? else {
-        return Ok(None);
-    };
-    let Some(algorithms) = algorithms_named(alloc, line, "algs")? else {
-        return Ok(None);
-    };
-    Ok(Some(ClientLine {
+    let id = pair_text(alloc, line, "id")?;
+    let secret = pair_text(alloc, line, "secret")?;
+    let issuer = pair_url(alloc, line, "issuer")?;
+    let auth = pair_url(alloc, line, "auth")?;
+    let token = pair_url(alloc, line, "token")?;
+    let algorithms = pair_algorithms(alloc, line, "algs")?;
+    Ok(ClientLine {
         id: ClientId::new(id),
         secret: ClientSecret::new(secret),
         issuer,
         auth,
         token,
         algorithms,
-    }))
+    })
 }
 
-#[tactic(auto, unfolding(crate::specs::Script::begin_in))]
-fn read_begin(alloc: Global, line: &Pairs) -> Result<Option<BeginLine>, AllocError>
-    ensures { IfOk result (λ read. read ≡ begin_in line.now) }
+#[tactic(auto, unfolding(crate::specs::Script::begin_event_of))]
+fn read_begin(alloc: Global, line: &Pairs) -> Result<BeginLine, LineError>
+    ensures { Reads (λ read. read) result (begin_event_of line.now) }
 {
     if line.len() != 4 {
-        return Ok(None);
+        return Err(LineError::NoEvent);
     }
-    let Some(state) = text_named(alloc, line, "state")? else {
-        return Ok(None);
-    };
-    let Some(nonce) = text_named(alloc, line, "nonce")? else {
-        return Ok(None);
-    };
-    let Some(verifier) = text_named(alloc, line, "verifier")? else {
-        return Ok(None);
-    };
-    Ok(Some(BeginLine {
+    let state = pair_text(alloc, line, "state")?;
+    let nonce = pair_text(alloc, line, "nonce")?;
+    let verifier = pair_text(alloc, line, "verifier")?;
+    Ok(BeginLine {
         state: CsrfToken::new(state),
         nonce: Nonce::new(nonce),
         verifier: PkceCodeVerifier::new(verifier),
-    }))
+    })
 }
 
-#[tactic(auto, unfolding(crate::specs::Script::callback_in))]
-fn read_callback(alloc: Global, line: &Pairs) -> Result<Option<CallbackLine>, AllocError>
-    ensures { IfOk result (λ read. read ≡ callback_in line.now) }
+#[tactic(auto, unfolding(crate::specs::Script::callback_event_of))]
+fn read_callback(alloc: Global, line: &Pairs) -> Result<CallbackLine, LineError>
+    ensures { Reads (λ read. read) result (callback_event_of line.now) }
 {
     if line.len() != 6 {
-        return Ok(None);
+        return Err(LineError::NoEvent);
     }
-    let Some(now) = moment_named(line, "now") else {
-        return Ok(None);
-    };
-    let Some(query) = text_named(alloc, line, "query")? else {
-        return Ok(None);
-    };
-    let Some(status) = status_named(line, "token_status") else {
-        return Ok(None);
-    };
-    let Some(content_type) = content_type_named(alloc, line, "token_type")? else {
-        return Ok(None);
-    };
-    let Some(body) = text_named(alloc, line, "token_body")? else {
-        return Ok(None);
-    };
-    Ok(Some(CallbackLine {
+    let now = pair_moment(line, "now")?;
+    let query = pair_text(alloc, line, "query")?;
+    let status = pair_status(line, "token_status")?;
+    let content_type = pair_content_type(alloc, line, "token_type")?;
+    let body = pair_text(alloc, line, "token_body")?;
+    Ok(CallbackLine {
         now,
         query,
         status,
         content_type,
         body,
-    }))
+    })
 }

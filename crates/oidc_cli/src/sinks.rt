@@ -1,18 +1,18 @@
 //! Where a report goes.
 ghost use Rattle.std.specs.Prelude.{◌≡◌, ℕ, ◌<◌, ◌≤◌, List, length, Option, is_err, IfOk, OnOk, OnErr, []};
-ghost use Rattle.oidc_cli.specs.Told.{HasRisen, Puts, PutsPrefix};
-ghost use Rattle.oidc_cli.specs.Sinks.{fails_at, after_putting, after_failing};
+ghost use Rattle.oidc_cli.specs.Calls.{HasRisen, no_calls};
+ghost use Rattle.oidc_cli.specs.Sinks.{Puts, PutsPrefix, fails_at, after_putting, after_failing};
 
 use crate::Failed;
-use crate::calls::Calls;
+use crate::calls::{Calls, Faults};
 use std::alloc::{AllocError, Global};
 use std::io::Write;
 use std::marker::Model;
 
 /// Bytes that pieces are put after.
 pub trait Sink {
-    /// The bytes that it holds, where it tells them.
-    ghost told: { Self → Option (List ℕ) };
+    /// The bytes that it holds, where they are known.
+    ghost written: { Self → Option (List ℕ) };
 
     /// How often it has failed.
     ghost faults: { Self → ℕ };
@@ -20,14 +20,14 @@ pub trait Sink {
     /// Puts a piece after the bytes that it holds. A call that failed put some of its first bytes, or
     /// none, or all.
     fn put(&mut self, piece: &[u8]) -> Result<(), Failed>
-        ensures puts { OnOk result (Puts (told self.old) (told self.new) piece.now) }
-        ensures keeps { OnErr result (PutsPrefix (told self.old) (told self.new) piece.now) }
+        ensures puts { OnOk result (Puts (written self.old) (written self.new) piece.now) }
+        ensures keeps { OnErr result (PutsPrefix (written self.old) (written self.new) piece.now) }
         ensures blamed { OnErr result (HasRisen (faults self.old) (faults self.new)) }
         ensures counts { faults self.old ≤ faults self.new };
 }
 
-/// Bytes in memory, up to a room that is taken first. It tells them, and fails exactly at the calls that
-/// it was given, and at a piece that goes past its room.
+/// Bytes in memory, up to a room that is taken first. They are known, and it fails exactly at the calls
+/// that it was given, and at a piece that goes past its room.
 #[derive(Drop)]
 pub struct MemorySink {
     held: Vec<u8>,
@@ -54,10 +54,11 @@ impl MemorySink {
     pub fn new(alloc: Global, room: usize, failing: Vec<u64>) -> Result<Self, AllocError>
         ensures held { IfOk result (λ sink. sink.held ≡ []) }
         ensures room { IfOk result (λ sink. sink.room ≡ room) }
-        ensures failing { IfOk result (λ sink. sink.calls ≡ record { failing = failing.items; made = 0; faults = 0 }) }
+        ensures failing { IfOk result (λ sink. sink.calls ≡ no_calls failing.items) }
 
-        // It tells its bytes, and has no fault yet.
-        ensures told { IfOk result (λ sink. ⟦<MemorySink as Sink>⟧.told sink ≡ Option.Some []) }
+        // Its bytes are known, and it has no fault yet.
+        ensures written { IfOk result
+            (λ sink. ⟦<MemorySink as Sink>⟧.written sink ≡ Option.Some []) }
         ensures faults { IfOk result (λ sink. ⟦<MemorySink as Sink>⟧.faults sink ≡ 0) }
     {
         let held = Vec::with_capacity(alloc, room)?;
@@ -77,17 +78,19 @@ impl MemorySink {
 }
 
 impl Sink for MemorySink {
-    ghost told = { λ s. Option.Some s.held };
+    ghost written = { λ s. Option.Some s.held };
 
     ghost faults = { λ s. s.calls.faults };
 
     fn put(&mut self, piece: &[u8]) -> Result<(), Failed>
-        ensures puts { OnOk result (Puts (Option.Some self.old.held) (Option.Some self.new.held) piece.now) }
-        ensures keeps { OnErr result (PutsPrefix (Option.Some self.old.held) (Option.Some self.new.held) piece.now) }
+        ensures puts { OnOk result
+            (Puts (Option.Some self.old.held) (Option.Some self.new.held) piece.now) }
+        ensures keeps { OnErr result
+            (PutsPrefix (Option.Some self.old.held) (Option.Some self.new.held) piece.now) }
         ensures blamed { OnErr result (HasRisen self.old.calls.faults self.new.calls.faults) }
         ensures counts { self.old.calls.faults ≤ self.new.calls.faults }
 
-        // It fails where it was told to, and where there is no room.
+        // It fails exactly where it was made to, and where there is no room.
         ensures fails { is_err result ≡ fails_at self.old piece.now }
         ensures ok { OnOk result (self.new ≡ after_putting self.old piece.now) }
         ensures err { OnErr result (self.new ≡ after_failing self.old) }
@@ -103,59 +106,70 @@ impl Sink for MemorySink {
     }
 }
 
-/// A writer of std. Each error of the writer, and a write of no byte, is a fault. It tells no bytes, but
-/// where the writer knows what it holds, `put` says what was written.
+/// A writer of std. Each error of the writer, and a write of no byte, is a fault. Its bytes are not
+/// known to the program, but where the writer's are, `put` says what was written.
 #[derive(Drop)]
 pub struct WriteSink<W> {
     writer: W,
-    faults: u64,
+    faults: Faults,
+}
+
+impl<W> Model for WriteSink<W> {
+    ghost use Rattle.oidc_cli.specs.Sinks.{SeenWriteSink};
+
+    ghost Value = { SeenWriteSink W };
+
+    ghost view = { λ s. record { writer = s.writer; faults = s.faults } };
 }
 
 impl<W> WriteSink<W> {
-    ghost use Rattle.oidc_cli.specs.Writers.{writer_of, faults_of};
-
     /// A sink that writes to the writer.
     pub fn new(writer: W) -> Self
-        ensures writer { writer_of result ≡ writer }
-        ensures faults { faults_of result ≡ 0 }
+        ensures { result ≡ record { writer = writer; faults = 0 } }
     {
-        WriteSink { writer, faults: 0 }
+        WriteSink {
+            writer,
+            faults: Faults::new(),
+        }
     }
 }
 
 impl<W: Write> Sink for WriteSink<W> {
-    ghost use Rattle.std.specs.Prelude.{◌≡◌, ℕ, ◌≤◌, Option, OnOk, OnErr};
+    ghost use Rattle.std.specs.Prelude.{◌≡◌, ℕ, ◌≤◌, Option, IsOk, OnOk, OnErr, []};
     ghost use Rattle.std.specs.Io.KnownBytes.{Appends};
-    ghost use Rattle.oidc_cli.specs.Told.{HasRisen, risen, Puts, PutsPrefix};
-    ghost use Rattle.oidc_cli.specs.Writers.{writer_of, faults_of, AppendsPrefix};
+    ghost use Rattle.oidc_cli.specs.Calls.{HasRisen, risen};
+    ghost use Rattle.oidc_cli.specs.Sinks.{Puts, PutsPrefix, AppendsPrefix};
 
-    ghost told = { λ _. Option.None };
+    ghost written = { λ _. Option.None };
 
     ghost faults = { λ s. s.faults };
 
     fn put(&mut self, piece: &[u8]) -> Result<(), Failed>
         ensures puts { OnOk result (Puts Option.None Option.None piece.now) }
         ensures keeps { OnErr result (PutsPrefix Option.None Option.None piece.now) }
-        ensures blamed { OnErr result (HasRisen (faults_of self.old) (faults_of self.new)) }
-        ensures counts { faults_of self.old ≤ faults_of self.new }
+        ensures blamed { OnErr result (HasRisen self.old.faults self.new.faults) }
+        ensures counts { self.old.faults ≤ self.new.faults }
 
         // What it says of the writer.
         ensures written { OnOk result
-            (Appends (W.contents (writer_of self.old)) (W.contents (writer_of self.new)) piece.now) }
+            (Appends (W.contents self.old.writer) (W.contents self.new.writer) piece.now) }
         ensures begun { OnErr result
-            (AppendsPrefix (W.contents (writer_of self.old)) (W.contents (writer_of self.new)) piece.now) }
-        ensures counted { OnErr result (faults_of self.new ≡ risen (faults_of self.old)) }
-        ensures uncounted { OnOk result (faults_of self.new ≡ faults_of self.old) }
+            (AppendsPrefix (W.contents self.old.writer) (W.contents self.new.writer) piece.now) }
+        ensures counted { OnErr result (self.new.faults ≡ risen self.old.faults) }
+        ensures uncounted { OnOk result (self.new.faults ≡ self.old.faults) }
+
+        // Without a byte there is nothing to write, and no fault.
+        ensures empty { piece.now ≡ [] → IsOk result }
     {
         let mut rest = piece;
         while !rest.is_empty() {
-            match self.writer.write(rest) {
-                Ok(n) if n > 0 => rest = &rest[n..],
-                _ => {
-                    self.faults = self.faults.saturating_add(1);
-                    return Err(Failed);
-                }
+            let answer = self.writer.write(rest);
+            let count = self.faults.answered(answer)?;
+            if count == 0 {
+                self.faults.count();
+                return Err(Failed);
             }
+            rest = &rest[count..];
         }
         Ok(())
     }

@@ -1,6 +1,4 @@
-pub mod Answers
-pub mod Hashes
-pub mod Hmac
+pub mod Jwk
 pub mod Signing
-pub mod Symmetric
-pub mod Uses
+pub mod Mac
+pub mod CoreJwk

@@ -10,13 +10,15 @@ module _ {Key Use Algorithm Kind : Type 0} (keys : Keys Key Use Algorithm Kind) 
   Verifies key algorithm message signature = keys.verdict key algorithm message signature ≡ Ok tt
 
   -- each signature that a signer makes verifies under its verification key
-  abbrev pub SignsTruly : {Signer : Type 0} → (Signer → Key) → (Signer → Algorithm → List ℕ → Result (List ℕ) SigningError) → Type 0
+  abbrev pub SignsTruly : {Signer : Type 0} → (Signer → Key)
+      → (Signer → Algorithm → List ℕ → Result (List ℕ) SigningError) → Type 0
   SignsTruly {Signer} verification_key signs =
       (signer : Signer) (algorithm : Algorithm) (message signature : List ℕ)
       → signs signer algorithm message ≡ Ok signature
       → Verifies (verification_key signer) algorithm message signature
 
 -- no refusal of a signer is want of memory
-abbrev pub NeverMemory : {Signer Algorithm : Type 0} → (Signer → Algorithm → List ℕ → Result (List ℕ) SigningError) → Type 0
+abbrev pub NeverMemory : {Signer Algorithm : Type 0}
+    → (Signer → Algorithm → List ℕ → Result (List ℕ) SigningError) → Type 0
 NeverMemory {Signer} {Algorithm} signs =
     (signer : Signer) (algorithm : Algorithm) (message : List ℕ) → signs signer algorithm message ≢ Err Memory

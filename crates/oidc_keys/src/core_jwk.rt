@@ -1,17 +1,13 @@
 //! The program's own keys: symmetric ones, which sign and verify by HMAC.
-ghost use Rattle.std.specs.Prelude.{◌≡◌, ◌≢◌, ◌↔◌, ◌⊎◌, ℕ, List, Option, None, Some, Ok, Err, IfOk, IfErr};
-ghost use Rattle.oidc_types.specs.declared.core_algorithms.CoreJsonWebKeyType.{CoreJsonWebKeyType};
-ghost use Rattle.oidc_types.specs.declared.core_algorithms.CoreJsonWebKeyType.TheVariants.{Symmetric};
-ghost use Rattle.oidc_keys.specs.declared.mac.HmacAlgorithm.{HmacAlgorithm};
-ghost use Rattle.oidc_keys.specs.Answers.{GivesRefusal};
-ghost use Rattle.oidc_keys.specs.Hmac.{mac_of};
-ghost use Rattle.oidc_types.specs.SigningAlgorithms.{signing_key_type, signing_text};
-ghost use Rattle.oidc_keys.specs.Symmetric.{hmac_of, symmetric_verdict, symmetric_signature};
-ghost use Rattle.oidc_keys.specs.Hashes.{hash_function};
-ghost use Rattle.oidc_keys.specs.Uses.{is_for_signature, is_for_encryption};
+ghost use Rattle.std.specs.Prelude.{◌≡◌, ◌↔◌, ◌⊎◌, ℕ, List, Option, None, Some, Ok, Err, IfOk, IfErr};
 ghost use Rattle.std.specs.Cmp.{nat_eq_equiv};
 ghost use Rattle.std.specs.Cmp.Lexicographic.{lists_equiv};
 ghost use Rattle.std.proofs.Common.{arith};
+ghost use Rattle.oidc_types.specs.declared.core_algorithms.CoreJsonWebKeyType.TheVariants.{Symmetric};
+ghost use Rattle.oidc_types.specs.{signing_key_type, signing_text};
+ghost use Rattle.oidc_keys.specs.Jwk.{GivesRefusal};
+ghost use Rattle.oidc_keys.specs.CoreJwk as spec;
+ghost use Rattle.oidc_keys.specs.declared.refusals.SignatureVerificationError.TheVariants as cause;
 
 use crate::jwk::{JsonWebKey, JsonWebKeyUse, PrivateSigningKey};
 use crate::mac::{HmacAlgorithm, hmac, is_mac};
@@ -25,9 +21,6 @@ use sha2::{Digest, Sha256, Sha384, Sha512};
 use std::alloc::{AllocError, Global};
 use std::marker::Model;
 
-#[cfg(test)]
-mod tests;
-
 /// What a key is for (RFC 7517 section 4.2).
 #[derive(Debug, PartialEq, Eq, Drop)]
 pub enum CoreJsonWebKeyUse {
@@ -40,9 +33,9 @@ pub enum CoreJsonWebKeyUse {
 }
 
 impl JsonWebKeyUse for CoreJsonWebKeyUse {
-    ghost allows_signature = { is_for_signature };
+    ghost allows_signature = { spec.is_for_signature };
 
-    ghost allows_encryption = { is_for_encryption };
+    ghost allows_encryption = { spec.is_for_encryption };
 
     fn allows_signature(&self) -> bool {
         match self {
@@ -67,7 +60,7 @@ pub struct CoreJsonWebKey {
 }
 
 impl Model for CoreJsonWebKey {
-    ghost use Rattle.oidc_keys.specs.Symmetric.{SymmetricKey};
+    ghost use Rattle.oidc_keys.specs.CoreJwk.{SymmetricKey};
 
     ghost Value = { SymmetricKey };
 
@@ -97,9 +90,9 @@ impl JsonWebKey for CoreJsonWebKey {
 
     ghost key_use = { λ key. None };
 
-    ghost verdict = { λ key. symmetric_verdict key.secret };
+    ghost verdict = { λ key. spec.symmetric_verdict key.secret };
 
-    ghost hash_of = { λ key. hash_function };
+    ghost hash_of = { λ key. spec.hash_function };
 
     ghost symmetric_of = { λ bytes. record { secret = bytes; id = None } };
 
@@ -133,15 +126,17 @@ impl JsonWebKey for CoreJsonWebKey {
         message: &[u8],
         signature: &[u8],
     ) -> Result<(), SignatureVerificationError>
-        ensures verdict { result ≡ symmetric_verdict self.now.secret alg.now message.now signature.now }
+        ensures verdict { result
+            ≡ spec.symmetric_verdict self.now.secret alg.now message.now signature.now }
 
         // What each refusal says.
-        ensures invalid_key { (result ≡ Err SignatureVerificationError.InvalidKey) ↔ ((kind : CoreJsonWebKeyType) × (signing_key_type alg.now ≡ Some kind) × (kind ≢ Symmetric)) }
-        ensures unsupported_alg { (result ≡ Err SignatureVerificationError.UnsupportedAlg) ↔ (signing_key_type alg.now ≡ None) }
-        ensures crypto_error { (result ≡ Err SignatureVerificationError.CryptoError)
-            ↔ ((hash : HmacAlgorithm) × (hmac_of alg.now ≡ Some hash) × (signature.now ≢ mac_of hash self.now.secret message.now)) }
+        ensures invalid_key { (result ≡ Err cause.InvalidKey) ↔ spec.NeedsOtherKey alg.now }
+        ensures unsupported_alg { (result ≡ Err cause.UnsupportedAlg)
+            ↔ (signing_key_type alg.now ≡ None) }
+        ensures crypto_error { (result ≡ Err cause.CryptoError)
+            ↔ spec.IsOtherThanMac self.now.secret alg.now message.now signature.now }
         ensures ok { (result ≡ Ok tt)
-            ↔ ((hash : HmacAlgorithm) × (hmac_of alg.now ≡ Some hash) × (signature.now ≡ mac_of hash self.now.secret message.now)) }
+            ↔ spec.IsMac self.now.secret alg.now message.now signature.now }
     {
         match (hmac_algorithm(*alg), alg.key_type()) {
             (Some(hash), _) => {
@@ -190,7 +185,7 @@ impl JsonWebKey for CoreJsonWebKey {
 
 // The HMAC that an algorithm is, where it is one.
 fn hmac_algorithm(alg: CoreJwsSigningAlgorithm) -> Option<HmacAlgorithm>
-    ensures { result ≡ hmac_of alg }
+    ensures { result ≡ spec.hmac_of alg }
 {
     match alg {
         CoreJwsSigningAlgorithm::HmacSha256 => Some(HmacAlgorithm::Sha256),
@@ -228,7 +223,7 @@ impl PrivateSigningKey for CoreHmacKey {
 
     ghost verification_key = { λ secret. record { secret = secret; id = None } };
 
-    ghost signs = { symmetric_signature };
+    ghost signs = { spec.symmetric_signature };
 
     fn sign(
         &self,
@@ -236,14 +231,16 @@ impl PrivateSigningKey for CoreHmacKey {
         alg: &CoreJwsSigningAlgorithm,
         message: &[u8],
     ) -> Result<Vec<u8>, SigningError>
-        ensures signature { IfOk result (λ signature. symmetric_signature self.now alg.now message.now ≡ Ok signature.items) }
-        ensures refusal { IfErr result (λ refusal. GivesRefusal (symmetric_signature self.now alg.now message.now) refusal) }
+        ensures signature { IfOk result (λ made.
+            spec.symmetric_signature self.now alg.now message.now ≡ Ok made.items) }
+        ensures refusal { IfErr result (λ refusal.
+            GivesRefusal (spec.symmetric_signature self.now alg.now message.now) refusal) }
 
         // By algorithm.
-        ensures mac { IfOk result (λ signature.
-            (hash : HmacAlgorithm) × (hmac_of alg.now ≡ Some hash) × (signature.items ≡ mac_of hash self.now message.now)) }
+        ensures mac { IfOk result (λ made. spec.IsMac self.now alg.now message.now made.items) }
         ensures unsupported_alg { IfErr result (λ refusal. (refusal ≡ SigningError.Memory)
-            ⊎ ((hmac_of alg.now ≡ None) × (refusal ≡ SigningError.UnsupportedAlg (signing_text alg.now)))) }
+            ⊎ ((spec.hmac_of alg.now ≡ None)
+            × (refusal ≡ SigningError.UnsupportedAlg (signing_text alg.now)))) }
     {
         match hmac_algorithm(*alg) {
             Some(hash) => match hmac(alloc, hash, self.secret.as_slice(), message) {
@@ -262,7 +259,8 @@ impl PrivateSigningKey for CoreHmacKey {
         Ok(CoreJsonWebKey::new_symmetric(secret))
     }
 
-    ghost signs_truly = { λ secret algorithm message signature h. Prim.grind (arith, (lists_equiv nat_eq_equiv).refl) };
+    ghost signs_truly = { λ secret algorithm message signature h.
+        Prim.grind (arith, (lists_equiv nat_eq_equiv).refl) };
 
     ghost refusal_is_never_memory = { λ secret algorithm message h. Prim.grind (arith) };
 }

@@ -1,16 +1,12 @@
 //! Keys that check signatures and keys that make them, by their meanings and laws.
-ghost use Rattle.std.specs.Prelude.{◌≡◌, ◌≢◌, List, ℕ, Bool, Option, Result, Some, None, Err, IfOk};
+ghost use Rattle.std.specs.Prelude.{◌≡◌, ◌≢◌, List, ℕ, Bool, Option, Some, None, Err, IfOk};
 ghost use Rattle.std.specs.Option.{option_copied};
-ghost use Rattle.oidc_keys.specs.declared.refusals.SignatureVerificationError.{SignatureVerificationError};
 ghost use Rattle.oidc_keys.specs.declared.refusals.SignatureVerificationError.TheVariants.{Memory};
-ghost use Rattle.oidc_keys.specs.Answers.{GivesVerdict, digest_by};
+ghost use Rattle.oidc_keys.specs.Jwk.{Verdict, GivesVerdict, digest_by};
 
 use crate::refusals::{HashError, SignatureVerificationError};
 use oidc_types::{JsonWebKeyId, JwsSigningAlgorithm, SigningError};
 use std::alloc::{AllocError, Global};
-
-#[cfg(test)]
-mod tests;
 
 /// What a key is for (the member `use` of RFC 7517 section 4.2).
 pub trait JsonWebKeyUse {
@@ -49,7 +45,7 @@ pub trait JsonWebKey: Drop {
     ghost key_use: { Self → Option Self.KeyUse };
 
     // What the key says of an algorithm, a message and a signature: that it is one, or a refusal.
-    ghost verdict: { Self → Self.SigningAlgorithm → List ℕ → List ℕ → Result (Unit {0}) SignatureVerificationError };
+    ghost verdict: { Self → Self.SigningAlgorithm → List ℕ → List ℕ → Verdict };
 
     // The hash function that goes with an algorithm, where the key has one.
     ghost hash_of: { Self → Self.SigningAlgorithm → Option (List ℕ → List ℕ) };
@@ -81,7 +77,8 @@ pub trait JsonWebKey: Drop {
         message: &[u8],
         signature: &[u8],
     ) -> Result<(), SignatureVerificationError>
-        ensures verdict { GivesVerdict (verdict self.now alg.now message.now signature.now) result };
+        ensures verdict { GivesVerdict
+            (verdict self.now alg.now message.now signature.now) result };
 
     /// The digest of `bytes` by the hash function that goes with `alg`. It is refused as
     /// `Unsupported` exactly where the key has none, or as `Memory`.
@@ -91,18 +88,22 @@ pub trait JsonWebKey: Drop {
         bytes: &[u8],
         alg: &Self::SigningAlgorithm,
     ) -> Result<Vec<u8>, HashError>
-        ensures digest { IfOk result (λ digest. digest_by (hash_of self.now alg.now) bytes.now ≡ Some digest.items) }
-        ensures unsupported { result ≡ Err HashError.Unsupported → hash_of self.now alg.now ≡ None };
+        ensures digest { IfOk result (λ digest.
+            digest_by (hash_of self.now alg.now) bytes.now ≡ Some digest.items) }
+        ensures unsupported { result ≡ Err HashError.Unsupported
+            → hash_of self.now alg.now ≡ None };
 
     // A verdict is never want of memory.
-    ghost verdict_is_never_memory: { (key : Self) (alg : Self.SigningAlgorithm) (message signature : List ℕ) → verdict key alg message signature ≢ Err Memory };
+    ghost verdict_is_never_memory: { (key : Self) (alg : Self.SigningAlgorithm)
+        (message signature : List ℕ)
+        → verdict key alg message signature ≢ Err Memory };
 }
 
 /// A key that makes signatures, whose verification key checks them.
 pub trait PrivateSigningKey {
     ghost use Rattle.std.specs.Prelude.{◌≡◌, List, ℕ, Result, IfOk, IfErr};
     ghost use Rattle.oidc_types.specs.declared.signing_error.SigningError.{SigningError};
-    ghost use Rattle.oidc_keys.specs.Answers.{GivesRefusal};
+    ghost use Rattle.oidc_keys.specs.Jwk.{GivesRefusal};
     ghost use Rattle.oidc_keys.specs.Signing.{SignsTruly, NeverMemory};
 
     /// The keys that check what these sign.
@@ -112,7 +113,8 @@ pub trait PrivateSigningKey {
     ghost verification_key: { Self → Self.VerificationKey };
 
     // The signature of a message by an algorithm, or a refusal other than want of memory.
-    ghost signs: { Self → Self.VerificationKey.SigningAlgorithm → List ℕ → Result (List ℕ) SigningError };
+    ghost signs: { Self → Self.VerificationKey.SigningAlgorithm → List ℕ
+        → Result (List ℕ) SigningError };
 
     /// The signature of `message` by `alg`. The answer is what the key signs, or `Memory`.
     fn sign(
@@ -121,8 +123,10 @@ pub trait PrivateSigningKey {
         alg: &<Self::VerificationKey as JsonWebKey>::SigningAlgorithm,
         message: &[u8],
     ) -> Result<Vec<u8>, SigningError>
-        ensures signature { IfOk result (λ signature. signs self.now alg.now message.now ≡ Ok signature.items) }
-        ensures refusal { IfErr result (λ refusal. GivesRefusal (signs self.now alg.now message.now) refusal) };
+        ensures signature { IfOk result (λ made.
+            signs self.now alg.now message.now ≡ Ok made.items) }
+        ensures refusal { IfErr result (λ refusal.
+            GivesRefusal (signs self.now alg.now message.now) refusal) };
 
     /// The key that checks what this one signs. The only refusal is want of memory.
     fn as_verification_key(&self, alloc: Global) -> Result<Self::VerificationKey, AllocError>

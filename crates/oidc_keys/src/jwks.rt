@@ -4,8 +4,8 @@ ghost use Rattle.std.specs.Prelude.{◌≡◌};
 use crate::core_jwk::CoreJsonWebKey;
 use std::marker::Model;
 
-/// A set of keys in the order in which they were given (RFC 7517 section 5). Contracts see it as the
-/// list of its keys.
+/// A set of keys in the order in which they were given (RFC 7517 section 5). Contracts see it as
+/// the list of its keys.
 #[derive(Drop)]
 pub struct JsonWebKeySet<K> {
     keys: Vec<K>,

@@ -3,13 +3,10 @@ ghost use Rattle.std.specs.Prelude.{◌≡◌, ◌≤◌, ◌<◌, ◌++◌, IfO
 ghost use Rattle.std.specs.Cmp.Lexicographic.{pointwise};
 ghost use Rattle.sha2.specs.Sha256.{sha256};
 ghost use Rattle.sha2.specs.Sha512.{sha384, sha512};
-ghost use Rattle.oidc_keys.specs.Hmac.{masked, padded, hmac_over, mac_of};
+ghost use Rattle.oidc_keys.specs.Mac.{masked, padded, hmac_over, mac_of};
 
 use sha2::{Digest, Sha256, Sha384, Sha512};
 use std::alloc::{AllocError, Global};
-
-#[cfg(test)]
-mod tests;
 
 /// The hash function that an HMAC is made with.
 #[derive(Clone, Copy, Debug, PartialEq, Eq)]
@@ -68,7 +65,8 @@ fn keyed_digest<D: Digest<Output = [u8; N]>, const B: usize, const N: usize>(
 fn block_of<D: Digest<Output = [u8; N]>, const B: usize, const N: usize>(key: &[u8]) -> [u8; B]
     requires { N ≤ B }
     ensures short { length key.now ≤ B → result ≡ padded B key.now }
-    ensures long { B < length key.now → (digest : List ℕ) × D.digest_of key.now digest × (result ≡ padded B digest) }
+    ensures long { B < length key.now → (digest : List ℕ)
+        × D.digest_of key.now digest × (result ≡ padded B digest) }
 {
     if key.len() > B {
         padded_block(D::digest(key).as_slice())
@@ -77,7 +75,7 @@ fn block_of<D: Digest<Output = [u8; N]>, const B: usize, const N: usize>(key: &[
     }
 }
 
-#[tactic(auto, unfolding(crate::specs::Hmac::hmac_over))]
+#[tactic(auto, unfolding(crate::specs::Mac::hmac_over))]
 fn sha256_mac(key: &[u8], message: &[u8]) -> [u8; 32]
     ensures { result ≡ hmac_over sha256 64 key.now message.now }
 {
@@ -85,7 +83,7 @@ fn sha256_mac(key: &[u8], message: &[u8]) -> [u8; 32]
     keyed_digest::<Sha256, 64, 32>(&block, message)
 }
 
-#[tactic(auto, unfolding(crate::specs::Hmac::hmac_over))]
+#[tactic(auto, unfolding(crate::specs::Mac::hmac_over))]
 fn sha384_mac(key: &[u8], message: &[u8]) -> [u8; 48]
     ensures { result ≡ hmac_over sha384 128 key.now message.now }
 {
@@ -93,7 +91,7 @@ fn sha384_mac(key: &[u8], message: &[u8]) -> [u8; 48]
     keyed_digest::<Sha384, 128, 48>(&block, message)
 }
 
-#[tactic(auto, unfolding(crate::specs::Hmac::hmac_over))]
+#[tactic(auto, unfolding(crate::specs::Mac::hmac_over))]
 fn sha512_mac(key: &[u8], message: &[u8]) -> [u8; 64]
     ensures { result ≡ hmac_over sha512 128 key.now message.now }
 {
@@ -101,7 +99,7 @@ fn sha512_mac(key: &[u8], message: &[u8]) -> [u8; 64]
     keyed_digest::<Sha512, 128, 64>(&block, message)
 }
 
-/// The MAC of `message` under `key` (RFC 2104): 32, 48 or 64 bytes. The only refusal is want of memory.
+/// The MAC of `message` under `key` (RFC 2104): 32, 48 or 64 bytes, by the hash function.
 pub fn hmac(
     alloc: Global,
     alg: HmacAlgorithm,

@@ -1,8 +1,5 @@
 //! What checking a signature and hashing refuse.
 
-#[cfg(test)]
-mod tests;
-
 /// Why a signature isn't accepted.
 #[derive(Clone, Copy, Debug, PartialEq, Eq, thiserror::Error)]
 pub enum SignatureVerificationError {
@@ -27,7 +24,7 @@ pub enum SignatureVerificationError {
     /// The algorithm signs nothing that this key can check.
     #[error("unsupported signature algorithm")]
     UnsupportedAlg,
-    /// Memory was wanting.
+    /// There was no memory.
     #[error("out of memory")]
     Memory,
 }
@@ -38,7 +35,7 @@ pub enum HashError {
     /// The key has no hash function for that algorithm.
     #[error("unsupported hash algorithm")]
     Unsupported,
-    /// Memory was wanting.
+    /// There was no memory.
     #[error("out of memory")]
     Memory,
 }

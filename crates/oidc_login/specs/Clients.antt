@@ -1,6 +1,6 @@
 -- What contracts see of a client of one provider.
 use Rattle.std.specs.Prelude.{ℕ, List, Option}
-use Rattle.oidc_types.specs.UrlTexts.{TextAndUrl}
+use Rattle.oidc_types.specs.{TextAndUrl}
 use Rattle.oidc_types.specs.declared.core_algorithms.CoreJwsSigningAlgorithm.{CoreJwsSigningAlgorithm}
 
 -- its ID and secret, its issuer's URL, the two endpoints, and the signing algorithms that it allows

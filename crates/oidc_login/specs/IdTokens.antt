@@ -8,10 +8,10 @@ use Rattle.serde_json.specs.Data.{Data, null, Items, no_items, item}
 use Rattle.serde_json.specs.Find.{as_str, as_number, as_array, as_i64}
 use Rattle.oidc_members.specs.Seen.{SeenMember}
 use Rattle.oidc_members.specs.Objects.{members_of}
-use Rattle.oidc_types.specs.UrlTexts.{TextAndUrl}
+use Rattle.oidc_types.specs.{TextAndUrl}
 use Rattle.oidc_types.specs.declared.core_algorithms.CoreJwsSigningAlgorithm.{CoreJwsSigningAlgorithm}
-use Rattle.oidc_types.specs.SigningAlgorithms.{signing_text, signing_algorithms, signs_with_secret}
-use Rattle.oidc_types.specs.Words.{find_word}
+use Rattle.oidc_types.specs.{signing_text, signing_algorithms, signs_with_secret}
+use Rattle.oidc_types.specs.{find_word}
 use Rattle.oidc_login.specs.TokenAnswer.{value_named, text_named, both}
 
 -- the claims of an ID token. Moments are nanoseconds since the Unix epoch.

@@ -2,10 +2,10 @@
 use Rattle.std.specs.Prelude.{◌≡◌, ℕ, ℤ, ◌<ℤ◌, int_lt, List, Bool, false, ◌&&◌, not, Option, None, Some, Ok, Err, Result, if◌then◌else◌, Contains, All, bytes_eq}
 use Rattle.std.specs.List.{list_all, list_any}
 use Rattle.oidc_types.specs.declared.core_algorithms.CoreJwsSigningAlgorithm.{CoreJwsSigningAlgorithm}
-use Rattle.oidc_types.specs.SigningAlgorithms.{signing_text}
+use Rattle.oidc_types.specs.{signing_text}
 use Rattle.oidc_keys.specs.declared.refusals.SignatureVerificationError.{SignatureVerificationError}
 use Rattle.oidc_keys.specs.declared.refusals.SignatureVerificationError.TheVariants.{DisallowedAlg}
-use Rattle.oidc_keys.specs.Symmetric.{symmetric_verdict}
+use Rattle.oidc_keys.specs.CoreJwk.{symmetric_verdict}
 use Rattle.oidc_login.specs.Clients.{SeenClient}
 use Rattle.oidc_login.specs.IdTokens.{SeenClaims, SeenToken}
 use Rattle.oidc_login.specs.declared.tokens.verification.ClaimsVerificationError.{ClaimsVerificationError}

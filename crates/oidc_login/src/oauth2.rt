@@ -2,5 +2,5 @@
 //! request and its answer.
 
 pub(crate) mod code_request;
-pub(crate) mod pkce;
+pub mod pkce;
 pub mod transport;

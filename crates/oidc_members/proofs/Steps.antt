@@ -3,7 +3,7 @@ use Rattle.std.proofs.Common.{◌≡◌, ℕ, zero, suc, ◌+◌, ◌-◌, ◌<�
 use Rattle.std.specs.List.{range_with_len, suffix_len}
 use Rattle.std.proofs.lemmas.List.Sums.{sum_by_push, suffix_len-take_yes, suffix_len-take_no}
 use Rattle.std.proofs.lemmas.Grind.{common_steps}
-use Rattle.oidc_members.specs.Places.{backslash, places, is_even, backslashes, is_unescaped_quote, is_outside, opens, closes, opened, closed}
+use Rattle.oidc_members.specs.Places.{quote, backslash, places, is_even, backslashes, is_unescaped_quote, is_outside, opens, closes, opened, closed}
 
 pub range_more : (a n : ℕ) → range_with_len a (n + 1) ≡ range_with_len a n ++ (a + n) ∷ []
 range_more a zero = grind (arith, common_steps)
@@ -31,6 +31,12 @@ outside_more xs i = ap is_even (count_more (is_unescaped_quote xs) i) ∙ even_c
     even_cond : (n : ℕ) (b : Bool) → is_even (n + cond b 1 0) ≡ cond b (not (is_even n)) (is_even n)
     even_cond n true = even_more n
     even_cond n false = grind arith
+
+-- the same, by the byte at the place
+pub outside_behind : (xs : List ℕ) (i : ℕ)
+    → is_outside xs (i + 1) ≡ cond (eqb (get_or xs i 0) quote && is_even (backslashes xs i)) (not (is_outside xs i)) (is_outside xs i)
+unfolding is_unescaped_quote
+outside_behind xs i = outside_more xs i
 
 pub opened_more : (xs : List ℕ) (i : ℕ) → opened xs (i + 1) ≡ opened xs i + cond (opens xs i) 1 0
 unfolding opened

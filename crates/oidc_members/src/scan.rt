@@ -28,7 +28,7 @@ impl Scan {
         }
     }
 
-    #[tactic(auto, using(crate::proofs::Steps::outside_more), unfolding(crate::specs::Places::is_unescaped_quote))]
+    #[tactic(auto, using(crate::proofs::Steps::outside_behind))]
     fn in_string_behind(&self, text: &[u8], i: usize) -> bool
         requires within { i < length text.now }
         requires at { IsAt text.now i self.now }

@@ -1,7 +1,7 @@
 //! The errors that a token, a device authorization and a revocation endpoint answer.
 
 ghost use Rattle.std.specs.Prelude.{◌≡◌, IfOk};
-ghost use Rattle.oidc_types.specs.Words.{find_word};
+ghost use Rattle.oidc_types.specs.{find_word};
 ghost use Rattle.oidc_oauth2.specs.Words.{error_text, errors, device_error_text, device_errors, revocation_error_text, revocation_errors};
 
 use oidc_types::{ErrorResponseType, ExtensionText, Text, Vocabulary};

@@ -26,8 +26,8 @@ module _ {R : Type 0} (fault : List SeenMember → SeenMember → Option Refusal
     (clean : first_by fault [] L ≡ first_by fault (take i L) (drop i L)) where
   pub stops : (m : SeenMember) (e : ParseError) (P : Type 0) → i < length L → get_or L i m ≡ m → Took (fault (take i L) m) (Err e) P
       → PlacedAnswers (read_by fault state L) (Err (placed_at i e))
-  stops m (Refused refusal) P lt at told = ap (λ o. unless_faulty fault state o L) (clean ∙ first_here fault L i m lt at refusal told)
-  stops m Memory P lt at told = tt
+  stops m (Refused refusal) P lt at is = ap (λ o. unless_faulty fault state o L) (clean ∙ first_here fault L i m lt at refusal is)
+  stops m Memory P lt at is = tt
 
   pub ends : (reader : R) → length L ≤ i → reader ≡ state (take i L) → read_by fault state L ≡ Ok reader
   ends reader le is =

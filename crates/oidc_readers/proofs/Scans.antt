@@ -1,4 +1,4 @@
--- One pass over bytes, and what it tells of the places that it passes.
+-- One pass over bytes, and what it shows of the places that it passes.
 use Rattle.std.proofs.Common.{◌≡◌, ℕ, zero, suc, ◌+◌, ◌<◌, ◌≤◌, Bool, true, false, not, cond, eqb, ltb, ◌&&◌, ◌||◌, ◌⊎◌, inl, inr, List, [], ◌∷◌, ◌++◌, length, drop, get_or, refl, sym, ap, ◌∙◌, subst, arith}
 use Rattle.std.proofs.lemmas.Bool.{and_parts, cases_eq, false≢true, lt-ltb, ne_eqb, true≢false}
 use Rattle.std.proofs.lemmas.List.{get_or-drop, drop-drop, length-drop}

@@ -6,7 +6,7 @@ use Rattle.serde_json.specs.Find.{as_null, as_bool, as_str, as_number, as_intege
 use Rattle.url.specs.Parts.{Parts}
 use Rattle.url.specs.Parser.{parse_url}
 use Rattle.url.specs.declared.error.ParseError.{ParseError}
-use Rattle.oidc_types.specs.UrlTexts.{TextAndUrl}
+use Rattle.oidc_types.specs.{TextAndUrl}
 use Rattle.oidc_members.specs.Seen.{SeenMember}
 use Rattle.oidc_members.specs.declared.refusal.Refusal.{Refusal}
 use Rattle.oidc_members.specs.declared.refusal.ParseKind.{ParseKind}
@@ -56,7 +56,8 @@ url_kind m = url_read m (as_str m.value)
 -- each of them a text
 abbrev pub texts_in : Items → Option (List (List ℕ))
 texts_in no_items = Some []
-texts_in (item value rest) = option_and_then (λ text. option_map (λ texts. text ∷ texts) (texts_in rest)) (as_str value)
+texts_in (item value rest) =
+    option_and_then (λ text. option_map (λ texts. text ∷ texts) (texts_in rest)) (as_str value)
 
 -- an array of texts
 abbrev pub texts_kind : Kind (List (List ℕ))
@@ -68,7 +69,7 @@ one_or_more (boolean b) = None
 one_or_more (number n) = None
 one_or_more (string text) = Some (text ∷ [])
 one_or_more (array items) = texts_in items
-one_or_more (object members) = None
+one_or_more (object entries) = None
 
 -- a text, or an array of texts
 abbrev pub text_or_texts_kind : Kind (List (List ℕ))

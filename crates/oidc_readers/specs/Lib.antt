@@ -1,5 +1,5 @@
--- In reading order: the pass over a list, the kinds of values, a field, a record, what a slot holds,
--- what is written. Lower words that these definitions cite follow.
+-- In reading order: the pass over a list, the kinds of values, a field, a record, what a slot
+-- holds, what is written. Lower words that these definitions cite follow.
 pub mod Passes
 pub mod Moments
 pub mod Kinds
@@ -10,4 +10,4 @@ pub mod Writing
 pub mod WrittenBack
 pub use Rattle.oidc_members.specs.Answers
 pub use Rattle.oidc_members.specs.Seen
-pub use Rattle.oidc_types.specs.UrlTexts
+pub use Rattle.oidc_types.specs.{TextAndUrl}

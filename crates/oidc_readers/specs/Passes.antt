@@ -6,17 +6,22 @@ use Rattle.oidc_members.specs.declared.refusal.ParseError.{ParseError}
 use Rattle.oidc_readers.specs.declared.passes.PlacedError.{PlacedError}
 use Rattle.oidc_readers.specs.declared.passes.PlacedError.TheVariants.{Refused, Memory}
 
+-- why a member is refused, after those before it
+abbrev pub Rule : Type 0
+Rule = List SeenMember → SeenMember → Option Refusal
+
 -- a fault at a place, or else what comes later
 abbrev pub placed : Option Refusal → ℕ → Option (ℕ × Refusal) → Option (ℕ × Refusal)
 placed (Some refusal) place later = Some (place, refusal)
 placed None place later = later
 
 -- the first place at which a member is faulty after all those before it, and its refusal
-abbrev pub first_by : (List SeenMember → SeenMember → Option Refusal) → List SeenMember → List SeenMember → Option (ℕ × Refusal)
+abbrev pub first_by : Rule → List SeenMember → List SeenMember → Option (ℕ × Refusal)
 first_by fault before [] = None
-first_by fault before (m ∷ rest) = placed (fault before m) (length before) (first_by fault (before ++ m ∷ []) rest)
+first_by fault before (m ∷ rest) =
+    placed (fault before m) (length before) (first_by fault (before ++ m ∷ []) rest)
 
-module _ {Self : Type 0} (fault : List SeenMember → SeenMember → Option Refusal) (state : List SeenMember → Self) where
+module _ {Self : Type 0} (fault : Rule) (state : List SeenMember → Self) where
   abbrev pub unless_faulty : Option (ℕ × Refusal) → List SeenMember → Result Self (ℕ × Refusal)
   unless_faulty (Some found) members = Err found
   unless_faulty None members = Ok (state members)

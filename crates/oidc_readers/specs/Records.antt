@@ -4,6 +4,7 @@ use Rattle.std.specs.Option.{ok_or, option_or, option_flatten}
 use Rattle.oidc_members.specs.Seen.{SeenMember}
 use Rattle.oidc_members.specs.declared.refusal.Refusal.{Refusal}
 use Rattle.oidc_members.specs.declared.refusal.ParseKind.TheVariants.{Missing}
+pub use Rattle.oidc_readers.specs.Passes.{Rule}
 use Rattle.oidc_readers.specs.Passes.{first_by}
 use Rattle.oidc_readers.specs.Fields.{Field, value_in}
 
@@ -12,10 +13,6 @@ infixl 10 ◌>>=◌
 abbrev pub ◌>>=◌ : {A B : Type 0} → Result A Refusal → (A → Result B Refusal) → Result B Refusal
 (Ok x) >>= f = f x
 (Err refusal) >>= f = Err refusal
-
--- why a member is refused, after those before it
-abbrev pub Rule : Type 0
-Rule = List SeenMember → SeenMember → Option Refusal
 
 -- A member is refused by the first field of the table that refuses it.
 abbrev pub by_table : List Rule → Rule

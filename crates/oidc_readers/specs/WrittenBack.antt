@@ -24,8 +24,8 @@ names_of (member name value rest) = name ∷ names_of rest
 abbrev pub AreInOrder : Members → Type 0
 AreInOrder members = IsStrictlySortedBy (slice_cmp nat_cmp) (names_of members)
 
--- The numbers are whole, and the members of each object inside stand in order. `serde_json` holds no
--- other values but for floats.
+-- The numbers are whole, and the members of each object inside stand in order. `serde_json` holds
+-- no other values but for floats.
 abbrev mutual
   pub IsWhole : Data → Type 0
   IsWhole null = ⊤

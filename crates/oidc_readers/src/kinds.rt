@@ -1,18 +1,20 @@
 //! Kinds of values, each read from its member.
 
-ghost use Rattle.std.specs.Prelude.{◌≡◌, ◌∷◌, [], Result, Ok, Err, IfOk, IfErr, option_map};
+ghost use Rattle.std.specs.Prelude.{◌≡◌, ◌∷◌, [], Result, Ok, Err, IfOk, IfErr};
+ghost use Rattle.std.specs.Option.{ok_or};
 ghost use Rattle.serde_json.specs.View.{items_view};
 ghost use Rattle.oidc_readers.specs.Answers.{Answers, Refuses};
 ghost use Rattle.std.specs.String.{string_bytes};
 ghost use Rattle.oidc_readers.specs.Seen.{SeenMember};
 ghost use Rattle.oidc_members.specs.declared.refusal.Refusal.{Refusal};
+ghost use Rattle.oidc_members.specs.declared.refusal.ParseKind.TheVariants.{WrongType};
 ghost use Rattle.oidc_readers.specs.Kinds as kinds;
 
 use crate::moments::Moment;
 use oidc_members::{FieldName, Member, ParseError, ParseKind, Refusal};
 use oidc_types::{Marker, Secret, Text, UrlText, UrlTextError};
 use serde_json::Value;
-use std::alloc::{AllocError, Global};
+use std::alloc::Global;
 use std::marker::Model;
 
 /// The error that refuses a field, or `Memory` where there is none for its name.
@@ -130,21 +132,6 @@ impl FieldValue for Moment {
     }
 }
 
-// The texts that these values are, where each is one.
-fn texts_of<M: Marker>(alloc: Global, values: &[Value]) -> Result<Option<Vec<Text<M>>>, AllocError>
-    ensures { IfOk result (λ found. option_map (λ texts. texts.items) found
-        ≡ kinds.texts_in (items_view values.now)) }
-{
-    let mut texts = Vec::new(alloc);
-    for value in values {
-        let Some(text) = value.as_str() else {
-            return Ok(None);
-        };
-        texts.push(Text::new(String::from_str(alloc, text)?))?;
-    }
-    Ok(Some(texts))
-}
-
 /// An array of texts. Contracts see their list.
 #[derive(Drop)]
 pub struct Texts<M> {
@@ -172,13 +159,30 @@ impl<M: Marker> FieldValue for Texts<M> {
     ghost read_of = { kinds.texts_kind };
 
     fn read(alloc: Global, member: &Member) -> Result<Texts<M>, ParseError> {
-        if let Some(values) = member.value().as_array() {
-            if let Some(texts) = texts_of(alloc, values)? {
-                return Ok(Texts { texts });
-            }
+        match member.value().as_array() {
+            Some(values) => texts_of(alloc, values, member),
+            None => Err(refused(alloc, ParseKind::WrongType, member.name())),
         }
-        Err(refused(alloc, ParseKind::WrongType, member.name()))
     }
+}
+
+// The texts that these values of the member are, where each is one.
+fn texts_of<M: Marker>(
+    alloc: Global,
+    values: &[Value],
+    member: &Member,
+) -> Result<Texts<M>, ParseError>
+    ensures { let texts = kinds.texts_in (items_view values.now) in
+        Answers (ok_or texts (kinds.of_member WrongType member.now)) result }
+{
+    let mut texts = Vec::new(alloc);
+    for value in values {
+        let Some(text) = value.as_str() else {
+            return Err(refused(alloc, ParseKind::WrongType, member.name()));
+        };
+        texts.push(Text::new(String::from_str(alloc, text)?))?;
+    }
+    Ok(Texts { texts })
 }
 
 /// A text or an array of texts. Contracts see their list.
@@ -223,10 +227,10 @@ impl<M: Marker> FieldValue for TextOrTexts<M> {
                 texts.push(Text::new(String::from_str(alloc, text.as_str())?))?;
                 Ok(TextOrTexts { texts })
             }
-            Value::Array(values) => match texts_of(alloc, values)? {
-                Some(texts) => Ok(TextOrTexts { texts }),
-                None => Err(refused(alloc, ParseKind::WrongType, member.name())),
-            },
+            Value::Array(values) => {
+                let texts = texts_of(alloc, values, member)?.into_vec();
+                Ok(TextOrTexts { texts })
+            }
             _ => Err(refused(alloc, ParseKind::WrongType, member.name())),
         }
     }

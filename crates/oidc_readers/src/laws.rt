@@ -14,10 +14,12 @@ ghost use Rattle.oidc_readers.specs.WrittenBack.{MayBeWritten, MayStand, HasText
 /// An object that was written is split into the members that were written, each with its name, its
 /// value and the value's compact text.
 pub fn written_objects_split_back()
-    ensures { (members : List OutSeen) → All MayBeWritten members → members_of (object_text members) ≡ Some (map as_read members) }
+    ensures { (members : List OutSeen) → All MayBeWritten members
+        → members_of (object_text members) ≡ Some (map as_read members) }
 {}
 
 /// The compact text of a value is read as that value.
 pub fn written_values_read_back()
-    ensures { (value : Data) → MayStand value → HasTexts value → read (compact_text value) ≡ Some value }
+    ensures { (value : Data) → MayStand value → HasTexts value
+        → read (compact_text value) ≡ Some value }
 {}

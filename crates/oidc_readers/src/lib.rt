@@ -1,18 +1,23 @@
-//! One pass over the members of a JSON object, written once for every reader.
+//! Records that are read from the members of a JSON object, and what is written of them.
 //!
-//! Claims, ID tokens and token answers are read alike: the members are judged in order, each after
-//! those that stand before it, and the first faulty one refuses the object.
+//! Claims, ID tokens, headers and answers of a token server are read alike: each is a table of
+//! fields, the members are judged in order, each after those that stand before it, and the first
+//! faulty one refuses the object.
 //!
-//! - [`MemberReader`] is what such a reader keeps. Its meanings are `fault`, the refusal of a member
-//!   after those before it, and `state`, what is kept of the members that came.
-//! - [`read_members`] is the pass.
-//! - [`PlacedError`] says which member was refused, and why.
+//! - [`FieldValue`] is a kind of values: what a member of it reads as. Texts, secrets, flags, whole
+//!   numbers, [`Moment`]s, URLs, [`Texts`], [`TextOrTexts`], [`Present`] and `Option`s are such kinds.
+//! - [`Once`] is the slot of a field that may stand once.
+//! - [`MemberReader`] is what a reader keeps. Its meanings are `fault`, the refusal of a member after
+//!   those before it, and `state`, what is kept of the members that came. [`Both`] joins two.
+//! - [`read_fields`] is the pass, and [`read_members`] the same with the place of a refusal.
+//! - [`put`] and its like append the members that a record is written as.
 //! - [`laws`] says that what is written is read back as it was.
 //!
-//! What it promises. `read_members` answers the first faulty place with its refusal, by looking back
+//! What it promises. A field's member is refused where one of its names stood before, or where its
+//! value isn't of the field's kind. A pass answers the first faulty member's refusal, by looking back
 //! from each member over all that stand before it, and where no member is faulty it answers what is
-//! kept of them all. A fault behind the first one is never told. Want of memory is an answer of its
-//! own, and no clause says when it comes.
+//! kept of them all; then a missing field refuses, in the order of the table. Want of memory is an
+//! answer of its own, and no clause says when it comes.
 #![tactic(auto)]
 
 mod kinds;
@@ -31,6 +36,3 @@ pub use crate::slots::Once;
 pub use crate::writing::{
     put, put_optional_moment, put_optional_text, put_optional_whole, put_text,
 };
-
-#[cfg(test)]
-mod tests;

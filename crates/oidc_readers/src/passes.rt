@@ -64,7 +64,8 @@ pub trait MemberReader: Drop {
     /// what is kept, and the pass ends.
     fn take(&mut self, alloc: Global, member: &Member) -> Result<(), ParseError>
         ensures { (before : List SeenMember) → self.old ≡ state before
-            → Took (fault before member.now) result (self.new ≡ state (before ++ member.now ∷ [])) };
+            → Took (fault before member.now) result
+            (self.new ≡ state (before ++ member.now ∷ [])) };
 }
 
 /// Takes each member in order, up to the first faulty one. The answer is that place with its

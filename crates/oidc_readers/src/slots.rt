@@ -6,7 +6,7 @@ ghost use Rattle.oidc_readers.specs.Answers.{Answers};
 ghost use Rattle.oidc_readers.specs.Seen.{SeenMember};
 ghost use Rattle.oidc_readers.specs.Passes.{Took};
 ghost use Rattle.oidc_readers.specs.Fields.{field, field_or, judged_among, judged};
-ghost use Rattle.oidc_readers.specs.Slots.{slot_among, slot};
+ghost use Rattle.oidc_readers.specs.Slots.{slot_among, slot, slot_value};
 ghost use Rattle.oidc_readers.specs.Records.{missing};
 
 use crate::kinds::{FieldValue, refused};
@@ -16,8 +16,10 @@ use std::alloc::Global;
 /// A field that may stand once: whether its member came, and its value.
 #[derive(Drop)]
 pub struct Once<T> {
-    seen: bool,
-    value: Option<T>,
+    /// Whether a member of the field came.
+    pub seen: bool,
+    /// The value of the first one.
+    pub value: Option<T>,
 }
 
 impl<T: FieldValue> Once<T> {
@@ -83,7 +85,7 @@ impl<T: FieldValue> Once<T> {
 
     /// The value, which has to be there; else the field of that name is missing.
     pub fn required(self, alloc: Global, name: &str) -> Result<T, ParseError>
-        ensures value { Answers (ok_or self.value (missing name.now)) result }
+        ensures value { Answers (ok_or (slot_value self) (missing name.now)) result }
     {
         match self.value {
             Some(value) => Ok(value),
@@ -93,7 +95,7 @@ impl<T: FieldValue> Once<T> {
 
     /// The value, or this one where the field is missing.
     pub fn or(self, other: T) -> T
-        ensures value { result ≡ unwrap_or self.value other }
+        ensures value { result ≡ unwrap_or (slot_value self) other }
     {
         match self.value {
             Some(value) => value,
@@ -105,7 +107,7 @@ impl<T: FieldValue> Once<T> {
 impl<T: FieldValue> Once<Option<T>> {
     /// The value, where there is one and it is no null.
     pub fn optional(self) -> Option<T>
-        ensures value { result ≡ option_flatten self.value }
+        ensures value { result ≡ option_flatten (slot_value self) }
     {
         match self.value {
             Some(value) => value,

@@ -7,7 +7,7 @@ use Rattle.std.specs.declared.cmp.Ordering.TheVariants.{Equal, Less, Greater}
 use Rattle.std.specs.Ordering.{is_lt, is_eq}
 use Rattle.std.specs.Cmp.{eq_by_cmp_equiv}
 use Rattle.std.specs.Prelude.{T, ◌&&◌}
-use Rattle.oidc_types.specs.Variants.{Variants, tag_cmp}
+use Rattle.oidc_types.specs.Localized.{Variants, tag_cmp}
 use Rattle.oidc_types.proofs.Entries.{tags_total, exact_tags}
 
 Tag : Type 0
@@ -40,28 +40,28 @@ module _ {X : Type 0} where
       ∙ new_key k v es rest (right_of _ _ h)
 
   -- one more entry
-  pub push : (all : Variants X) (done rest left : List (Option (List ℕ) × X)) (e : Option (List ℕ) × X) → finite.entries all ≡ done ++ left → left ≡ e ∷ rest
+  pub from_entries-append : (all : Variants X) (done rest left : List (Option (List ℕ) × X)) (e : Option (List ℕ) × X) → finite.entries all ≡ done ++ left → left ≡ e ∷ rest
       → finite.from_entries {R = tag_cmp} (done ++ e ∷ []) ≡ finite.insert (finite.from_entries done) e.0 e.1
-  push all done rest left e is next =
+  from_entries-append all done rest left e is next =
       finite.from_entries_push tags_total exact_tags done e.0 e.1
       (new_key e.0 e.1 done rest (subst (λ es. T (is_sorted tag_cmp es)) (is ∙ ap (λ l. done ++ l) next) (finite.entries_sorted all)))
 
-  pub later : (done rest left : List (Option (List ℕ) × X)) (all : List (Option (List ℕ) × X)) (e : Option (List ℕ) × X) → all ≡ done ++ left → left ≡ e ∷ rest
+  pub append-next : (done rest left : List (Option (List ℕ) × X)) (all : List (Option (List ℕ) × X)) (e : Option (List ℕ) × X) → all ≡ done ++ left → left ≡ e ∷ rest
       → all ≡ (done ++ e ∷ []) ++ rest
-  later done rest left all e is next = is ∙ ap (λ l. done ++ l) next ∙ sym (append_assoc done (e ∷ []) rest)
+  append-next done rest left all e is next = is ∙ ap (λ l. done ++ l) next ∙ sym (append_assoc done (e ∷ []) rest)
 
   -- the map of all entries of a map is that map
-  pub remade : (all : Variants X) → finite.from_entries {R = tag_cmp} (finite.entries all) ≡ all
-  remade all = finite.same_map tags_total exact_tags _ all (λ q. finite.get-from_entries tags_total (finite.entries all) q ∙ sym (finite.get-entries all q))
+  pub from_entries-entries : (all : Variants X) → finite.from_entries {R = tag_cmp} (finite.entries all) ≡ all
+  from_entries-entries all = finite.same_map tags_total exact_tags _ all (λ q. finite.get-from_entries tags_total (finite.entries all) q ∙ sym (finite.get-entries all q))
 
   -- the copy after one more entry
   pub pushed : (all copy copy' : Variants X) (done rest left : List (Option (List ℕ) × X)) (e : Option (List ℕ) × X) (tag : Option (List ℕ)) (value : X)
       → finite.entries all ≡ done ++ left → left ≡ e ∷ rest → copy ≡ finite.from_entries done → copy' ≡ finite.insert copy tag value → tag ≡ e.0 → value ≡ e.1
       → copy' ≡ finite.from_entries (done ++ e ∷ [])
   pushed all copy copy' done rest left e tag value is next made put t v =
-      put ∙ (λ i. finite.insert (made i) (t i) (v i)) ∙ sym (push all done rest left e is next)
+      put ∙ (λ i. finite.insert (made i) (t i) (v i)) ∙ sym (from_entries-append all done rest left e is next)
 
   -- the copy at the end
   pub finished : (all copy : Variants X) (done left : List (Option (List ℕ) × X)) → finite.entries all ≡ done ++ left → left ≡ [] → copy ≡ finite.from_entries done → copy ≡ all
   finished all copy done left is end made =
-      made ∙ ap finite.from_entries (sym (is ∙ ap (λ l. done ++ l) end ∙ append-nil done)) ∙ remade all
+      made ∙ ap finite.from_entries (sym (is ∙ ap (λ l. done ++ l) end ∙ append-nil done)) ∙ from_entries-entries all

@@ -4,7 +4,7 @@ use Rattle.std.proofs.lemmas.List.{take_more_set, length-set}
 use Rattle.std.proofs.Math.Seq.{take-length}
 use Rattle.rand_core.specs.Stream.{Stream}
 use Rattle.rand.specs.Draw.{next_u8}
-use Rattle.oidc_types.specs.Draws.{next_bytes}
+use Rattle.oidc_types.specs.Random.{next_bytes}
 
 -- bytes, and then those that a stream gives
 abbrev pub behind : List ℕ → List ℕ × Stream → List ℕ × Stream

@@ -14,7 +14,7 @@ use Rattle.std.specs.Prelude.{T, ◌&&◌}
 use Rattle.std.specs.Ordering.{is_lt}
 use Rattle.std.specs.BTreeMap.{BTreeMap, is_at, UpdatesBy}
 use Rattle.std.proofs.lemmas.Cmp.{nat_list_cmp_total}
-use Rattle.oidc_types.specs.Variants.{Variants, entries_of, tagged_entries, variants_of, tag_cmp}
+use Rattle.oidc_types.specs.Localized.{Variants, entries_of, tagged_entries, variants_of, tag_cmp}
 
 abbrev text_cmp : List ℕ → List ℕ → Ordering
 text_cmp = slice_cmp nat_cmp

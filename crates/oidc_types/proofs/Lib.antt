@@ -1,4 +1,5 @@
-pub mod Copies
-pub mod Drawn
-pub mod Entries
-pub mod Unknown
+pub mod Theorems
+mod Copies
+mod Drawn
+mod Entries
+mod Unknown

@@ -2,8 +2,8 @@
 use Rattle.std.proofs.Common.{◌≡◌, ◌∙◌, ℕ, List, [], ◌∷◌, Option, None, Some, refl, Bool, true, false, sym, ap, subst, cond, Decides, unwrap_or}
 use Rattle.std.specs.Str.{bytes_eq}
 use Rattle.std.proofs.lemmas.Slice.Eq.{bytes_eq-Decides}
-use Rattle.oidc_types.specs.Words.{find_word}
-use Rattle.oidc_types.specs.Laws.{IsExact}
+use Rattle.oidc_types.specs.Vocabulary.{find_word}
+use Rattle.oidc_types.specs.Vocabulary.{IsExact}
 
 module _ {Word : Type 0} (text_of : Word → List ℕ) where
   -- the text differs from that of each word

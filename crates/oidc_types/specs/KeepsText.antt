@@ -2,7 +2,7 @@
 use Rattle.std.proofs.Common.{◌≡◌, ℕ, List, [], ◌∷◌, Option, Some, refl, Bool, true, false, unwrap_or, cond, Decides}
 use Rattle.std.specs.Str.{bytes_eq}
 use Rattle.std.proofs.lemmas.Slice.Eq.{bytes_eq-Decides}
-use Rattle.oidc_types.specs.Words.{find_word, word_or}
+use Rattle.oidc_types.specs.Vocabulary.{find_word, word_or}
 
 module _ {Word : Type 0} (text_of : Word → List ℕ) where
   one_word : (w : Word) (rest : Option Word) (other : Word) (s : List ℕ) (b : Bool) → Decides b (text_of w ≡ s) → text_of (unwrap_or rest other) ≡ s

@@ -25,8 +25,8 @@ macro_rules! key_types {
 }
 
 impl ClosedVocabulary for CoreJsonWebKeyType {
-    ghost use Rattle.oidc_types.specs.KeyTypes.{key_type_text, key_types};
-    ghost use Rattle.oidc_types.specs.Words.{find_word};
+    ghost use Rattle.oidc_types.specs.CoreAlgorithms.{key_type_text, key_types};
+    ghost use Rattle.oidc_types.specs.Vocabulary.{find_word};
 
     ghost as_ref = { key_type_text };
 
@@ -98,8 +98,8 @@ macro_rules! signing_algorithms {
 }
 
 impl ClosedVocabulary for CoreJwsSigningAlgorithm {
-    ghost use Rattle.oidc_types.specs.SigningAlgorithms.{signing_text, signing_algorithms};
-    ghost use Rattle.oidc_types.specs.Words.{find_word};
+    ghost use Rattle.oidc_types.specs.CoreAlgorithms.{signing_text, signing_algorithms};
+    ghost use Rattle.oidc_types.specs.Vocabulary.{find_word};
 
     ghost as_ref = { signing_text };
 
@@ -117,7 +117,7 @@ impl ClosedVocabulary for CoreJwsSigningAlgorithm {
 impl JwsSigningAlgorithm for CoreJwsSigningAlgorithm {
     type KeyType = CoreJsonWebKeyType;
 
-    ghost use Rattle.oidc_types.specs.SigningAlgorithms.{signing_key_type, signs_with_secret};
+    ghost use Rattle.oidc_types.specs.CoreAlgorithms.{signing_key_type, signs_with_secret};
     ghost use Rattle.oidc_types.specs.declared.core_algorithms.CoreJwsSigningAlgorithm.TheVariants.{RsaSsaPkcs1V15Sha256};
 
     ghost key_type = { signing_key_type };
@@ -187,8 +187,8 @@ macro_rules! encryption_algorithms {
 }
 
 impl ClosedVocabulary for CoreJweContentEncryptionAlgorithm {
-    ghost use Rattle.oidc_types.specs.EncryptionAlgorithms.{encryption_text, encryption_algorithms};
-    ghost use Rattle.oidc_types.specs.Words.{find_word};
+    ghost use Rattle.oidc_types.specs.CoreAlgorithms.{encryption_text, encryption_algorithms};
+    ghost use Rattle.oidc_types.specs.Vocabulary.{find_word};
 
     ghost as_ref = { encryption_text };
 
@@ -281,8 +281,8 @@ macro_rules! management_algorithms {
 }
 
 impl ClosedVocabulary for CoreJweKeyManagementAlgorithm {
-    ghost use Rattle.oidc_types.specs.ManagementAlgorithms.{management_text, management_algorithms};
-    ghost use Rattle.oidc_types.specs.Words.{find_word};
+    ghost use Rattle.oidc_types.specs.CoreAlgorithms.{management_text, management_algorithms};
+    ghost use Rattle.oidc_types.specs.Vocabulary.{find_word};
 
     ghost as_ref = { management_text };
 

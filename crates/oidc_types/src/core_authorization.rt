@@ -1,8 +1,8 @@
 //! The open vocabularies of the authorization endpoint.
 
 ghost use Rattle.std.specs.Prelude.{◌≡◌, IfOk};
-ghost use Rattle.oidc_types.specs.CoreWords.{auth_display_text, auth_displays, auth_error_text, auth_errors, auth_prompt_text, auth_prompts, response_mode_text, response_modes, response_type_text, response_types};
-ghost use Rattle.oidc_types.specs.Words.{find_word};
+ghost use Rattle.oidc_types.specs.CoreAuthorization.{auth_display_text, auth_displays, auth_error_text, auth_errors, auth_prompt_text, auth_prompts, response_mode_text, response_modes, response_type_text, response_types};
+ghost use Rattle.oidc_types.specs.Vocabulary.{find_word};
 
 use crate::open::{
     AuthDisplay, AuthPrompt, ErrorResponseType, ExtensionText, ResponseMode, ResponseType,
@@ -58,8 +58,8 @@ impl CoreAuthDisplay {
 
 impl Vocabulary for CoreAuthDisplay {
     ghost use Rattle.std.specs.Prelude.{refl};
-    ghost use Rattle.oidc_types.specs.CoreWords.{auth_display_text, auth_displays};
-    ghost use Rattle.oidc_types.specs.Words.{word_or};
+    ghost use Rattle.oidc_types.specs.CoreAuthorization.{auth_display_text, auth_displays};
+    ghost use Rattle.oidc_types.specs.Vocabulary.{word_or};
     ghost use Rattle.oidc_types.specs.KeepsText.{keeps};
     ghost use Rattle.oidc_types.specs.declared.core_authorization.CoreAuthDisplay.TheVariants.{Extension};
 
@@ -86,7 +86,7 @@ impl AuthDisplay for CoreAuthDisplay {}
 /// Prints the text.
 impl fmt::Display for CoreAuthDisplay {
     ghost use Rattle.std.specs.Prelude.{Some};
-    ghost use Rattle.oidc_types.specs.CoreWords.{auth_display_text};
+    ghost use Rattle.oidc_types.specs.CoreAuthorization.{auth_display_text};
 
     ghost output = { λ word. Some (auth_display_text word) };
 
@@ -141,8 +141,8 @@ impl CoreAuthPrompt {
 
 impl Vocabulary for CoreAuthPrompt {
     ghost use Rattle.std.specs.Prelude.{refl};
-    ghost use Rattle.oidc_types.specs.CoreWords.{auth_prompt_text, auth_prompts};
-    ghost use Rattle.oidc_types.specs.Words.{word_or};
+    ghost use Rattle.oidc_types.specs.CoreAuthorization.{auth_prompt_text, auth_prompts};
+    ghost use Rattle.oidc_types.specs.Vocabulary.{word_or};
     ghost use Rattle.oidc_types.specs.KeepsText.{keeps};
     ghost use Rattle.oidc_types.specs.declared.core_authorization.CoreAuthPrompt.TheVariants.{Extension};
 
@@ -169,7 +169,7 @@ impl AuthPrompt for CoreAuthPrompt {}
 /// Prints the text.
 impl fmt::Display for CoreAuthPrompt {
     ghost use Rattle.std.specs.Prelude.{Some};
-    ghost use Rattle.oidc_types.specs.CoreWords.{auth_prompt_text};
+    ghost use Rattle.oidc_types.specs.CoreAuthorization.{auth_prompt_text};
 
     ghost output = { λ word. Some (auth_prompt_text word) };
 
@@ -222,8 +222,8 @@ impl CoreResponseMode {
 
 impl Vocabulary for CoreResponseMode {
     ghost use Rattle.std.specs.Prelude.{refl};
-    ghost use Rattle.oidc_types.specs.CoreWords.{response_mode_text, response_modes};
-    ghost use Rattle.oidc_types.specs.Words.{word_or};
+    ghost use Rattle.oidc_types.specs.CoreAuthorization.{response_mode_text, response_modes};
+    ghost use Rattle.oidc_types.specs.Vocabulary.{word_or};
     ghost use Rattle.oidc_types.specs.KeepsText.{keeps};
     ghost use Rattle.oidc_types.specs.declared.core_authorization.CoreResponseMode.TheVariants.{Extension};
 
@@ -250,7 +250,7 @@ impl ResponseMode for CoreResponseMode {}
 /// Prints the text.
 impl fmt::Display for CoreResponseMode {
     ghost use Rattle.std.specs.Prelude.{Some};
-    ghost use Rattle.oidc_types.specs.CoreWords.{response_mode_text};
+    ghost use Rattle.oidc_types.specs.CoreAuthorization.{response_mode_text};
 
     ghost output = { λ word. Some (response_mode_text word) };
 
@@ -306,8 +306,8 @@ impl CoreResponseType {
 
 impl Vocabulary for CoreResponseType {
     ghost use Rattle.std.specs.Prelude.{refl};
-    ghost use Rattle.oidc_types.specs.CoreWords.{response_type_text, response_types};
-    ghost use Rattle.oidc_types.specs.Words.{word_or};
+    ghost use Rattle.oidc_types.specs.CoreAuthorization.{response_type_text, response_types};
+    ghost use Rattle.oidc_types.specs.Vocabulary.{word_or};
     ghost use Rattle.oidc_types.specs.KeepsText.{keeps};
     ghost use Rattle.oidc_types.specs.declared.core_authorization.CoreResponseType.TheVariants.{Extension};
 
@@ -334,7 +334,7 @@ impl ResponseType for CoreResponseType {}
 /// Prints the text.
 impl fmt::Display for CoreResponseType {
     ghost use Rattle.std.specs.Prelude.{Some};
-    ghost use Rattle.oidc_types.specs.CoreWords.{response_type_text};
+    ghost use Rattle.oidc_types.specs.CoreAuthorization.{response_type_text};
 
     ghost output = { λ word. Some (response_type_text word) };
 
@@ -426,8 +426,8 @@ impl CoreAuthErrorResponseType {
 
 impl Vocabulary for CoreAuthErrorResponseType {
     ghost use Rattle.std.specs.Prelude.{refl};
-    ghost use Rattle.oidc_types.specs.CoreWords.{auth_error_text, auth_errors};
-    ghost use Rattle.oidc_types.specs.Words.{word_or};
+    ghost use Rattle.oidc_types.specs.CoreAuthorization.{auth_error_text, auth_errors};
+    ghost use Rattle.oidc_types.specs.Vocabulary.{word_or};
     ghost use Rattle.oidc_types.specs.KeepsText.{keeps};
     ghost use Rattle.oidc_types.specs.declared.core_authorization.CoreAuthErrorResponseType.TheVariants.{Extension};
 
@@ -454,7 +454,7 @@ impl ErrorResponseType for CoreAuthErrorResponseType {}
 /// Prints the text.
 impl fmt::Display for CoreAuthErrorResponseType {
     ghost use Rattle.std.specs.Prelude.{Some};
-    ghost use Rattle.oidc_types.specs.CoreWords.{auth_error_text};
+    ghost use Rattle.oidc_types.specs.CoreAuthorization.{auth_error_text};
 
     ghost output = { λ word. Some (auth_error_text word) };
 

@@ -1,8 +1,8 @@
 //! The open vocabularies of client registration, and of the grants and claims that it speaks of.
 
 ghost use Rattle.std.specs.Prelude.{◌≡◌, IfOk};
-ghost use Rattle.oidc_types.specs.CoreWords.{application_type_text, application_types, claim_type_text, claim_types, client_auth_method_text, client_auth_methods, grant_type_text, grant_types, register_error_text, register_errors, subject_identifier_type_text, subject_identifier_types};
-ghost use Rattle.oidc_types.specs.Words.{find_word};
+ghost use Rattle.oidc_types.specs.CoreRegistration.{application_type_text, application_types, claim_type_text, claim_types, auth_method_text, auth_methods, grant_type_text, grant_types, register_error_text, register_errors, subject_type_text, subject_types};
+ghost use Rattle.oidc_types.specs.Vocabulary.{find_word};
 
 use crate::open::{
     ApplicationType, ClaimType, ClientAuthMethod, ErrorResponseType, ExtensionText, GrantType,
@@ -53,8 +53,8 @@ impl CoreApplicationType {
 
 impl Vocabulary for CoreApplicationType {
     ghost use Rattle.std.specs.Prelude.{refl};
-    ghost use Rattle.oidc_types.specs.CoreWords.{application_type_text, application_types};
-    ghost use Rattle.oidc_types.specs.Words.{word_or};
+    ghost use Rattle.oidc_types.specs.CoreRegistration.{application_type_text, application_types};
+    ghost use Rattle.oidc_types.specs.Vocabulary.{word_or};
     ghost use Rattle.oidc_types.specs.KeepsText.{keeps};
     ghost use Rattle.oidc_types.specs.declared.core_registration.CoreApplicationType.TheVariants.{Extension};
 
@@ -81,7 +81,7 @@ impl ApplicationType for CoreApplicationType {}
 /// Prints the text.
 impl fmt::Display for CoreApplicationType {
     ghost use Rattle.std.specs.Prelude.{Some};
-    ghost use Rattle.oidc_types.specs.CoreWords.{application_type_text};
+    ghost use Rattle.oidc_types.specs.CoreRegistration.{application_type_text};
 
     ghost output = { λ word. Some (application_type_text word) };
 
@@ -133,8 +133,8 @@ impl CoreClaimType {
 
 impl Vocabulary for CoreClaimType {
     ghost use Rattle.std.specs.Prelude.{refl};
-    ghost use Rattle.oidc_types.specs.CoreWords.{claim_type_text, claim_types};
-    ghost use Rattle.oidc_types.specs.Words.{word_or};
+    ghost use Rattle.oidc_types.specs.CoreRegistration.{claim_type_text, claim_types};
+    ghost use Rattle.oidc_types.specs.Vocabulary.{word_or};
     ghost use Rattle.oidc_types.specs.KeepsText.{keeps};
     ghost use Rattle.oidc_types.specs.declared.core_registration.CoreClaimType.TheVariants.{Extension};
 
@@ -161,7 +161,7 @@ impl ClaimType for CoreClaimType {}
 /// Prints the text.
 impl fmt::Display for CoreClaimType {
     ghost use Rattle.std.specs.Prelude.{Some};
-    ghost use Rattle.oidc_types.specs.CoreWords.{claim_type_text};
+    ghost use Rattle.oidc_types.specs.CoreRegistration.{claim_type_text};
 
     ghost output = { λ word. Some (claim_type_text word) };
 
@@ -187,7 +187,7 @@ pub enum CoreClientAuthMethod {
     Extension(ExtensionText),
 }
 
-macro_rules! client_auth_methods {
+macro_rules! auth_methods {
     ($then:ident, $($value:expr),+) => {
         $then!(
             [$($value),+],
@@ -204,29 +204,29 @@ macro_rules! client_auth_methods {
 impl CoreClientAuthMethod {
     /// The known word of a text.
     fn known(text: &str) -> Option<CoreClientAuthMethod>
-        ensures { result ≡ find_word client_auth_method_text client_auth_methods text.now }
+        ensures { result ≡ find_word auth_method_text auth_methods text.now }
     {
-        client_auth_methods!(word_of_text, text)
+        auth_methods!(word_of_text, text)
     }
 
     /// A copy of this word. `AllocError` is want of memory, the one error.
     pub fn clone_in(&self, alloc: Global) -> Result<CoreClientAuthMethod, AllocError>
         ensures copy { IfOk result (λ copy. copy ≡ self.now) }
     {
-        client_auth_methods!(copy_of_word, self, alloc)
+        auth_methods!(copy_of_word, self, alloc)
     }
 }
 
 impl Vocabulary for CoreClientAuthMethod {
     ghost use Rattle.std.specs.Prelude.{refl};
-    ghost use Rattle.oidc_types.specs.CoreWords.{client_auth_method_text, client_auth_methods};
-    ghost use Rattle.oidc_types.specs.Words.{word_or};
+    ghost use Rattle.oidc_types.specs.CoreRegistration.{auth_method_text, auth_methods};
+    ghost use Rattle.oidc_types.specs.Vocabulary.{word_or};
     ghost use Rattle.oidc_types.specs.KeepsText.{keeps};
     ghost use Rattle.oidc_types.specs.declared.core_registration.CoreClientAuthMethod.TheVariants.{Extension};
 
-    ghost as_ref = { client_auth_method_text };
+    ghost as_ref = { auth_method_text };
 
-    ghost from_str = { word_or client_auth_method_text client_auth_methods Extension };
+    ghost from_str = { word_or auth_method_text auth_methods Extension };
 
     fn from_str(text: String) -> CoreClientAuthMethod {
         match CoreClientAuthMethod::known(text.as_str()) {
@@ -236,10 +236,10 @@ impl Vocabulary for CoreClientAuthMethod {
     }
 
     fn as_ref(&self) -> &str {
-        client_auth_methods!(text_of_any, self)
+        auth_methods!(text_of_any, self)
     }
 
-    ghost keeps_text = { keeps client_auth_method_text client_auth_methods Extension (λ _. refl) };
+    ghost keeps_text = { keeps auth_method_text auth_methods Extension (λ _. refl) };
 }
 
 impl ClientAuthMethod for CoreClientAuthMethod {}
@@ -247,9 +247,9 @@ impl ClientAuthMethod for CoreClientAuthMethod {}
 /// Prints the text.
 impl fmt::Display for CoreClientAuthMethod {
     ghost use Rattle.std.specs.Prelude.{Some};
-    ghost use Rattle.oidc_types.specs.CoreWords.{client_auth_method_text};
+    ghost use Rattle.oidc_types.specs.CoreRegistration.{auth_method_text};
 
-    ghost output = { λ word. Some (client_auth_method_text word) };
+    ghost output = { λ word. Some (auth_method_text word) };
 
     fn fmt<W: fmt::Write>(&self, f: &mut fmt::Formatter<W>) -> fmt::Result {
         fmt::Display::fmt(self.as_ref(), f)
@@ -311,8 +311,8 @@ impl CoreGrantType {
 
 impl Vocabulary for CoreGrantType {
     ghost use Rattle.std.specs.Prelude.{refl};
-    ghost use Rattle.oidc_types.specs.CoreWords.{grant_type_text, grant_types};
-    ghost use Rattle.oidc_types.specs.Words.{word_or};
+    ghost use Rattle.oidc_types.specs.CoreRegistration.{grant_type_text, grant_types};
+    ghost use Rattle.oidc_types.specs.Vocabulary.{word_or};
     ghost use Rattle.oidc_types.specs.KeepsText.{keeps};
     ghost use Rattle.oidc_types.specs.declared.core_registration.CoreGrantType.TheVariants.{Extension};
 
@@ -339,7 +339,7 @@ impl GrantType for CoreGrantType {}
 /// Prints the text.
 impl fmt::Display for CoreGrantType {
     ghost use Rattle.std.specs.Prelude.{Some};
-    ghost use Rattle.oidc_types.specs.CoreWords.{grant_type_text};
+    ghost use Rattle.oidc_types.specs.CoreRegistration.{grant_type_text};
 
     ghost output = { λ word. Some (grant_type_text word) };
 
@@ -388,8 +388,8 @@ impl CoreRegisterErrorResponseType {
 
 impl Vocabulary for CoreRegisterErrorResponseType {
     ghost use Rattle.std.specs.Prelude.{refl};
-    ghost use Rattle.oidc_types.specs.CoreWords.{register_error_text, register_errors};
-    ghost use Rattle.oidc_types.specs.Words.{word_or};
+    ghost use Rattle.oidc_types.specs.CoreRegistration.{register_error_text, register_errors};
+    ghost use Rattle.oidc_types.specs.Vocabulary.{word_or};
     ghost use Rattle.oidc_types.specs.KeepsText.{keeps};
     ghost use Rattle.oidc_types.specs.declared.core_registration.CoreRegisterErrorResponseType.TheVariants.{Extension};
 
@@ -416,7 +416,7 @@ impl ErrorResponseType for CoreRegisterErrorResponseType {}
 /// Prints the text.
 impl fmt::Display for CoreRegisterErrorResponseType {
     ghost use Rattle.std.specs.Prelude.{Some};
-    ghost use Rattle.oidc_types.specs.CoreWords.{register_error_text};
+    ghost use Rattle.oidc_types.specs.CoreRegistration.{register_error_text};
 
     ghost output = { λ word. Some (register_error_text word) };
 
@@ -436,7 +436,7 @@ pub enum CoreSubjectIdentifierType {
     Extension(ExtensionText),
 }
 
-macro_rules! subject_identifier_types {
+macro_rules! subject_types {
     ($then:ident, $($value:expr),+) => {
         $then!(
             [$($value),+],
@@ -450,29 +450,29 @@ macro_rules! subject_identifier_types {
 impl CoreSubjectIdentifierType {
     /// The known word of a text.
     fn known(text: &str) -> Option<CoreSubjectIdentifierType>
-        ensures { result ≡ find_word subject_identifier_type_text subject_identifier_types text.now }
+        ensures { result ≡ find_word subject_type_text subject_types text.now }
     {
-        subject_identifier_types!(word_of_text, text)
+        subject_types!(word_of_text, text)
     }
 
     /// A copy of this word. `AllocError` is want of memory, the one error.
     pub fn clone_in(&self, alloc: Global) -> Result<CoreSubjectIdentifierType, AllocError>
         ensures copy { IfOk result (λ copy. copy ≡ self.now) }
     {
-        subject_identifier_types!(copy_of_word, self, alloc)
+        subject_types!(copy_of_word, self, alloc)
     }
 }
 
 impl Vocabulary for CoreSubjectIdentifierType {
     ghost use Rattle.std.specs.Prelude.{refl};
-    ghost use Rattle.oidc_types.specs.CoreWords.{subject_identifier_type_text, subject_identifier_types};
-    ghost use Rattle.oidc_types.specs.Words.{word_or};
+    ghost use Rattle.oidc_types.specs.CoreRegistration.{subject_type_text, subject_types};
+    ghost use Rattle.oidc_types.specs.Vocabulary.{word_or};
     ghost use Rattle.oidc_types.specs.KeepsText.{keeps};
     ghost use Rattle.oidc_types.specs.declared.core_registration.CoreSubjectIdentifierType.TheVariants.{Extension};
 
-    ghost as_ref = { subject_identifier_type_text };
+    ghost as_ref = { subject_type_text };
 
-    ghost from_str = { word_or subject_identifier_type_text subject_identifier_types Extension };
+    ghost from_str = { word_or subject_type_text subject_types Extension };
 
     fn from_str(text: String) -> CoreSubjectIdentifierType {
         match CoreSubjectIdentifierType::known(text.as_str()) {
@@ -482,10 +482,10 @@ impl Vocabulary for CoreSubjectIdentifierType {
     }
 
     fn as_ref(&self) -> &str {
-        subject_identifier_types!(text_of_any, self)
+        subject_types!(text_of_any, self)
     }
 
-    ghost keeps_text = { keeps subject_identifier_type_text subject_identifier_types Extension (λ _. refl) };
+    ghost keeps_text = { keeps subject_type_text subject_types Extension (λ _. refl) };
 }
 
 impl SubjectIdentifierType for CoreSubjectIdentifierType {}
@@ -493,9 +493,9 @@ impl SubjectIdentifierType for CoreSubjectIdentifierType {}
 /// Prints the text.
 impl fmt::Display for CoreSubjectIdentifierType {
     ghost use Rattle.std.specs.Prelude.{Some};
-    ghost use Rattle.oidc_types.specs.CoreWords.{subject_identifier_type_text};
+    ghost use Rattle.oidc_types.specs.CoreRegistration.{subject_type_text};
 
-    ghost output = { λ word. Some (subject_identifier_type_text word) };
+    ghost output = { λ word. Some (subject_type_text word) };
 
     fn fmt<W: fmt::Write>(&self, f: &mut fmt::Formatter<W>) -> fmt::Result {
         fmt::Display::fmt(self.as_ref(), f)

@@ -1,4 +1,4 @@
-//! Whether a client has the URL of an endpoint, as its type tells it.
+//! Whether a client has the URL of an endpoint, as its type says.
 
 /// What a type says of an endpoint's URL.
 #[derive(Clone, Copy, Debug, PartialEq, Eq)]

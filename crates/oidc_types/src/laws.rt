@@ -1,25 +1,25 @@
 //! What holds of the types as a whole. Each function here says a law in its contract, and does
 //! nothing.
 
-ghost use Rattle.oidc_types.specs.Laws.{SameTextSameUrl, IsExact, ReadsBack};
-ghost use Rattle.oidc_types.specs.KeyTypes.{key_type_text, key_types};
-ghost use Rattle.oidc_types.specs.SigningAlgorithms.{signing_text, signing_algorithms};
-ghost use Rattle.oidc_types.specs.EncryptionAlgorithms.{encryption_text, encryption_algorithms};
-ghost use Rattle.oidc_types.specs.ManagementAlgorithms.{management_text, management_algorithms};
-ghost use Rattle.oidc_types.specs.CoreWords.{application_type_text, application_types, auth_display_text, auth_displays, auth_error_text, auth_errors, auth_prompt_text, auth_prompts, claim_type_text, claim_types, client_auth_method_text, client_auth_methods, grant_type_text, grant_types, register_error_text, register_errors, response_mode_text, response_modes, response_type_text, response_types, subject_identifier_type_text, subject_identifier_types};
-ghost use Rattle.oidc_types.specs.declared.core_registration.CoreApplicationType.TheVariants as application_type;
-ghost use Rattle.oidc_types.specs.declared.core_registration.CoreClaimType.TheVariants as claim_type;
-ghost use Rattle.oidc_types.specs.declared.core_registration.CoreClientAuthMethod.TheVariants as client_auth_method;
-ghost use Rattle.oidc_types.specs.declared.core_registration.CoreGrantType.TheVariants as grant_type;
-ghost use Rattle.oidc_types.specs.declared.core_registration.CoreRegisterErrorResponseType.TheVariants as register_error;
-ghost use Rattle.oidc_types.specs.declared.core_registration.CoreSubjectIdentifierType.TheVariants as subject_identifier_type;
+ghost use Rattle.oidc_types.specs.UrlText.{SameTextSameUrl};
+ghost use Rattle.oidc_types.specs.Vocabulary.{IsExact, ReadsBack};
+ghost use Rattle.oidc_types.specs.CoreAlgorithms.{encryption_algorithms, encryption_text, key_type_text, key_types, management_algorithms, management_text, signing_algorithms, signing_text};
+ghost use Rattle.oidc_types.specs.CoreAuthorization.{auth_display_text, auth_displays, auth_error_text, auth_errors, auth_prompt_text, auth_prompts, response_mode_text, response_modes, response_type_text, response_types};
+ghost use Rattle.oidc_types.specs.CoreRegistration.{application_type_text, application_types, auth_method_text, auth_methods, claim_type_text, claim_types, grant_type_text, grant_types, register_error_text, register_errors, subject_type_text, subject_types};
 ghost use Rattle.oidc_types.specs.declared.core_authorization.CoreAuthDisplay.TheVariants as auth_display;
+ghost use Rattle.oidc_types.specs.declared.core_authorization.CoreAuthErrorResponseType.TheVariants as auth_error;
 ghost use Rattle.oidc_types.specs.declared.core_authorization.CoreAuthPrompt.TheVariants as auth_prompt;
 ghost use Rattle.oidc_types.specs.declared.core_authorization.CoreResponseMode.TheVariants as response_mode;
 ghost use Rattle.oidc_types.specs.declared.core_authorization.CoreResponseType.TheVariants as response_type;
-ghost use Rattle.oidc_types.specs.declared.core_authorization.CoreAuthErrorResponseType.TheVariants as auth_error;
+ghost use Rattle.oidc_types.specs.declared.core_registration.CoreApplicationType.TheVariants as application;
+ghost use Rattle.oidc_types.specs.declared.core_registration.CoreClaimType.TheVariants as claim_type;
+ghost use Rattle.oidc_types.specs.declared.core_registration.CoreClientAuthMethod.TheVariants as auth_method;
+ghost use Rattle.oidc_types.specs.declared.core_registration.CoreGrantType.TheVariants as grant_type;
+ghost use Rattle.oidc_types.specs.declared.core_registration.CoreRegisterErrorResponseType.TheVariants as register_error;
+ghost use Rattle.oidc_types.specs.declared.core_registration.CoreSubjectIdentifierType.TheVariants as subject_type;
 
-/// Two URLs that `UrlText::new` made of equal texts are equal.
+/// Where `UrlText::new` made two values, and their texts are equal, their URLs are equal. Of a value
+/// that `UrlText::from_url` made this says nothing.
 pub fn same_text_same_url()
     ensures { SameTextSameUrl }
 {}
@@ -34,12 +34,12 @@ pub fn closed_words_are_exact()
 
 /// In an open vocabulary the text of each known word is that word's.
 pub fn known_words_read_back()
-    ensures application_types { ReadsBack application_type_text application_types application_type.Extension }
+    ensures applications { ReadsBack application_type_text application_types application.Extension }
     ensures claim_types { ReadsBack claim_type_text claim_types claim_type.Extension }
-    ensures client_auth_methods { ReadsBack client_auth_method_text client_auth_methods client_auth_method.Extension }
+    ensures auth_methods { ReadsBack auth_method_text auth_methods auth_method.Extension }
     ensures grant_types { ReadsBack grant_type_text grant_types grant_type.Extension }
     ensures register_errors { ReadsBack register_error_text register_errors register_error.Extension }
-    ensures subject_identifier_types { ReadsBack subject_identifier_type_text subject_identifier_types subject_identifier_type.Extension }
+    ensures subject_types { ReadsBack subject_type_text subject_types subject_type.Extension }
     ensures auth_displays { ReadsBack auth_display_text auth_displays auth_display.Extension }
     ensures auth_prompts { ReadsBack auth_prompt_text auth_prompts auth_prompt.Extension }
     ensures response_modes { ReadsBack response_mode_text response_modes response_mode.Extension }

@@ -1,25 +1,45 @@
 //! The types that every other crate of the relying party is written over.
 //!
 //! - [`Text`], [`Secret`] and [`UrlText`] hold the texts of the protocol, one marker a kind:
-//!   [`ClientId`], [`Nonce`], [`IssuerUrl`] and so on are aliases. A text is kept as it is given. A
-//!   `Secret` has no equality, and `Debug` does not show it. A `UrlText` keeps its text beside the
-//!   URL that the URL Standard reads of it; equality, order and hash are the text's, so two spellings
-//!   of one URL differ.
+//!   [`ClientId`], [`Nonce`], [`IssuerUrl`] and so on are aliases. A text is kept as it is given.
+//!   `Debug` prints of a `Secret` its kind alone. A `UrlText` keeps its text beside the URL that the
+//!   URL Standard reads of it.
 //! - [`Vocabulary`] is an open vocabulary, as [`CoreAuthErrorResponseType`]: it takes any text, and
 //!   gives each text back as it was (the law `keeps_text`). [`ClosedVocabulary`] takes its own texts
 //!   alone, as [`CoreJwsSigningAlgorithm`] and [`CoreJsonWebKeyType`] do (RFC 7518, RFC 8037). Code
 //!   that is generic over algorithms rests on the meanings of [`JwsSigningAlgorithm`] and
-//!   [`JweContentEncryptionAlgorithm`]. A vocabulary's words and texts stand in `specs/CoreWords.antt`
-//!   and beside it, and once in its module's table.
+//!   [`JweContentEncryptionAlgorithm`]. A vocabulary's words and texts stand in `specs/` under its
+//!   module's name, and once in its module's table.
 //! - [`Nonce`] and [`CsrfToken`] are drawn from a generator that is handed in: the base64url text of
 //!   its next bytes.
 //! - [`LocalizedClaim`] is a claim in several languages (OpenID Connect Core 1.0 section 5.2), a map
 //!   from optional tag to value.
 //! - [`EndpointState`] says in a client's type which endpoints it has.
 //!
-//! What holds of all of them stands in [`laws`]. The one cause of an error besides those that are told
-//! is want of memory, an `AllocError` or a variant `Memory`; a value whose call is refused stays as it
-//! was.
+//! What holds of all of them stands in [`laws`]. The one cause of an error besides those that are
+//! named is want of memory, an `AllocError` or a variant `Memory`; a value whose call is refused stays
+//! as it was.
+//!
+//! # Equality, order and hash
+//!
+//! - Equality, order and hash: each `Text` and `UrlText`, by its text as it was given, so two
+//!   spellings of one URL differ; [`CoreGrantType`], by its variants in their order and then by the
+//!   extension's text.
+//! - Equality and hash: the ten other open vocabularies, by variant, so `Extension("native")` isn't
+//!   `Native`; the four closed vocabularies.
+//! - Equality: [`LocalizedClaim`] (the same tags, with equal values), [`ResponseTypes`] (the same
+//!   types in the same order), [`SigningError`], [`Presence`].
+//! - None of them: each `Secret`, [`UrlTextError`], [`LocalizedIter`], the three endpoint states, and
+//!   the markers.
+//!
+//! # Beside the surface of the Rust crate
+//!
+//! The traits [`Vocabulary`], [`ClosedVocabulary`] and [`Marker`] with the markers (`ClientIdMarker`
+//! and so on); [`ExtensionText`], a `String` there; `as_str`, `into_string` and `into_url` in place of
+//! `Deref`, `AsRef` and `Into`; `clone_in` in place of `Clone`; `Display` of `Text` and of each open
+//! vocabulary; order and hash of each `Text`; [`UrlTextError`], and the variant `Memory` of
+//! [`SigningError`]; `ResponseTypes::as_slice` and [`LocalizedIter`]; [`Presence`], and the constant
+//! `REQUIRED` of [`EndpointState`]; `Copy` of the closed vocabularies and the endpoint states; [`laws`].
 #![tactic(auto)]
 
 pub mod algorithms;
@@ -36,8 +56,6 @@ pub mod response_types;
 pub mod secret;
 pub mod secrets;
 pub mod signing_error;
-#[cfg(test)]
-mod tests;
 pub mod text;
 pub mod texts;
 pub mod url_text;

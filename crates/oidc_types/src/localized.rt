@@ -3,8 +3,7 @@
 ghost use Rattle.std.specs.Prelude.{◌≡◌, OnErr, OnOk, IfOk};
 ghost use Rattle.std.specs.Option.{option_copied};
 ghost use Rattle.std.specs.FinMap as finite;
-ghost use Rattle.oidc_types.specs.Left.{left, shown};
-ghost use Rattle.oidc_types.specs.SameVariants.{same_entry};
+ghost use Rattle.oidc_types.specs.Localized.{entries_left, entry_shown, same_entry};
 
 use crate::text::{Marker, Text};
 use crate::texts::LanguageTag;
@@ -22,7 +21,7 @@ pub struct LocalizedClaim<T> {
 }
 
 impl<T> Model for LocalizedClaim<T> {
-    ghost use Rattle.oidc_types.specs.Variants.{Variants, variants_code, variants_of};
+    ghost use Rattle.oidc_types.specs.Localized.{Variants, variants_code, variants_of};
 
     ghost Value = { Variants T };
 
@@ -72,7 +71,7 @@ impl<T> LocalizedClaim<T> {
 
     /// The tags with their values, in order.
     pub fn iter(&self) -> LocalizedIter<'_, T>
-        ensures all { left result ≡ finite.entries self.now }
+        ensures all { entries_left result ≡ finite.entries self.now }
     {
         LocalizedIter {
             untagged: self.untagged.as_ref(),
@@ -130,13 +129,13 @@ fn is_same_entry<T: PartialEq>(
     mine: (Option<&LanguageTag>, &T),
     theirs: (Option<&LanguageTag>, &T),
 ) -> bool
-    ensures { result ≡ same_entry T.eq (shown mine.entry) (shown theirs.entry) }
+    ensures { result ≡ same_entry T.eq (entry_shown mine.entry) (entry_shown theirs.entry) }
 {
     mine.0 == theirs.0 && mine.1 == theirs.1
 }
 
 impl<T: PartialEq> PartialEq for LocalizedClaim<T> {
-    ghost use Rattle.oidc_types.specs.SameVariants.{same_variants};
+    ghost use Rattle.oidc_types.specs.Localized.{same_variants};
     ghost use Rattle.std.specs.Cmp.{nat_eq_equiv, partial_equiv_from_equiv, and_per, on_per};
     ghost use Rattle.std.specs.Cmp.Lexicographic.{lists_per, lists_equiv, options_equiv};
     ghost use Rattle.std.specs.FinMap as finite;
@@ -144,7 +143,8 @@ impl<T: PartialEq> PartialEq for LocalizedClaim<T> {
     ghost eq = { λ a b. same_variants T.eq a b };
 
     ghost laws = { on_per finite.entries
-        (lists_per (and_per (on_per (λ e. e.0) (partial_equiv_from_equiv (options_equiv (lists_equiv nat_eq_equiv))))
+        (lists_per (and_per
+        (on_per (λ e. e.0) (partial_equiv_from_equiv (options_equiv (lists_equiv nat_eq_equiv))))
         (on_per (λ e. e.1) T.laws))) };
 
     fn eq(&self, other: &LocalizedClaim<T>) -> bool {
@@ -169,7 +169,9 @@ impl<T: Eq> Eq for LocalizedClaim<T> {
     ghost use Rattle.std.specs.FinMap as finite;
 
     ghost laws = { on_equiv finite.entries
-        (lists_equiv (and_equiv (on_equiv (λ e. e.0) (options_equiv (lists_equiv nat_eq_equiv))) (on_equiv (λ e. e.1) T.Eq.laws))) };
+        (lists_equiv (and_equiv
+        (on_equiv (λ e. e.0) (options_equiv (lists_equiv nat_eq_equiv)))
+        (on_equiv (λ e. e.1) T.Eq.laws))) };
 }
 
 /// Goes over a claim's tags with their values: the value without a tag first, and then by byte
@@ -184,11 +186,11 @@ impl<'a, T> Iterator for LocalizedIter<'a, T> {
     type Item = (Option<&'a LanguageTag>, &'a T);
 
     ghost use Rattle.std.specs.Iterator.{YieldsFirstBy, item_count};
-    ghost use Rattle.oidc_types.specs.Left.{left, shown};
+    ghost use Rattle.oidc_types.specs.Localized.{entries_left, entry_shown};
 
-    ghost next_gives = { YieldsFirstBy shown left };
+    ghost next_gives = { YieldsFirstBy entry_shown entries_left };
 
-    ghost remaining = { item_count left };
+    ghost remaining = { item_count entries_left };
 
     fn next(&mut self) -> Option<(Option<&'a LanguageTag>, &'a T)> {
         match self.untagged.take() {

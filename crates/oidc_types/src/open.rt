@@ -1,6 +1,6 @@
 //! What code that is generic over open vocabularies knows of them.
 
-ghost use Rattle.std.specs.Prelude.{◌≡◌, IfOk};
+ghost use Rattle.std.specs.Prelude.{◌≡◌, IfOk, codes};
 
 use crate::text::{Marker, Text};
 use crate::texts::{CoreClaimNameMarker, OAuth2ResponseType};
@@ -12,7 +12,11 @@ use std::alloc::{AllocError, Global};
 pub struct ExtensionTextMarker;
 
 impl Marker for ExtensionTextMarker {
-    const NAME: &'static str = "ExtensionText";
+    ghost name = { codes "ExtensionText" };
+
+    fn name() -> &'static str {
+        "ExtensionText"
+    }
 }
 
 /// A text that is no known word of its vocabulary.
@@ -58,7 +62,7 @@ pub trait ResponseType: Vocabulary {
 /// Kinds of names for end users (OpenID Connect Core 1.0 section 8).
 pub trait SubjectIdentifierType: Vocabulary {}
 
-/// Errors that an endpoint tells (RFC 6749 sections 4.1.2.1 and 5.2).
+/// Errors that an endpoint answers (RFC 6749 sections 4.1.2.1 and 5.2).
 pub trait ErrorResponseType: Vocabulary {}
 
 impl Vocabulary for Text<CoreClaimNameMarker> {

@@ -3,7 +3,7 @@
 
 ghost use Rattle.std.specs.Prelude.{◌≡◌, length, IfOk, OnOk, OnErr};
 ghost use Rattle.std.specs.String.{string_bytes};
-ghost use Rattle.oidc_types.specs.Draws.{next_bytes, random_text, IsBeforeOrAfter};
+ghost use Rattle.oidc_types.specs.Random.{next_bytes, stream_after, random_text, IsBeforeOrAfter};
 
 use crate::secret::Secret;
 use crate::secrets::{CsrfTokenMarker, NonceMarker};
@@ -32,7 +32,7 @@ fn random_secret<M: Marker, R: Rng>(
     num_bytes: u32,
 ) -> Result<Secret<M>, AllocError>
     ensures text { IfOk result (λ secret. secret ≡ random_text num_bytes (R.stream rng.old)) }
-    ensures moved { OnOk result (R.stream rng.new ≡ (next_bytes num_bytes (R.stream rng.old)).1) }
+    ensures moved { OnOk result (R.stream rng.new ≡ stream_after num_bytes (R.stream rng.old)) }
     ensures err { OnErr result (IsBeforeOrAfter num_bytes (R.stream rng.old) (R.stream rng.new)) }
 {
     let mut bytes = vec![in alloc; 0u8; num_bytes as usize]?;
@@ -45,7 +45,7 @@ impl Secret<NonceMarker> {
     /// A new nonce of 16 random bytes. `AllocError` is want of memory, the one error.
     pub fn new_random<R: Rng>(alloc: Global, rng: &mut R) -> Result<Self, AllocError>
         ensures text { IfOk result (λ nonce. nonce ≡ random_text 16 (R.stream rng.old)) }
-        ensures moved { OnOk result (R.stream rng.new ≡ (next_bytes 16 (R.stream rng.old)).1) }
+        ensures moved { OnOk result (R.stream rng.new ≡ stream_after 16 (R.stream rng.old)) }
         ensures err { OnErr result (IsBeforeOrAfter 16 (R.stream rng.old) (R.stream rng.new)) }
     {
         random_secret(alloc, rng, USUAL_BYTES)
@@ -60,7 +60,7 @@ impl Secret<NonceMarker> {
         num_bytes: u32,
     ) -> Result<Self, AllocError>
         ensures text { IfOk result (λ nonce. nonce ≡ random_text num_bytes (R.stream rng.old)) }
-        ensures moved { OnOk result (R.stream rng.new ≡ (next_bytes num_bytes (R.stream rng.old)).1) }
+        ensures moved { OnOk result (R.stream rng.new ≡ stream_after num_bytes (R.stream rng.old)) }
         ensures err { OnErr result (IsBeforeOrAfter num_bytes (R.stream rng.old) (R.stream rng.new)) }
     {
         random_secret(alloc, rng, num_bytes)
@@ -71,7 +71,7 @@ impl Secret<CsrfTokenMarker> {
     /// A new state of 16 random bytes. `AllocError` is want of memory, the one error.
     pub fn new_random<R: Rng>(alloc: Global, rng: &mut R) -> Result<Self, AllocError>
         ensures text { IfOk result (λ state. state ≡ random_text 16 (R.stream rng.old)) }
-        ensures moved { OnOk result (R.stream rng.new ≡ (next_bytes 16 (R.stream rng.old)).1) }
+        ensures moved { OnOk result (R.stream rng.new ≡ stream_after 16 (R.stream rng.old)) }
         ensures err { OnErr result (IsBeforeOrAfter 16 (R.stream rng.old) (R.stream rng.new)) }
     {
         random_secret(alloc, rng, USUAL_BYTES)
@@ -86,7 +86,7 @@ impl Secret<CsrfTokenMarker> {
         num_bytes: u32,
     ) -> Result<Self, AllocError>
         ensures text { IfOk result (λ state. state ≡ random_text num_bytes (R.stream rng.old)) }
-        ensures moved { OnOk result (R.stream rng.new ≡ (next_bytes num_bytes (R.stream rng.old)).1) }
+        ensures moved { OnOk result (R.stream rng.new ≡ stream_after num_bytes (R.stream rng.old)) }
         ensures err { OnErr result (IsBeforeOrAfter num_bytes (R.stream rng.old) (R.stream rng.new)) }
     {
         random_secret(alloc, rng, num_bytes)

@@ -8,8 +8,8 @@ use std::alloc::{AllocError, Global};
 use std::fmt;
 use std::marker::{Model, PhantomData};
 
-/// A text of the kind `M` that `Debug` does not show. It has no equality, so that none is compared
-/// in passing. Contracts see it as its bytes.
+/// A text of the kind `M` that `Debug` does not show. It has no equality, order or hash, so that none
+/// is compared in passing. Contracts see it as its bytes.
 #[derive(Drop)]
 pub struct Secret<M> {
     text: String,
@@ -61,7 +61,11 @@ impl<M: Marker> Secret<M> {
 
 /// Prints the kind alone, as `ClientSecret([redacted])`.
 impl<M: Marker> fmt::Debug for Secret<M> {
+    ghost use Rattle.std.specs.Prelude.{◌++◌, Some, codes};
+
+    ghost debug_output = { λ _. Some (M.name ++ codes "([redacted])") };
+
     fn fmt<W: fmt::Write>(&self, f: &mut fmt::Formatter<W>) -> fmt::Result {
-        write!(f, "{}([redacted])", M::NAME)
+        write!(f, "{}([redacted])", M::name())
     }
 }

@@ -1,5 +1,7 @@
 //! The names of texts that are not shown.
 
+ghost use Rattle.std.specs.Prelude.{codes};
+
 use crate::secret::Secret;
 use crate::text::Marker;
 
@@ -8,7 +10,11 @@ use crate::text::Marker;
 pub struct AccessTokenMarker;
 
 impl Marker for AccessTokenMarker {
-    const NAME: &'static str = "AccessToken";
+    ghost name = { codes "AccessToken" };
+
+    fn name() -> &'static str {
+        "AccessToken"
+    }
 }
 
 /// Access token (RFC 6749 section 1.4).
@@ -19,7 +25,11 @@ pub type AccessToken = Secret<AccessTokenMarker>;
 pub struct AuthorizationCodeMarker;
 
 impl Marker for AuthorizationCodeMarker {
-    const NAME: &'static str = "AuthorizationCode";
+    ghost name = { codes "AuthorizationCode" };
+
+    fn name() -> &'static str {
+        "AuthorizationCode"
+    }
 }
 
 /// Authorization code (RFC 6749 section 1.3.1).
@@ -30,7 +40,11 @@ pub type AuthorizationCode = Secret<AuthorizationCodeMarker>;
 pub struct ClientSecretMarker;
 
 impl Marker for ClientSecretMarker {
-    const NAME: &'static str = "ClientSecret";
+    ghost name = { codes "ClientSecret" };
+
+    fn name() -> &'static str {
+        "ClientSecret"
+    }
 }
 
 /// Password of a client (RFC 6749 section 2.3.1).
@@ -41,7 +55,11 @@ pub type ClientSecret = Secret<ClientSecretMarker>;
 pub struct CsrfTokenMarker;
 
 impl Marker for CsrfTokenMarker {
-    const NAME: &'static str = "CsrfToken";
+    ghost name = { codes "CsrfToken" };
+
+    fn name() -> &'static str {
+        "CsrfToken"
+    }
 }
 
 /// State that ties a callback to its request (RFC 6749 section 10.12).
@@ -52,7 +70,11 @@ pub type CsrfToken = Secret<CsrfTokenMarker>;
 pub struct DeviceCodeMarker;
 
 impl Marker for DeviceCodeMarker {
-    const NAME: &'static str = "DeviceCode";
+    ghost name = { codes "DeviceCode" };
+
+    fn name() -> &'static str {
+        "DeviceCode"
+    }
 }
 
 /// Code by which a device asks for its token (RFC 8628 section 3.2).
@@ -63,7 +85,11 @@ pub type DeviceCode = Secret<DeviceCodeMarker>;
 pub struct LoginHintMarker;
 
 impl Marker for LoginHintMarker {
-    const NAME: &'static str = "LoginHint";
+    ghost name = { codes "LoginHint" };
+
+    fn name() -> &'static str {
+        "LoginHint"
+    }
 }
 
 /// Hint about the name that the end user may sign in by (OpenID Connect Core 1.0 section 3.1.2.1).
@@ -74,7 +100,11 @@ pub type LoginHint = Secret<LoginHintMarker>;
 pub struct LogoutHintMarker;
 
 impl Marker for LogoutHintMarker {
-    const NAME: &'static str = "LogoutHint";
+    ghost name = { codes "LogoutHint" };
+
+    fn name() -> &'static str {
+        "LogoutHint"
+    }
 }
 
 /// Hint about the end user who signs out (OpenID Connect RP-Initiated Logout 1.0 section 2).
@@ -85,7 +115,11 @@ pub type LogoutHint = Secret<LogoutHintMarker>;
 pub struct NonceMarker;
 
 impl Marker for NonceMarker {
-    const NAME: &'static str = "Nonce";
+    ghost name = { codes "Nonce" };
+
+    fn name() -> &'static str {
+        "Nonce"
+    }
 }
 
 /// Text that ties an ID token to its request (OpenID Connect Core 1.0 section 3.1.2.1).
@@ -96,7 +130,11 @@ pub type Nonce = Secret<NonceMarker>;
 pub struct PkceCodeVerifierMarker;
 
 impl Marker for PkceCodeVerifierMarker {
-    const NAME: &'static str = "PkceCodeVerifier";
+    ghost name = { codes "PkceCodeVerifier" };
+
+    fn name() -> &'static str {
+        "PkceCodeVerifier"
+    }
 }
 
 /// Secret that shows that a code comes back from where it was asked for (RFC 7636 section 4.1).
@@ -107,7 +145,11 @@ pub type PkceCodeVerifier = Secret<PkceCodeVerifierMarker>;
 pub struct RefreshTokenMarker;
 
 impl Marker for RefreshTokenMarker {
-    const NAME: &'static str = "RefreshToken";
+    ghost name = { codes "RefreshToken" };
+
+    fn name() -> &'static str {
+        "RefreshToken"
+    }
 }
 
 /// Refresh token (RFC 6749 section 1.5).
@@ -118,7 +160,11 @@ pub type RefreshToken = Secret<RefreshTokenMarker>;
 pub struct RegistrationAccessTokenMarker;
 
 impl Marker for RegistrationAccessTokenMarker {
-    const NAME: &'static str = "RegistrationAccessToken";
+    ghost name = { codes "RegistrationAccessToken" };
+
+    fn name() -> &'static str {
+        "RegistrationAccessToken"
+    }
 }
 
 /// Access token for a client's registration (OpenID Connect Dynamic Client Registration 1.0
@@ -130,7 +176,11 @@ pub type RegistrationAccessToken = Secret<RegistrationAccessTokenMarker>;
 pub struct ResourceOwnerPasswordMarker;
 
 impl Marker for ResourceOwnerPasswordMarker {
-    const NAME: &'static str = "ResourceOwnerPassword";
+    ghost name = { codes "ResourceOwnerPassword" };
+
+    fn name() -> &'static str {
+        "ResourceOwnerPassword"
+    }
 }
 
 /// Password of a resource owner (RFC 6749 section 4.3.2).
@@ -141,7 +191,11 @@ pub type ResourceOwnerPassword = Secret<ResourceOwnerPasswordMarker>;
 pub struct UserCodeMarker;
 
 impl Marker for UserCodeMarker {
-    const NAME: &'static str = "UserCode";
+    ghost name = { codes "UserCode" };
+
+    fn name() -> &'static str {
+        "UserCode"
+    }
 }
 
 /// Code that the end user types in (RFC 8628 section 3.2).
@@ -152,7 +206,11 @@ pub type UserCode = Secret<UserCodeMarker>;
 pub struct VerificationUriCompleteMarker;
 
 impl Marker for VerificationUriCompleteMarker {
-    const NAME: &'static str = "VerificationUriComplete";
+    ghost name = { codes "VerificationUriComplete" };
+
+    fn name() -> &'static str {
+        "VerificationUriComplete"
+    }
 }
 
 /// Address that holds the user code too (RFC 8628 section 3.2).

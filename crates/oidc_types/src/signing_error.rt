@@ -11,7 +11,7 @@ pub enum SigningError {
     /// There is no such algorithm, or none for this key; here is its text.
     #[error("unsupported signature algorithm: {0}")]
     UnsupportedAlg(FieldName),
-    /// Another cause, as the key tells it.
+    /// Another cause, in the key's words.
     #[error("other error: {0}")]
     Other(FieldName),
     /// There was no memory.

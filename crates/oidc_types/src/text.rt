@@ -17,7 +17,14 @@ use std::marker::{Model, PhantomData};
 
 /// A kind of text, with the name that `Debug` prints.
 pub trait Marker: Drop {
-    const NAME: &'static str;
+    ghost use Rattle.std.specs.Prelude.{◌≡◌, List, ℕ};
+
+    /// The name.
+    ghost name: { List ℕ };
+
+    /// The name, as `ClientId`.
+    fn name() -> &'static str
+        ensures text { result.now ≡ name };
 }
 
 /// A text of the kind `M`, kept as it was given. Contracts see it as its bytes.
@@ -101,7 +108,8 @@ impl<M: Marker> Ord for Text<M> {
 impl<M: Marker> PartialOrd for Text<M> {
     ghost partial_cmp = { as_partial_cmp (λ a b. slice_cmp nat_cmp a b) };
 
-    ghost laws = { partial_order_from_own_ties (Prim.search (comparing, rules)) (Prim.search (comparing, rules)) };
+    ghost laws = { partial_order_from_own_ties
+        (Prim.search (comparing, rules)) (Prim.search (comparing, rules)) };
 
     fn partial_cmp(&self, other: &Text<M>) -> Option<Ordering> {
         Some(self.cmp(other))
@@ -129,7 +137,12 @@ impl<M: Marker> fmt::Display for Text<M> {
 
 /// Prints the kind and the text, as `ClientId("aaa")`.
 impl<M: Marker> fmt::Debug for Text<M> {
+    ghost use Rattle.std.specs.Fmt.{debug_str};
+    ghost use Rattle.oidc_types.specs.Text.{debug_text};
+
+    ghost debug_output = { λ t. debug_text M.name (debug_str t) };
+
     fn fmt<W: fmt::Write>(&self, f: &mut fmt::Formatter<W>) -> fmt::Result {
-        write!(f, "{}({:?})", M::NAME, self.text)
+        write!(f, "{}({:?})", M::name(), self.text)
     }
 }

@@ -1,5 +1,7 @@
 //! The names of plain texts.
 
+ghost use Rattle.std.specs.Prelude.{codes};
+
 use crate::text::{Marker, Text};
 
 /// The name of [`AccessTokenHash`].
@@ -7,7 +9,11 @@ use crate::text::{Marker, Text};
 pub struct AccessTokenHashMarker;
 
 impl Marker for AccessTokenHashMarker {
-    const NAME: &'static str = "AccessTokenHash";
+    ghost name = { codes "AccessTokenHash" };
+
+    fn name() -> &'static str {
+        "AccessTokenHash"
+    }
 }
 
 /// Hash of an access token, the claim `at_hash` (OpenID Connect Core 1.0 section 3.1.3.6).
@@ -18,7 +24,11 @@ pub type AccessTokenHash = Text<AccessTokenHashMarker>;
 pub struct AddressCountryMarker;
 
 impl Marker for AddressCountryMarker {
-    const NAME: &'static str = "AddressCountry";
+    ghost name = { codes "AddressCountry" };
+
+    fn name() -> &'static str {
+        "AddressCountry"
+    }
 }
 
 /// Country of an address (OpenID Connect Core 1.0 section 5.1.1).
@@ -29,7 +39,11 @@ pub type AddressCountry = Text<AddressCountryMarker>;
 pub struct AddressLocalityMarker;
 
 impl Marker for AddressLocalityMarker {
-    const NAME: &'static str = "AddressLocality";
+    ghost name = { codes "AddressLocality" };
+
+    fn name() -> &'static str {
+        "AddressLocality"
+    }
 }
 
 /// City or locality of an address (OpenID Connect Core 1.0 section 5.1.1).
@@ -40,7 +54,11 @@ pub type AddressLocality = Text<AddressLocalityMarker>;
 pub struct AddressPostalCodeMarker;
 
 impl Marker for AddressPostalCodeMarker {
-    const NAME: &'static str = "AddressPostalCode";
+    ghost name = { codes "AddressPostalCode" };
+
+    fn name() -> &'static str {
+        "AddressPostalCode"
+    }
 }
 
 /// Postal code of an address (OpenID Connect Core 1.0 section 5.1.1).
@@ -51,7 +69,11 @@ pub type AddressPostalCode = Text<AddressPostalCodeMarker>;
 pub struct AddressRegionMarker;
 
 impl Marker for AddressRegionMarker {
-    const NAME: &'static str = "AddressRegion";
+    ghost name = { codes "AddressRegion" };
+
+    fn name() -> &'static str {
+        "AddressRegion"
+    }
 }
 
 /// State, province or region of an address (OpenID Connect Core 1.0 section 5.1.1).
@@ -62,7 +84,11 @@ pub type AddressRegion = Text<AddressRegionMarker>;
 pub struct AudienceMarker;
 
 impl Marker for AudienceMarker {
-    const NAME: &'static str = "Audience";
+    ghost name = { codes "Audience" };
+
+    fn name() -> &'static str {
+        "Audience"
+    }
 }
 
 /// Someone that a token is meant for, the claim `aud` (OpenID Connect Core 1.0 section 2).
@@ -73,7 +99,11 @@ pub type Audience = Text<AudienceMarker>;
 pub struct AuthenticationContextClassMarker;
 
 impl Marker for AuthenticationContextClassMarker {
-    const NAME: &'static str = "AuthenticationContextClass";
+    ghost name = { codes "AuthenticationContextClass" };
+
+    fn name() -> &'static str {
+        "AuthenticationContextClass"
+    }
 }
 
 /// Class of ways to authenticate, the claim `acr` (OpenID Connect Core 1.0 section 2).
@@ -84,7 +114,11 @@ pub type AuthenticationContextClass = Text<AuthenticationContextClassMarker>;
 pub struct AuthenticationMethodReferenceMarker;
 
 impl Marker for AuthenticationMethodReferenceMarker {
-    const NAME: &'static str = "AuthenticationMethodReference";
+    ghost name = { codes "AuthenticationMethodReference" };
+
+    fn name() -> &'static str {
+        "AuthenticationMethodReference"
+    }
 }
 
 /// Way of authenticating, an entry of the claim `amr` (OpenID Connect Core 1.0 section 2).
@@ -95,7 +129,11 @@ pub type AuthenticationMethodReference = Text<AuthenticationMethodReferenceMarke
 pub struct AuthorizationCodeHashMarker;
 
 impl Marker for AuthorizationCodeHashMarker {
-    const NAME: &'static str = "AuthorizationCodeHash";
+    ghost name = { codes "AuthorizationCodeHash" };
+
+    fn name() -> &'static str {
+        "AuthorizationCodeHash"
+    }
 }
 
 /// Hash of an authorization code, the claim `c_hash` (OpenID Connect Core 1.0 section 3.3.2.11).
@@ -106,7 +144,11 @@ pub type AuthorizationCodeHash = Text<AuthorizationCodeHashMarker>;
 pub struct ClientContactEmailMarker;
 
 impl Marker for ClientContactEmailMarker {
-    const NAME: &'static str = "ClientContactEmail";
+    ghost name = { codes "ClientContactEmail" };
+
+    fn name() -> &'static str {
+        "ClientContactEmail"
+    }
 }
 
 /// E-mail address of someone who is responsible for a client.
@@ -117,7 +159,11 @@ pub type ClientContactEmail = Text<ClientContactEmailMarker>;
 pub struct ClientIdMarker;
 
 impl Marker for ClientIdMarker {
-    const NAME: &'static str = "ClientId";
+    ghost name = { codes "ClientId" };
+
+    fn name() -> &'static str {
+        "ClientId"
+    }
 }
 
 /// Name by which a provider knows a client (RFC 6749 section 2.2).
@@ -128,7 +174,11 @@ pub type ClientId = Text<ClientIdMarker>;
 pub struct ClientNameMarker;
 
 impl Marker for ClientNameMarker {
-    const NAME: &'static str = "ClientName";
+    ghost name = { codes "ClientName" };
+
+    fn name() -> &'static str {
+        "ClientName"
+    }
 }
 
 /// Name of a client that is shown to the end user.
@@ -139,7 +189,11 @@ pub type ClientName = Text<ClientNameMarker>;
 pub struct CoreClaimNameMarker;
 
 impl Marker for CoreClaimNameMarker {
-    const NAME: &'static str = "CoreClaimName";
+    ghost name = { codes "CoreClaimName" };
+
+    fn name() -> &'static str {
+        "CoreClaimName"
+    }
 }
 
 /// Name of a claim (OpenID Connect Core 1.0 section 5.1).
@@ -150,7 +204,11 @@ pub type CoreClaimName = Text<CoreClaimNameMarker>;
 pub struct CoreGenderClaimMarker;
 
 impl Marker for CoreGenderClaimMarker {
-    const NAME: &'static str = "CoreGenderClaim";
+    ghost name = { codes "CoreGenderClaim" };
+
+    fn name() -> &'static str {
+        "CoreGenderClaim"
+    }
 }
 
 /// Gender of the end user, as `female`, `male` or any other text (OpenID Connect Core 1.0
@@ -162,7 +220,11 @@ pub type CoreGenderClaim = Text<CoreGenderClaimMarker>;
 pub struct EndUserBirthdayMarker;
 
 impl Marker for EndUserBirthdayMarker {
-    const NAME: &'static str = "EndUserBirthday";
+    ghost name = { codes "EndUserBirthday" };
+
+    fn name() -> &'static str {
+        "EndUserBirthday"
+    }
 }
 
 /// Birthday, as `YYYY-MM-DD` or `YYYY` (OpenID Connect Core 1.0 section 5.1).
@@ -173,7 +235,11 @@ pub type EndUserBirthday = Text<EndUserBirthdayMarker>;
 pub struct EndUserEmailMarker;
 
 impl Marker for EndUserEmailMarker {
-    const NAME: &'static str = "EndUserEmail";
+    ghost name = { codes "EndUserEmail" };
+
+    fn name() -> &'static str {
+        "EndUserEmail"
+    }
 }
 
 /// E-mail address of the end user (OpenID Connect Core 1.0 section 5.1).
@@ -184,7 +250,11 @@ pub type EndUserEmail = Text<EndUserEmailMarker>;
 pub struct EndUserFamilyNameMarker;
 
 impl Marker for EndUserFamilyNameMarker {
-    const NAME: &'static str = "EndUserFamilyName";
+    ghost name = { codes "EndUserFamilyName" };
+
+    fn name() -> &'static str {
+        "EndUserFamilyName"
+    }
 }
 
 /// Family name of the end user (OpenID Connect Core 1.0 section 5.1).
@@ -195,7 +265,11 @@ pub type EndUserFamilyName = Text<EndUserFamilyNameMarker>;
 pub struct EndUserGivenNameMarker;
 
 impl Marker for EndUserGivenNameMarker {
-    const NAME: &'static str = "EndUserGivenName";
+    ghost name = { codes "EndUserGivenName" };
+
+    fn name() -> &'static str {
+        "EndUserGivenName"
+    }
 }
 
 /// Given name of the end user (OpenID Connect Core 1.0 section 5.1).
@@ -206,7 +280,11 @@ pub type EndUserGivenName = Text<EndUserGivenNameMarker>;
 pub struct EndUserMiddleNameMarker;
 
 impl Marker for EndUserMiddleNameMarker {
-    const NAME: &'static str = "EndUserMiddleName";
+    ghost name = { codes "EndUserMiddleName" };
+
+    fn name() -> &'static str {
+        "EndUserMiddleName"
+    }
 }
 
 /// Middle name of the end user (OpenID Connect Core 1.0 section 5.1).
@@ -217,7 +295,11 @@ pub type EndUserMiddleName = Text<EndUserMiddleNameMarker>;
 pub struct EndUserNameMarker;
 
 impl Marker for EndUserNameMarker {
-    const NAME: &'static str = "EndUserName";
+    ghost name = { codes "EndUserName" };
+
+    fn name() -> &'static str {
+        "EndUserName"
+    }
 }
 
 /// Full name of the end user (OpenID Connect Core 1.0 section 5.1).
@@ -228,7 +310,11 @@ pub type EndUserName = Text<EndUserNameMarker>;
 pub struct EndUserNicknameMarker;
 
 impl Marker for EndUserNicknameMarker {
-    const NAME: &'static str = "EndUserNickname";
+    ghost name = { codes "EndUserNickname" };
+
+    fn name() -> &'static str {
+        "EndUserNickname"
+    }
 }
 
 /// Casual name of the end user (OpenID Connect Core 1.0 section 5.1).
@@ -239,7 +325,11 @@ pub type EndUserNickname = Text<EndUserNicknameMarker>;
 pub struct EndUserPhoneNumberMarker;
 
 impl Marker for EndUserPhoneNumberMarker {
-    const NAME: &'static str = "EndUserPhoneNumber";
+    ghost name = { codes "EndUserPhoneNumber" };
+
+    fn name() -> &'static str {
+        "EndUserPhoneNumber"
+    }
 }
 
 /// Telephone number of the end user (OpenID Connect Core 1.0 section 5.1).
@@ -250,7 +340,11 @@ pub type EndUserPhoneNumber = Text<EndUserPhoneNumberMarker>;
 pub struct EndUserPictureUrlMarker;
 
 impl Marker for EndUserPictureUrlMarker {
-    const NAME: &'static str = "EndUserPictureUrl";
+    ghost name = { codes "EndUserPictureUrl" };
+
+    fn name() -> &'static str {
+        "EndUserPictureUrl"
+    }
 }
 
 /// URL of a picture of the end user, a plain text that is never parsed (OpenID Connect Core 1.0
@@ -262,7 +356,11 @@ pub type EndUserPictureUrl = Text<EndUserPictureUrlMarker>;
 pub struct EndUserProfileUrlMarker;
 
 impl Marker for EndUserProfileUrlMarker {
-    const NAME: &'static str = "EndUserProfileUrl";
+    ghost name = { codes "EndUserProfileUrl" };
+
+    fn name() -> &'static str {
+        "EndUserProfileUrl"
+    }
 }
 
 /// URL of a page about the end user, a plain text that is never parsed (OpenID Connect Core 1.0
@@ -274,7 +372,11 @@ pub type EndUserProfileUrl = Text<EndUserProfileUrlMarker>;
 pub struct EndUserTimezoneMarker;
 
 impl Marker for EndUserTimezoneMarker {
-    const NAME: &'static str = "EndUserTimezone";
+    ghost name = { codes "EndUserTimezone" };
+
+    fn name() -> &'static str {
+        "EndUserTimezone"
+    }
 }
 
 /// Time zone of the end user, by its name in the time zone database (OpenID Connect Core 1.0
@@ -286,7 +388,11 @@ pub type EndUserTimezone = Text<EndUserTimezoneMarker>;
 pub struct EndUserUsernameMarker;
 
 impl Marker for EndUserUsernameMarker {
-    const NAME: &'static str = "EndUserUsername";
+    ghost name = { codes "EndUserUsername" };
+
+    fn name() -> &'static str {
+        "EndUserUsername"
+    }
 }
 
 /// Short name that the end user prefers (OpenID Connect Core 1.0 section 5.1).
@@ -297,7 +403,11 @@ pub type EndUserUsername = Text<EndUserUsernameMarker>;
 pub struct EndUserWebsiteUrlMarker;
 
 impl Marker for EndUserWebsiteUrlMarker {
-    const NAME: &'static str = "EndUserWebsiteUrl";
+    ghost name = { codes "EndUserWebsiteUrl" };
+
+    fn name() -> &'static str {
+        "EndUserWebsiteUrl"
+    }
 }
 
 /// URL of a site of the end user, a plain text that is never parsed (OpenID Connect Core 1.0
@@ -309,7 +419,11 @@ pub type EndUserWebsiteUrl = Text<EndUserWebsiteUrlMarker>;
 pub struct FormattedAddressMarker;
 
 impl Marker for FormattedAddressMarker {
-    const NAME: &'static str = "FormattedAddress";
+    ghost name = { codes "FormattedAddress" };
+
+    fn name() -> &'static str {
+        "FormattedAddress"
+    }
 }
 
 /// Address as it is written on a letter, of one or more lines (OpenID Connect Core 1.0
@@ -321,7 +435,11 @@ pub type FormattedAddress = Text<FormattedAddressMarker>;
 pub struct JsonWebKeyIdMarker;
 
 impl Marker for JsonWebKeyIdMarker {
-    const NAME: &'static str = "JsonWebKeyId";
+    ghost name = { codes "JsonWebKeyId" };
+
+    fn name() -> &'static str {
+        "JsonWebKeyId"
+    }
 }
 
 /// Name of a key in a key set, the member `kid` (RFC 7517 section 4.5).
@@ -332,7 +450,11 @@ pub type JsonWebKeyId = Text<JsonWebKeyIdMarker>;
 pub struct LanguageTagMarker;
 
 impl Marker for LanguageTagMarker {
-    const NAME: &'static str = "LanguageTag";
+    ghost name = { codes "LanguageTag" };
+
+    fn name() -> &'static str {
+        "LanguageTag"
+    }
 }
 
 /// Tag of a language, as `en` or `ja-Kana-JP` (RFC 5646).
@@ -343,7 +465,11 @@ pub type LanguageTag = Text<LanguageTagMarker>;
 pub struct OAuth2ResponseTypeMarker;
 
 impl Marker for OAuth2ResponseTypeMarker {
-    const NAME: &'static str = "OAuth2ResponseType";
+    ghost name = { codes "OAuth2ResponseType" };
+
+    fn name() -> &'static str {
+        "OAuth2ResponseType"
+    }
 }
 
 /// Response type as the authorization endpoint takes it (RFC 6749 section 3.1.1).
@@ -354,7 +480,11 @@ pub type OAuth2ResponseType = Text<OAuth2ResponseTypeMarker>;
 pub struct PkceCodeChallengeMethodMarker;
 
 impl Marker for PkceCodeChallengeMethodMarker {
-    const NAME: &'static str = "PkceCodeChallengeMethod";
+    ghost name = { codes "PkceCodeChallengeMethod" };
+
+    fn name() -> &'static str {
+        "PkceCodeChallengeMethod"
+    }
 }
 
 /// Way in which a challenge is made of a code verifier (RFC 7636 section 4.2).
@@ -365,7 +495,11 @@ pub type PkceCodeChallengeMethod = Text<PkceCodeChallengeMethodMarker>;
 pub struct ResourceOwnerUsernameMarker;
 
 impl Marker for ResourceOwnerUsernameMarker {
-    const NAME: &'static str = "ResourceOwnerUsername";
+    ghost name = { codes "ResourceOwnerUsername" };
+
+    fn name() -> &'static str {
+        "ResourceOwnerUsername"
+    }
 }
 
 /// User name of a resource owner (RFC 6749 section 4.3.2).
@@ -376,7 +510,11 @@ pub type ResourceOwnerUsername = Text<ResourceOwnerUsernameMarker>;
 pub struct ScopeMarker;
 
 impl Marker for ScopeMarker {
-    const NAME: &'static str = "Scope";
+    ghost name = { codes "Scope" };
+
+    fn name() -> &'static str {
+        "Scope"
+    }
 }
 
 /// Range of an access (RFC 6749 section 3.3).
@@ -387,7 +525,11 @@ pub type Scope = Text<ScopeMarker>;
 pub struct StreetAddressMarker;
 
 impl Marker for StreetAddressMarker {
-    const NAME: &'static str = "StreetAddress";
+    ghost name = { codes "StreetAddress" };
+
+    fn name() -> &'static str {
+        "StreetAddress"
+    }
 }
 
 /// Street, house number and the like, of one or more lines (OpenID Connect Core 1.0
@@ -399,7 +541,11 @@ pub type StreetAddress = Text<StreetAddressMarker>;
 pub struct SubjectIdentifierMarker;
 
 impl Marker for SubjectIdentifierMarker {
-    const NAME: &'static str = "SubjectIdentifier";
+    ghost name = { codes "SubjectIdentifier" };
+
+    fn name() -> &'static str {
+        "SubjectIdentifier"
+    }
 }
 
 /// Name of an end user that an issuer never gives to another, the claim `sub` (OpenID Connect Core

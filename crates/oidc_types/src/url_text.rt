@@ -9,7 +9,7 @@ ghost use Rattle.std.specs.Hash as fed;
 ghost use Rattle.std.specs.Ordering.{nat_cmp, as_partial_cmp};
 ghost use Rattle.std.proofs.Common.{rules};
 ghost use Rattle.url.specs.Parts.{serialize};
-ghost use Rattle.oidc_types.specs.UrlTexts.{ParsesUrl, ReadsUrl};
+ghost use Rattle.oidc_types.specs.UrlText.{ParsesUrl, ReadsUrl};
 
 use crate::text::Marker;
 use std::alloc::{AllocError, Global};
@@ -30,7 +30,7 @@ pub struct UrlText<M> {
 
 impl<M> Model for UrlText<M> {
     ghost use Rattle.std.specs.String.{string_bytes};
-    ghost use Rattle.oidc_types.specs.UrlTexts.{TextAndUrl, text_and_url_code};
+    ghost use Rattle.oidc_types.specs.UrlText.{TextAndUrl, text_and_url_code};
 
     ghost Value = { TextAndUrl };
 
@@ -40,11 +40,13 @@ impl<M> Model for UrlText<M> {
 }
 
 /// Why a text gives no URL.
-#[derive(Debug, Drop)]
+#[derive(Debug, Drop, thiserror::Error)]
 pub enum UrlTextError {
     /// The URL Standard refuses the text.
+    #[error("a text that is no URL: {0}")]
     Refused(ParseError),
     /// There was no memory.
+    #[error("out of memory")]
     Memory,
 }
 
@@ -166,7 +168,8 @@ impl<M: Marker> Ord for UrlText<M> {
 impl<M: Marker> PartialOrd for UrlText<M> {
     ghost partial_cmp = { as_partial_cmp (λ a b. slice_cmp nat_cmp a.text b.text) };
 
-    ghost laws = { partial_order_from_own_ties (Prim.search (comparing, rules)) (Prim.search (comparing, rules)) };
+    ghost laws = { partial_order_from_own_ties
+        (Prim.search (comparing, rules)) (Prim.search (comparing, rules)) };
 
     fn partial_cmp(&self, other: &UrlText<M>) -> Option<Ordering> {
         Some(self.cmp(other))
@@ -194,7 +197,12 @@ impl<M: Marker> fmt::Display for UrlText<M> {
 
 /// Prints the kind and the text, as `IssuerUrl("https://example")`.
 impl<M: Marker> fmt::Debug for UrlText<M> {
+    ghost use Rattle.std.specs.Fmt.{debug_str};
+    ghost use Rattle.oidc_types.specs.Text.{debug_text};
+
+    ghost debug_output = { λ u. debug_text M.name (debug_str u.text) };
+
     fn fmt<W: fmt::Write>(&self, f: &mut fmt::Formatter<W>) -> fmt::Result {
-        write!(f, "{}({:?})", M::NAME, self.text)
+        write!(f, "{}({:?})", M::name(), self.text)
     }
 }

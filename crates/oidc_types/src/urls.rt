@@ -1,5 +1,7 @@
 //! The names of URLs.
 
+ghost use Rattle.std.specs.Prelude.{codes};
+
 use crate::text::Marker;
 use crate::url_text::UrlText;
 
@@ -8,7 +10,11 @@ use crate::url_text::UrlText;
 pub struct AuthUrlMarker;
 
 impl Marker for AuthUrlMarker {
-    const NAME: &'static str = "AuthUrl";
+    ghost name = { codes "AuthUrl" };
+
+    fn name() -> &'static str {
+        "AuthUrl"
+    }
 }
 
 /// URL of the authorization endpoint (RFC 6749 section 3.1).
@@ -19,7 +25,11 @@ pub type AuthUrl = UrlText<AuthUrlMarker>;
 pub struct ClientConfigUrlMarker;
 
 impl Marker for ClientConfigUrlMarker {
-    const NAME: &'static str = "ClientConfigUrl";
+    ghost name = { codes "ClientConfigUrl" };
+
+    fn name() -> &'static str {
+        "ClientConfigUrl"
+    }
 }
 
 /// URL at which a client's registration is read (OpenID Connect Dynamic Client Registration 1.0
@@ -31,7 +41,11 @@ pub type ClientConfigUrl = UrlText<ClientConfigUrlMarker>;
 pub struct ClientUrlMarker;
 
 impl Marker for ClientUrlMarker {
-    const NAME: &'static str = "ClientUrl";
+    ghost name = { codes "ClientUrl" };
+
+    fn name() -> &'static str {
+        "ClientUrl"
+    }
 }
 
 /// URL of a client's home page.
@@ -42,7 +56,11 @@ pub type ClientUrl = UrlText<ClientUrlMarker>;
 pub struct DeviceAuthorizationUrlMarker;
 
 impl Marker for DeviceAuthorizationUrlMarker {
-    const NAME: &'static str = "DeviceAuthorizationUrl";
+    ghost name = { codes "DeviceAuthorizationUrl" };
+
+    fn name() -> &'static str {
+        "DeviceAuthorizationUrl"
+    }
 }
 
 /// URL of the device authorization endpoint (RFC 8628 section 3.1).
@@ -53,7 +71,11 @@ pub type DeviceAuthorizationUrl = UrlText<DeviceAuthorizationUrlMarker>;
 pub struct EndSessionUrlMarker;
 
 impl Marker for EndSessionUrlMarker {
-    const NAME: &'static str = "EndSessionUrl";
+    ghost name = { codes "EndSessionUrl" };
+
+    fn name() -> &'static str {
+        "EndSessionUrl"
+    }
 }
 
 /// URL of the endpoint that signs an end user out (OpenID Connect RP-Initiated Logout 1.0
@@ -65,7 +87,11 @@ pub type EndSessionUrl = UrlText<EndSessionUrlMarker>;
 pub struct EndUserVerificationUrlMarker;
 
 impl Marker for EndUserVerificationUrlMarker {
-    const NAME: &'static str = "EndUserVerificationUrl";
+    ghost name = { codes "EndUserVerificationUrl" };
+
+    fn name() -> &'static str {
+        "EndUserVerificationUrl"
+    }
 }
 
 /// URL at which the end user types in the user code (RFC 8628 section 3.2).
@@ -76,7 +102,11 @@ pub type EndUserVerificationUrl = UrlText<EndUserVerificationUrlMarker>;
 pub struct InitiateLoginUrlMarker;
 
 impl Marker for InitiateLoginUrlMarker {
-    const NAME: &'static str = "InitiateLoginUrl";
+    ghost name = { codes "InitiateLoginUrl" };
+
+    fn name() -> &'static str {
+        "InitiateLoginUrl"
+    }
 }
 
 /// URL by which a third party starts a login (OpenID Connect Core 1.0 section 4).
@@ -87,7 +117,11 @@ pub type InitiateLoginUrl = UrlText<InitiateLoginUrlMarker>;
 pub struct IntrospectionUrlMarker;
 
 impl Marker for IntrospectionUrlMarker {
-    const NAME: &'static str = "IntrospectionUrl";
+    ghost name = { codes "IntrospectionUrl" };
+
+    fn name() -> &'static str {
+        "IntrospectionUrl"
+    }
 }
 
 /// URL of the introspection endpoint (RFC 7662 section 2).
@@ -98,7 +132,11 @@ pub type IntrospectionUrl = UrlText<IntrospectionUrlMarker>;
 pub struct IssuerUrlMarker;
 
 impl Marker for IssuerUrlMarker {
-    const NAME: &'static str = "IssuerUrl";
+    ghost name = { codes "IssuerUrl" };
+
+    fn name() -> &'static str {
+        "IssuerUrl"
+    }
 }
 
 /// Name of an issuer, the claim `iss` (OpenID Connect Core 1.0 section 2).
@@ -109,7 +147,11 @@ pub type IssuerUrl = UrlText<IssuerUrlMarker>;
 pub struct JsonWebKeySetUrlMarker;
 
 impl Marker for JsonWebKeySetUrlMarker {
-    const NAME: &'static str = "JsonWebKeySetUrl";
+    ghost name = { codes "JsonWebKeySetUrl" };
+
+    fn name() -> &'static str {
+        "JsonWebKeySetUrl"
+    }
 }
 
 /// URL of a key set (OpenID Connect Discovery 1.0 section 3).
@@ -120,7 +162,11 @@ pub type JsonWebKeySetUrl = UrlText<JsonWebKeySetUrlMarker>;
 pub struct LogoUrlMarker;
 
 impl Marker for LogoUrlMarker {
-    const NAME: &'static str = "LogoUrl";
+    ghost name = { codes "LogoUrl" };
+
+    fn name() -> &'static str {
+        "LogoUrl"
+    }
 }
 
 /// URL of a client's logo.
@@ -131,7 +177,11 @@ pub type LogoUrl = UrlText<LogoUrlMarker>;
 pub struct OpPolicyUrlMarker;
 
 impl Marker for OpPolicyUrlMarker {
-    const NAME: &'static str = "OpPolicyUrl";
+    ghost name = { codes "OpPolicyUrl" };
+
+    fn name() -> &'static str {
+        "OpPolicyUrl"
+    }
 }
 
 /// URL of a provider's rules on what a client may do with data.
@@ -142,7 +192,11 @@ pub type OpPolicyUrl = UrlText<OpPolicyUrlMarker>;
 pub struct OpTosUrlMarker;
 
 impl Marker for OpTosUrlMarker {
-    const NAME: &'static str = "OpTosUrl";
+    ghost name = { codes "OpTosUrl" };
+
+    fn name() -> &'static str {
+        "OpTosUrl"
+    }
 }
 
 /// URL of a provider's terms of service.
@@ -153,7 +207,11 @@ pub type OpTosUrl = UrlText<OpTosUrlMarker>;
 pub struct PolicyUrlMarker;
 
 impl Marker for PolicyUrlMarker {
-    const NAME: &'static str = "PolicyUrl";
+    ghost name = { codes "PolicyUrl" };
+
+    fn name() -> &'static str {
+        "PolicyUrl"
+    }
 }
 
 /// URL of a client's rules on data.
@@ -164,7 +222,11 @@ pub type PolicyUrl = UrlText<PolicyUrlMarker>;
 pub struct PostLogoutRedirectUrlMarker;
 
 impl Marker for PostLogoutRedirectUrlMarker {
-    const NAME: &'static str = "PostLogoutRedirectUrl";
+    ghost name = { codes "PostLogoutRedirectUrl" };
+
+    fn name() -> &'static str {
+        "PostLogoutRedirectUrl"
+    }
 }
 
 /// URL to which the end user comes back after signing out (OpenID Connect RP-Initiated Logout 1.0
@@ -176,7 +238,11 @@ pub type PostLogoutRedirectUrl = UrlText<PostLogoutRedirectUrlMarker>;
 pub struct RedirectUrlMarker;
 
 impl Marker for RedirectUrlMarker {
-    const NAME: &'static str = "RedirectUrl";
+    ghost name = { codes "RedirectUrl" };
+
+    fn name() -> &'static str {
+        "RedirectUrl"
+    }
 }
 
 /// URL to which the provider sends the end user back (RFC 6749 section 3.1.2).
@@ -187,7 +253,11 @@ pub type RedirectUrl = UrlText<RedirectUrlMarker>;
 pub struct RegistrationUrlMarker;
 
 impl Marker for RegistrationUrlMarker {
-    const NAME: &'static str = "RegistrationUrl";
+    ghost name = { codes "RegistrationUrl" };
+
+    fn name() -> &'static str {
+        "RegistrationUrl"
+    }
 }
 
 /// URL of the registration endpoint (OpenID Connect Dynamic Client Registration 1.0 section 3).
@@ -198,7 +268,11 @@ pub type RegistrationUrl = UrlText<RegistrationUrlMarker>;
 pub struct RequestUrlMarker;
 
 impl Marker for RequestUrlMarker {
-    const NAME: &'static str = "RequestUrl";
+    ghost name = { codes "RequestUrl" };
+
+    fn name() -> &'static str {
+        "RequestUrl"
+    }
 }
 
 /// URL of a request object (OpenID Connect Core 1.0 section 6.2).
@@ -209,7 +283,11 @@ pub type RequestUrl = UrlText<RequestUrlMarker>;
 pub struct RevocationUrlMarker;
 
 impl Marker for RevocationUrlMarker {
-    const NAME: &'static str = "RevocationUrl";
+    ghost name = { codes "RevocationUrl" };
+
+    fn name() -> &'static str {
+        "RevocationUrl"
+    }
 }
 
 /// URL of the revocation endpoint (RFC 7009 section 2).
@@ -220,7 +298,11 @@ pub type RevocationUrl = UrlText<RevocationUrlMarker>;
 pub struct SectorIdentifierUrlMarker;
 
 impl Marker for SectorIdentifierUrlMarker {
-    const NAME: &'static str = "SectorIdentifierUrl";
+    ghost name = { codes "SectorIdentifierUrl" };
+
+    fn name() -> &'static str {
+        "SectorIdentifierUrl"
+    }
 }
 
 /// URL of a list of the redirects that share pairwise names (OpenID Connect Core 1.0 section 8.1).
@@ -231,7 +313,11 @@ pub type SectorIdentifierUrl = UrlText<SectorIdentifierUrlMarker>;
 pub struct ServiceDocUrlMarker;
 
 impl Marker for ServiceDocUrlMarker {
-    const NAME: &'static str = "ServiceDocUrl";
+    ghost name = { codes "ServiceDocUrl" };
+
+    fn name() -> &'static str {
+        "ServiceDocUrl"
+    }
 }
 
 /// URL of a provider's documents for developers.
@@ -242,7 +328,11 @@ pub type ServiceDocUrl = UrlText<ServiceDocUrlMarker>;
 pub struct ToSUrlMarker;
 
 impl Marker for ToSUrlMarker {
-    const NAME: &'static str = "ToSUrl";
+    ghost name = { codes "ToSUrl" };
+
+    fn name() -> &'static str {
+        "ToSUrl"
+    }
 }
 
 /// URL of a client's terms of service.
@@ -253,7 +343,11 @@ pub type ToSUrl = UrlText<ToSUrlMarker>;
 pub struct TokenUrlMarker;
 
 impl Marker for TokenUrlMarker {
-    const NAME: &'static str = "TokenUrl";
+    ghost name = { codes "TokenUrl" };
+
+    fn name() -> &'static str {
+        "TokenUrl"
+    }
 }
 
 /// URL of the token endpoint (RFC 6749 section 3.2).
@@ -264,7 +358,11 @@ pub type TokenUrl = UrlText<TokenUrlMarker>;
 pub struct UserInfoUrlMarker;
 
 impl Marker for UserInfoUrlMarker {
-    const NAME: &'static str = "UserInfoUrl";
+    ghost name = { codes "UserInfoUrl" };
+
+    fn name() -> &'static str {
+        "UserInfoUrl"
+    }
 }
 
 /// URL of the user info endpoint (OpenID Connect Core 1.0 section 5.3).

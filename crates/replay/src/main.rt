@@ -1,7 +1,7 @@
 //! The program `replay`: the words after its name, and the adapters over standard input and output.
 //!
 //! `replay replay` reads a script from standard input and writes its report to standard output. The
-//! exit status is that of `status_of` over the two adapters: that of [`oidc_cli::run`] where there are
+//! exit status is that of `exit_status` over the two adapters: that of [`oidc_cli::run`] where there are
 //! words. Words that can't be read as text are wrong words, and where there is no memory for the words
 //! the status is that of want of memory; nothing is read or written then. Nothing is written to
 //! standard error.
@@ -11,10 +11,7 @@ ghost use Rattle.std.specs.Prelude.{◌≡◌, ◌≢◌, ◌↔◌, ◌⊎◌, 
 ghost use Rattle.std.specs.String.{string_bytes};
 ghost use Rattle.std.specs.IoError.{error_kind};
 ghost use Rattle.std.specs.Io.KnownBytes.{IsAtEnd};
-ghost use Rattle.oidc_cli.specs.Told.{HasRisen, Puts, PutsPrefix};
-ghost use Rattle.oidc_cli.specs.Faults.{fault_of};
-ghost use Rattle.oidc_cli.specs.Report.{report};
-ghost use Rattle.oidc_cli.specs.Statuses.{EndsInFault};
+ghost use Rattle.oidc_cli.specs.{HasRisen, Puts, PutsPrefix, fault_of, report, EndsInFault};
 
 use oidc_cli::{NO_MEMORY, ReadSource, Sink, Source, WRONG_WORDS, WriteSink, run};
 use std::alloc::Global;
@@ -46,7 +43,7 @@ fn status_without_words(error: &io::Error) -> u8
 }
 
 // Runs the program for these words, or for none.
-fn status_of<S: Source, O: Sink>(
+fn exit_status<S: Source, O: Sink>(
     alloc: Global,
     words: io::Result<Vec<String>>,
     source: &mut S,
@@ -56,24 +53,29 @@ fn status_of<S: Source, O: Sink>(
 
     // Without words: why there are none.
     ensures memory { IfErr words (λ error. error_kind error ≡ ErrorKind.OutOfMemory → result ≡ 5) }
-    ensures unreadable { IfErr words (λ error. error_kind error ≢ ErrorKind.OutOfMemory → result ≡ 2) }
+    ensures unreadable { IfErr words
+        (λ error. error_kind error ≢ ErrorKind.OutOfMemory → result ≡ 2) }
     ensures untouched { IfErr words (λ error. (source.new ≡ source.old) × (sink.new ≡ sink.old)) }
 
     // With words: what `run` promises of them.
-    ensures words { IfOk words (λ words. (result ≡ 2) ↔ (map string_bytes words.items ≢ codes "replay" ∷ [])) }
+    ensures words { IfOk words
+        (λ words. (result ≡ 2) ↔ (map string_bytes words.items ≢ codes "replay" ∷ [])) }
+    ensures one_word { IfOk words
+        (λ words. result ≢ 2 → map string_bytes words.items ≡ codes "replay" ∷ []) }
     ensures idle { result ≡ 2 → (source.new ≡ source.old) × (sink.new ≡ sink.old) }
     ensures sink_fault { result ≡ 1 → HasRisen (O.faults sink.old) (O.faults sink.new) }
     ensures source_fault { result ≡ 4 → HasRisen (S.faults source.old) (S.faults source.new) }
-    ensures ended { result ≡ 0 → IsAtEnd (S.told source.new) }
-    ensures whole { (script : List ℕ) → S.told source.old ≡ Some script → result ≡ 0
+    ensures ended { result ≡ 0 → IsAtEnd (S.remaining source.new) }
+    ensures whole { (script : List ℕ) → S.remaining source.old ≡ Some script → result ≡ 0
         → fault_of script ≡ None }
-    ensures fault { (script : List ℕ) → S.told source.old ≡ Some script → result ≡ 3
+    ensures fault { (script : List ℕ) → S.remaining source.old ≡ Some script → result ≡ 3
         → EndsInFault script }
-    ensures reported { (script : List ℕ) → S.told source.old ≡ Some script → (result ≡ 0) ⊎ (result ≡ 3)
-        → Puts (O.told sink.old) (O.told sink.new) (report script) }
-    ensures begun { IfOk words (λ words. (script : List ℕ) → S.told source.old ≡ Some script
+    ensures reported { (script : List ℕ) → S.remaining source.old ≡ Some script
+        → (result ≡ 0) ⊎ (result ≡ 3)
+        → Puts (O.written sink.old) (O.written sink.new) (report script) }
+    ensures begun { IfOk words (λ words. (script : List ℕ) → S.remaining source.old ≡ Some script
         → (result ≡ 1) ⊎ (result ≡ 5)
-        → PutsPrefix (O.told sink.old) (O.told sink.new) (report script)) }
+        → PutsPrefix (O.written sink.old) (O.written sink.new) (report script)) }
 {
     match words {
         Ok(words) => run(alloc, words.as_slice(), source, sink),
@@ -85,5 +87,5 @@ fn main(rt: HostRuntime) -> ExitCode {
     let words = words_of(&rt);
     let mut source = ReadSource::new(rt.reader());
     let mut sink = WriteSink::new(io::writer(&rt));
-    ExitCode::from(status_of(rt.alloc(), words, &mut source, &mut sink))
+    ExitCode::from(exit_status(rt.alloc(), words, &mut source, &mut sink))
 }

@@ -45,7 +45,7 @@ impl AddressClaim {
 /// Equal where each part is, a missing one to a missing one.
 impl PartialEq for AddressClaim {
     ghost use Rattle.oidc_claims.specs.SameClaims.{same_address};
-    ghost use Rattle.oidc_claims.specs.SameLaws.{address_equality};
+    ghost use Rattle.oidc_claims.specs.SameClaims.{address_equality};
 
     ghost eq = { same_address };
 

@@ -1,21 +1,16 @@
 // The parts of an address, read from the text of its member.
-ghost use Rattle.std.specs.Prelude.{◌≡◌, ◌∷◌, ◌++◌, List, [], Option, true};
+ghost use Rattle.std.specs.Prelude.{◌≡◌, List, []};
 ghost use Rattle.oidc_members.specs.Answers.{Answers};
 ghost use Rattle.oidc_members.specs.Seen.{SeenMember};
-ghost use Rattle.oidc_readers.specs.Passes.{Took};
-ghost use Rattle.oidc_claims.specs.Address.{part_name, part_of, part_judged, part_fault, address_of, address_read, address_in};
-ghost use Rattle.oidc_claims.specs.Slots.{once_slot};
+ghost use Rattle.oidc_claims.specs.Address.{part_name, address_rule, address_of, address_in as address_in_members, address_kind};
 ghost use Rattle.oidc_claims.specs.Reader.{address_reader_of};
-ghost use Rattle.oidc_claims.specs.Kinds.{text_read};
 
 use crate::claims::address::AddressClaim;
-use crate::claims::slots::Once;
-use crate::claims::values::{ClaimValue, refused};
 use oidc_members::{Member, Members, ParseError, ParseKind};
-use oidc_readers::{MemberReader, PlacedError, read_members};
+use oidc_readers::{FieldValue, MemberReader, Once, read_fields, refused};
 use oidc_types::{
-    AddressCountry, AddressLocality, AddressPostalCode, AddressRegion, FormattedAddress, Marker,
-    StreetAddress, Text,
+    AddressCountry, AddressLocality, AddressPostalCode, AddressRegion, FormattedAddress,
+    StreetAddress,
 };
 use std::alloc::Global;
 
@@ -31,16 +26,8 @@ pub(crate) enum AddressPart {
 }
 
 impl AddressPart {
-    const ALL: [AddressPart; 6] = [
-        AddressPart::Formatted,
-        AddressPart::StreetAddress,
-        AddressPart::Locality,
-        AddressPart::Region,
-        AddressPart::PostalCode,
-        AddressPart::Country,
-    ];
-
-    fn name(self) -> &'static str
+    /// The name of its member.
+    pub(crate) fn name(self) -> &'static str
         ensures { result.now ≡ part_name self }
     {
         match self {
@@ -52,62 +39,21 @@ impl AddressPart {
             AddressPart::Country => "country",
         }
     }
-
-    // The part of that name. A name with a tag is none.
-    fn of_name(name: &str) -> Option<AddressPart>
-        ensures { result ≡ part_of name.now }
-    {
-        AddressPart::ALL
-            .iter()
-            .copied()
-            .find(|part| part.name() == name)
-    }
-
-    // The part that a member is.
-    fn of_member(member: &Member) -> Option<AddressPart>
-        ensures { result ≡ part_of member.now.name }
-    {
-        AddressPart::of_name(member.name())
-    }
-}
-
-impl<M: Marker> Once<Text<M>> {
-    // Takes a member of the part, after those that came.
-    fn take_part(&mut self, alloc: Global, member: &Member) -> Result<(), ParseError>
-        ensures { (before : List SeenMember) → self.old ≡ once_slot true text_read before
-            → Took (part_judged before member.now) result
-            (self.new ≡ once_slot true text_read (before ++ member.now ∷ [])) }
-    {
-        if self.seen {
-            return Err(refused(alloc, ParseKind::Duplicate, member.name()));
-        }
-        self.seen = true;
-        if member.value().is_null() {
-            return Ok(());
-        }
-        match <Text<M> as ClaimValue>::read(alloc, member) {
-            Err(error) => Err(error),
-            Ok(value) => {
-                self.value = Some(value);
-                Ok(())
-            }
-        }
-    }
 }
 
 // The parts, as they are read.
 #[derive(Drop)]
 pub(crate) struct AddressReader {
-    formatted: Once<FormattedAddress>,
-    street_address: Once<StreetAddress>,
-    locality: Once<AddressLocality>,
-    region: Once<AddressRegion>,
-    postal_code: Once<AddressPostalCode>,
-    country: Once<AddressCountry>,
+    formatted: Once<Option<FormattedAddress>>,
+    street_address: Once<Option<StreetAddress>>,
+    locality: Once<Option<AddressLocality>>,
+    region: Once<Option<AddressRegion>>,
+    postal_code: Once<Option<AddressPostalCode>>,
+    country: Once<Option<AddressCountry>>,
 }
 
 impl AddressReader {
-    #[tactic(auto, unfolding(crate::specs::Reader::address_reader_of))]
+    #[tactic(auto, unfolding(oidc_readers::specs::Slots::slot))]
     fn new() -> Self
         ensures { result ≡ address_reader_of [] }
     {
@@ -121,60 +67,67 @@ impl AddressReader {
         }
     }
 
-    #[tactic(auto, unfolding(crate::specs::Reader::address_reader_of, crate::specs::Address::address_of))]
-    fn finish(self) -> AddressClaim
-        ensures { (members : List SeenMember) → self ≡ address_reader_of members → result ≡ address_of members }
+    // The address in the end.
+    #[tactic(auto, unfolding(crate::specs::Address::address_of, oidc_readers::specs::Slots::slot))]
+    fn into_address(self) -> AddressClaim
+        ensures { (members : List SeenMember) → self ≡ address_reader_of members
+            → result ≡ address_of members }
     {
         AddressClaim {
-            formatted: self.formatted.value,
-            street_address: self.street_address.value,
-            locality: self.locality.value,
-            region: self.region.value,
-            postal_code: self.postal_code.value,
-            country: self.country.value,
+            formatted: self.formatted.optional(),
+            street_address: self.street_address.optional(),
+            locality: self.locality.optional(),
+            region: self.region.optional(),
+            postal_code: self.postal_code.optional(),
+            country: self.country.optional(),
         }
     }
 }
 
 impl MemberReader for AddressReader {
-    ghost fault = { part_fault };
+    ghost fault = { address_rule };
 
     ghost state = { address_reader_of };
 
     fn take(&mut self, alloc: Global, member: &Member) -> Result<(), ParseError> {
-        match AddressPart::of_member(member) {
-            None => Ok(()),
-            Some(AddressPart::Formatted) => self.formatted.take_part(alloc, member),
-            Some(AddressPart::StreetAddress) => self.street_address.take_part(alloc, member),
-            Some(AddressPart::Locality) => self.locality.take_part(alloc, member),
-            Some(AddressPart::Region) => self.region.take_part(alloc, member),
-            Some(AddressPart::PostalCode) => self.postal_code.take_part(alloc, member),
-            Some(AddressPart::Country) => self.country.take_part(alloc, member),
-        }
+        self.formatted
+            .take(alloc, AddressPart::Formatted.name(), member)
+            .and(
+                self.street_address
+                    .take(alloc, AddressPart::StreetAddress.name(), member),
+            )
+            .and(
+                self.locality
+                    .take(alloc, AddressPart::Locality.name(), member),
+            )
+            .and(self.region.take(alloc, AddressPart::Region.name(), member))
+            .and(
+                self.postal_code
+                    .take(alloc, AddressPart::PostalCode.name(), member),
+            )
+            .and(
+                self.country
+                    .take(alloc, AddressPart::Country.name(), member),
+            )
     }
 }
 
 // The address that an object's members are.
-fn address_in_members(alloc: Global, members: &[Member]) -> Result<AddressClaim, ParseError>
-    ensures { Answers (address_in (Ok members.now)) result }
+fn address_in(alloc: Global, members: &Members) -> Result<AddressClaim, ParseError>
+    ensures { Answers (address_in_members members.now) result }
 {
-    match read_members(alloc, AddressReader::new(), members) {
-        Ok(reader) => Ok(reader.finish()),
-        Err(PlacedError::Refused { refusal, .. }) => Err(ParseError::Refused(refusal)),
-        Err(PlacedError::Memory) => Err(ParseError::Memory),
-    }
+    Ok(read_fields(alloc, AddressReader::new(), members)?.into_address())
 }
 
-impl ClaimValue for AddressClaim {
-    ghost read_of = { address_read };
+/// An object of optional texts.
+impl FieldValue for AddressClaim {
+    ghost read_of = { address_kind };
 
     fn read(alloc: Global, member: &Member) -> Result<AddressClaim, ParseError> {
         if !member.value().is_object() {
             return Err(refused(alloc, ParseKind::WrongType, member.name()));
         }
-        match Members::split(alloc, member.text()) {
-            Err(error) => Err(error),
-            Ok(members) => address_in_members(alloc, members.as_slice()),
-        }
+        let members = Members::split(alloc, member.text())?;
+        address_in(alloc, &members)
     }
 }

@@ -1,19 +1,21 @@
 // The reader of the standard claims: one slot a claim.
 ghost use Rattle.std.specs.Prelude.{◌≡◌, ℕ, List, [], length, Some, None, Ok, Err};
 ghost use Rattle.oidc_members.specs.declared.refusal.Refusal.{Refusal};
+ghost use Rattle.oidc_members.specs.Answers.{Answers};
+ghost use Rattle.oidc_members.specs.Seen.{SeenMember};
 ghost use Rattle.oidc_readers.specs.Passes.{PlacedAnswers};
 ghost use Rattle.oidc_claims.specs.Claims.{fault_at, first_fault};
 ghost use Rattle.oidc_claims.specs.Seen.{SeenClaims};
-ghost use Rattle.oidc_claims.specs.Reader.{reader_of, finished, finished_claims};
-ghost use Rattle.oidc_claims.specs.Standard.{claims_of, subject_of, missing_subject, with_subject};
+ghost use Rattle.oidc_claims.specs.Reader.{reader_of, finished_claims};
+ghost use Rattle.oidc_claims.specs.Standard.{claims_of, faultless_claims, subject_of, missing_subject, with_subject};
 
 use crate::claim::Claim;
-use crate::claims::slots::{Languages, Once};
-use crate::claims::values::{GenderOf, Moment, gender_of, timestamp_of};
+use crate::claims::slots::{Languages, take_once};
+use crate::claims::values::{GenderOf, gender_of};
 use crate::claims::{AddressClaim, StandardClaims};
 use crate::gender::GenderClaim;
-use oidc_members::{Member, Members, ParseError, ParseKind, Refusal};
-use oidc_readers::{MemberReader, PlacedError, read_members};
+use oidc_members::{Member, Members, ParseError, ParseKind};
+use oidc_readers::{MemberReader, Moment, Once, PlacedError, read_members, refused, timestamp_of};
 use oidc_types::{
     EndUserBirthday, EndUserEmail, EndUserFamilyName, EndUserGivenName, EndUserMiddleName,
     EndUserName, EndUserNickname, EndUserPhoneNumber, EndUserPictureUrl, EndUserProfileUrl,
@@ -21,36 +23,39 @@ use oidc_types::{
 };
 use std::alloc::Global;
 
-/// The claims, as they are read.
+/// The standard claims, as they are read member by member. Its rule is `fault_at`, and what it
+/// keeps is `reader_of` the members that came; `finish` gives the claims in the end. A reader of an
+/// ID token's own fields stands beside it in `Both`.
 #[derive(Drop)]
-pub(crate) struct ClaimsReader<GC: GenderClaim> {
+pub struct ClaimsReader<GC: GenderClaim> {
     subject: Once<SubjectIdentifier>,
     name: Languages<EndUserName>,
     given_name: Languages<EndUserGivenName>,
     family_name: Languages<EndUserFamilyName>,
     middle_name: Languages<EndUserMiddleName>,
     nickname: Languages<EndUserNickname>,
-    preferred_username: Once<EndUserUsername>,
+    preferred_username: Once<Option<EndUserUsername>>,
     profile: Languages<EndUserProfileUrl>,
     picture: Languages<EndUserPictureUrl>,
     website: Languages<EndUserWebsiteUrl>,
-    email: Once<EndUserEmail>,
-    email_verified: Once<bool>,
-    gender: Once<GenderOf<GC>>,
-    birthday: Once<EndUserBirthday>,
-    birthdate: Once<EndUserBirthday>,
-    zoneinfo: Once<EndUserTimezone>,
-    locale: Once<LanguageTag>,
-    phone_number: Once<EndUserPhoneNumber>,
-    phone_number_verified: Once<bool>,
-    address: Once<AddressClaim>,
-    updated_at: Once<Moment>,
+    email: Once<Option<EndUserEmail>>,
+    email_verified: Once<Option<bool>>,
+    gender: Once<Option<GenderOf<GC>>>,
+    birthday: Once<Option<EndUserBirthday>>,
+    birthdate: Once<Option<EndUserBirthday>>,
+    zoneinfo: Once<Option<EndUserTimezone>>,
+    locale: Once<Option<LanguageTag>>,
+    phone_number: Once<Option<EndUserPhoneNumber>>,
+    phone_number_verified: Once<Option<bool>>,
+    address: Once<Option<AddressClaim>>,
+    updated_at: Once<Option<Moment>>,
 }
 
 impl<GC: GenderClaim> ClaimsReader<GC> {
+    /// The reader before any member came.
     #[tactic(auto, unfolding(crate::specs::Reader::reader_of))]
-    fn new(alloc: Global) -> Self
-        ensures { result ≡ reader_of GC.read_of [] }
+    pub fn new(alloc: Global) -> Self
+        ensures empty { result ≡ reader_of GC.read_of [] }
     {
         ClaimsReader {
             subject: Once::new(),
@@ -77,50 +82,45 @@ impl<GC: GenderClaim> ClaimsReader<GC> {
         }
     }
 
-    // The claims in the end. Without `sub` the list is refused at its end.
-    #[tactic(auto, unfolding(crate::specs::Reader::finished_claims))]
-    fn finish(mut self, alloc: Global, end: usize) -> Result<StandardClaims<GC>, PlacedError>
-        ensures { PlacedAnswers (finished self end) result }
+    /// The claims of the members that came, none of them faulty. Without `sub` the answer is
+    /// `Missing` of `sub`.
+    pub fn finish(mut self, alloc: Global) -> Result<StandardClaims<GC>, ParseError>
+        ensures claims { (members : List SeenMember) → self ≡ reader_of GC.read_of members
+            → Answers (faultless_claims GC.read_of members) result }
     {
         match self.subject.value.take() {
-            Some(subject) => Ok(self.claims_of(subject)),
-            None => match Refusal::of_field(alloc, ParseKind::Missing, "sub") {
-                Ok(refusal) => Err(PlacedError::Refused {
-                    place: end,
-                    refusal,
-                }),
-                Err(_) => Err(PlacedError::Memory),
-            },
+            Some(subject) => Ok(self.claims_with(subject)),
+            None => Err(refused(alloc, ParseKind::Missing, "sub")),
         }
     }
 
     // What the slots hold, as the claims of that subject.
     #[tactic(auto, unfolding(crate::specs::Reader::finished_claims))]
-    fn claims_of(self, subject: SubjectIdentifier) -> StandardClaims<GC>
+    fn claims_with(self, subject: SubjectIdentifier) -> StandardClaims<GC>
         ensures { result ≡ finished_claims self subject }
     {
         StandardClaims {
             subject,
-            name: self.name.finish(),
-            given_name: self.given_name.finish(),
-            family_name: self.family_name.finish(),
-            middle_name: self.middle_name.finish(),
-            nickname: self.nickname.finish(),
-            preferred_username: self.preferred_username.value,
-            profile: self.profile.finish(),
-            picture: self.picture.finish(),
-            website: self.website.finish(),
-            email: self.email.value,
-            email_verified: self.email_verified.value,
-            gender: gender_of(self.gender.value),
-            birthday: self.birthday.value,
-            birthdate: self.birthdate.value,
-            zoneinfo: self.zoneinfo.value,
-            locale: self.locale.value,
-            phone_number: self.phone_number.value,
-            phone_number_verified: self.phone_number_verified.value,
-            address: self.address.value,
-            updated_at: timestamp_of(self.updated_at.value),
+            name: self.name.into_values(),
+            given_name: self.given_name.into_values(),
+            family_name: self.family_name.into_values(),
+            middle_name: self.middle_name.into_values(),
+            nickname: self.nickname.into_values(),
+            preferred_username: self.preferred_username.optional(),
+            profile: self.profile.into_values(),
+            picture: self.picture.into_values(),
+            website: self.website.into_values(),
+            email: self.email.optional(),
+            email_verified: self.email_verified.optional(),
+            gender: gender_of(self.gender.optional()),
+            birthday: self.birthday.optional(),
+            birthdate: self.birthdate.optional(),
+            zoneinfo: self.zoneinfo.optional(),
+            locale: self.locale.optional(),
+            phone_number: self.phone_number.optional(),
+            phone_number_verified: self.phone_number_verified.optional(),
+            address: self.address.optional(),
+            updated_at: timestamp_of(self.updated_at.optional()),
         }
     }
 }
@@ -133,39 +133,41 @@ impl<GC: GenderClaim> MemberReader for ClaimsReader<GC> {
     fn take(&mut self, alloc: Global, member: &Member) -> Result<(), ParseError> {
         match Claim::of_member(member) {
             None => Ok(()),
-            Some(Claim::Subject) => self.subject.take(alloc, Claim::Subject, member),
-            Some(Claim::Name) => self.name.take(alloc, Claim::Name, member),
-            Some(Claim::GivenName) => self.given_name.take(alloc, Claim::GivenName, member),
-            Some(Claim::FamilyName) => self.family_name.take(alloc, Claim::FamilyName, member),
-            Some(Claim::MiddleName) => self.middle_name.take(alloc, Claim::MiddleName, member),
-            Some(Claim::Nickname) => self.nickname.take(alloc, Claim::Nickname, member),
-            Some(Claim::PreferredUsername) => self
-                .preferred_username
-                .take(alloc, Claim::PreferredUsername, member),
-            Some(Claim::Profile) => self.profile.take(alloc, Claim::Profile, member),
-            Some(Claim::Picture) => self.picture.take(alloc, Claim::Picture, member),
-            Some(Claim::Website) => self.website.take(alloc, Claim::Website, member),
-            Some(Claim::Email) => self.email.take(alloc, Claim::Email, member),
-            Some(Claim::EmailVerified) => self
-                .email_verified
-                .take(alloc, Claim::EmailVerified, member),
-            Some(Claim::Gender) => self.gender.take(alloc, Claim::Gender, member),
-            Some(Claim::Birthday) => self.birthday.take(alloc, Claim::Birthday, member),
-            Some(Claim::Birthdate) => self.birthdate.take(alloc, Claim::Birthdate, member),
-            Some(Claim::Zoneinfo) => self.zoneinfo.take(alloc, Claim::Zoneinfo, member),
-            Some(Claim::Locale) => self.locale.take(alloc, Claim::Locale, member),
-            Some(Claim::PhoneNumber) => self.phone_number.take(alloc, Claim::PhoneNumber, member),
-            Some(Claim::PhoneNumberVerified) => self
-                .phone_number_verified
-                .take(alloc, Claim::PhoneNumberVerified, member),
-            Some(Claim::Address) => self.address.take(alloc, Claim::Address, member),
-            Some(Claim::UpdatedAt) => self.updated_at.take(alloc, Claim::UpdatedAt, member),
+            Some(Claim::Subject) => take_once(&mut self.subject, alloc, member),
+            Some(Claim::Name) => self.name.take(alloc, member),
+            Some(Claim::GivenName) => self.given_name.take(alloc, member),
+            Some(Claim::FamilyName) => self.family_name.take(alloc, member),
+            Some(Claim::MiddleName) => self.middle_name.take(alloc, member),
+            Some(Claim::Nickname) => self.nickname.take(alloc, member),
+            Some(Claim::PreferredUsername) => take_once(
+                &mut self.preferred_username,
+                alloc,
+                member,
+            ),
+            Some(Claim::Profile) => self.profile.take(alloc, member),
+            Some(Claim::Picture) => self.picture.take(alloc, member),
+            Some(Claim::Website) => self.website.take(alloc, member),
+            Some(Claim::Email) => take_once(&mut self.email, alloc, member),
+            Some(Claim::EmailVerified) => take_once(&mut self.email_verified, alloc, member),
+            Some(Claim::Gender) => take_once(&mut self.gender, alloc, member),
+            Some(Claim::Birthday) => take_once(&mut self.birthday, alloc, member),
+            Some(Claim::Birthdate) => take_once(&mut self.birthdate, alloc, member),
+            Some(Claim::Zoneinfo) => take_once(&mut self.zoneinfo, alloc, member),
+            Some(Claim::Locale) => take_once(&mut self.locale, alloc, member),
+            Some(Claim::PhoneNumber) => take_once(&mut self.phone_number, alloc, member),
+            Some(Claim::PhoneNumberVerified) => take_once(
+                &mut self.phone_number_verified,
+                alloc,
+                member,
+            ),
+            Some(Claim::Address) => take_once(&mut self.address, alloc, member),
+            Some(Claim::UpdatedAt) => take_once(&mut self.updated_at, alloc, member),
         }
     }
 }
 
-/// Reads the standard claims in one pass over the members; members that are no standard claim are
-/// left aside.
+/// Reads the standard claims. Members that are no standard claim are left aside. The body makes one
+/// pass over the members, of which no clause speaks.
 ///
 /// It refuses the first faulty member with its place, the kind and the field, and a list without a
 /// faulty one and without `sub` as `Missing` of `sub`, at the place behind the last member. A member
@@ -182,7 +184,8 @@ pub fn read_standard<GC: GenderClaim>(
 
     // Where there is memory: the first faulty member refuses the list, then a missing `sub`, and
     // else each claim is read of its own members.
-    ensures faulty { (place : ℕ) (refusal : Refusal) → first_fault GC.read_of members.now ≡ Some (place, refusal)
+    ensures faulty { (place : ℕ) (refusal : Refusal)
+        → first_fault GC.read_of members.now ≡ Some (place, refusal)
         → PlacedAnswers {A = SeenClaims GC} (Err (place, refusal)) result }
     ensures missing { first_fault GC.read_of members.now ≡ None → subject_of members.now ≡ None
         → PlacedAnswers {A = SeenClaims GC} (Err (length members.now, missing_subject)) result }
@@ -202,6 +205,9 @@ fn standard_of<GC: GenderClaim>(
 {
     match read_members(alloc, ClaimsReader::new(alloc), members.as_slice()) {
         Err(error) => Err(error),
-        Ok(reader) => reader.finish(alloc, members.len()),
+        Ok(reader) => match reader.finish(alloc) {
+            Err(error) => Err(PlacedError::at(members.len(), error)),
+            Ok(claims) => Ok(claims),
+        },
     }
 }

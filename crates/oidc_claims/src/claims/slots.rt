@@ -1,68 +1,36 @@
 // What is kept of one claim while the members are read.
-ghost use Rattle.std.specs.Prelude.{◌≡◌, ◌∷◌, ◌++◌, List, [], Bool, true, false, IfOk, OnOk, option_map, Option};
+ghost use Rattle.std.specs.Prelude.{◌≡◌, ◌∷◌, ◌++◌, List, [], IfOk, OnOk};
 ghost use Rattle.std.specs.Option.{option_copied};
+ghost use Rattle.std.specs.Result.{result_err};
 ghost use Rattle.std.specs.FinMap as finite;
 ghost use Rattle.oidc_members.specs.Seen.{SeenMember};
+ghost use Rattle.oidc_readers.specs.Fields.{is_nil};
+ghost use Rattle.oidc_readers.specs.Kinds.{or_null};
 ghost use Rattle.oidc_readers.specs.Passes.{Took};
-ghost use Rattle.oidc_claims.specs.Table.{is_localized, is_optional, tag_of};
-ghost use Rattle.oidc_claims.specs.Kinds.{misfit, held};
-ghost use Rattle.oidc_claims.specs.Claims.{judged, unless_empty, is_nil, with_value};
-ghost use Rattle.oidc_claims.specs.Slots.{once_slot, languages_slot};
+ghost use Rattle.oidc_readers.specs.Slots.{slot_among};
+ghost use Rattle.oidc_claims.specs.Claims.{once_fault, localized_fault, variants, unless_empty};
+ghost use Rattle.oidc_claims.specs.Slots.{languages_slot};
 
-use crate::claim::Claim;
-use crate::claims::values::{ClaimValue, refused};
 use crate::name::tag_of_name;
 use oidc_members::{Member, ParseError, ParseKind};
+use oidc_readers::{FieldValue, Once, refused};
 use oidc_types::{LanguageTag, LocalizedClaim};
 use std::alloc::{AllocError, Global};
 
-/// A value that may stand once: whether its member came, a null included, and the value.
-#[derive(Drop)]
-pub(crate) struct Once<T> {
-    pub(crate) seen: bool,
-    pub(crate) value: Option<T>,
-}
-
-impl<T: ClaimValue> Once<T> {
-    pub(crate) fn new() -> Self
-        ensures { result ≡ record { seen = false; value = Option.None } }
-    {
-        Once {
-            seen: false,
-            value: None,
-        }
+/// Takes a member of a claim that may stand once and under no tag, after those that came.
+pub(crate) fn take_once<T: FieldValue>(
+    slot: &mut Once<T>,
+    alloc: Global,
+    member: &Member,
+) -> Result<(), ParseError>
+    ensures { (before : List SeenMember) → slot.old ≡ slot_among T.read_of before
+        → Took (once_fault T.read_of before member.now) result
+        (slot.new ≡ slot_among T.read_of (before ++ member.now ∷ [])) }
+{
+    if !slot.seen && tag_of_name(member.name()).is_some() {
+        return Err(refused(alloc, ParseKind::UnexpectedTag, member.name()));
     }
-
-    /// Takes a member of the claim, after those that came.
-    pub(crate) fn take(
-        &mut self,
-        alloc: Global,
-        claim: Claim,
-        member: &Member,
-    ) -> Result<(), ParseError>
-        requires plain { is_localized claim ≡ false }
-        ensures { (before : List SeenMember) → self.old ≡ once_slot (is_optional claim) T.read_of before
-            → Took (judged T.read_of claim before member.now) result
-            (self.new ≡ once_slot (is_optional claim) T.read_of (before ++ member.now ∷ [])) }
-    {
-        if self.seen {
-            return Err(refused(alloc, ParseKind::Duplicate, member.name()));
-        }
-        if tag_of_name(member.name()).is_some() {
-            return Err(refused(alloc, ParseKind::UnexpectedTag, member.name()));
-        }
-        self.seen = true;
-        if claim.is_optional() && member.value().is_null() {
-            return Ok(());
-        }
-        match T::read(alloc, member) {
-            Err(error) => Err(error),
-            Ok(value) => {
-                self.value = Some(value);
-                Ok(())
-            }
-        }
-    }
+    slot.take_own(alloc, member)
 }
 
 /// A claim in several languages: the tags that came, nulls included, and the values.
@@ -100,7 +68,7 @@ fn is_empty<T>(values: &LocalizedClaim<T>) -> bool
     values.iter().next().is_none()
 }
 
-impl<T: ClaimValue> Languages<T> {
+impl<T: FieldValue> Languages<T> {
     pub(crate) fn new(alloc: Global) -> Self
         ensures { result ≡ record { seen = finite.empty; values = finite.empty } }
     {
@@ -111,7 +79,7 @@ impl<T: ClaimValue> Languages<T> {
     }
 
     /// The values, where there are any.
-    pub(crate) fn finish(self) -> Option<LocalizedClaim<T>>
+    pub(crate) fn into_values(self) -> Option<LocalizedClaim<T>>
         ensures { result ≡ unless_empty self.values }
     {
         if is_empty(&self.values) {
@@ -122,40 +90,46 @@ impl<T: ClaimValue> Languages<T> {
     }
 
     /// Takes a member of the claim, after those that came.
-    #[tactic(auto, using(crate::proofs::Tags::seen_any, crate::proofs::Tags::tags_push, crate::proofs::Tags::variants_push))]
-    pub(crate) fn take(
-        &mut self,
-        alloc: Global,
-        claim: Claim,
-        member: &Member,
-    ) -> Result<(), ParseError>
-        requires localized { is_localized claim ≡ true }
-        ensures { (before : List SeenMember) → self.old ≡ languages_slot (is_optional claim) T.read_of before
-            → Took (judged T.read_of claim before member.now) result
-            (self.new ≡ languages_slot (is_optional claim) T.read_of (before ++ member.now ∷ [])) }
+    #[tactic(auto, using(crate::proofs::Tags::seen_any, crate::proofs::Tags::tags_push))]
+    pub(crate) fn take(&mut self, alloc: Global, member: &Member) -> Result<(), ParseError>
+        ensures { (before : List SeenMember) → self.old ≡ languages_slot T.read_of before
+            → Took (localized_fault (or_null T.read_of) before member.now) result
+            (self.new ≡ languages_slot T.read_of (before ++ member.now ∷ [])) }
     {
-        let tag = tag_of_name(member.name());
-        let seen = match owned_tag(alloc, tag) {
+        let tag = match owned_tag(alloc, tag_of_name(member.name())) {
             Err(_) => return Err(ParseError::Memory),
             Ok(owned) => owned,
         };
-        match came_before(&mut self.seen, seen) {
+        match came_before(&mut self.seen, tag) {
             Err(_) => return Err(ParseError::Memory),
             Ok(true) => return Err(refused(alloc, ParseKind::Duplicate, member.name())),
             Ok(false) => {}
         }
-        if claim.is_optional() && member.value().is_null() {
-            return Ok(());
-        }
-        match T::read(alloc, member) {
-            Err(error) => Err(error),
-            Ok(value) => match owned_tag(alloc, tag) {
+        add_value(&mut self.values, alloc, member)?;
+        Ok(())
+    }
+}
+
+/// Adds the value of a member under its tag, where it is no null.
+#[tactic(auto, using(crate::proofs::Tags::variants_push))]
+fn add_value<T: FieldValue>(
+    values: &mut LocalizedClaim<T>,
+    alloc: Global,
+    member: &Member,
+) -> Result<(), ParseError>
+    ensures { (before : List SeenMember) → values.old ≡ variants T.read_of before
+        → Took (result_err (or_null T.read_of member.now)) result
+        (values.new ≡ variants T.read_of (before ++ member.now ∷ [])) }
+{
+    match <Option<T> as FieldValue>::read(alloc, member) {
+        Err(error) => Err(error),
+        Ok(None) => Ok(()),
+        Ok(Some(value)) => match owned_tag(alloc, tag_of_name(member.name())) {
+            Err(_) => Err(ParseError::Memory),
+            Ok(owned) => match values.insert(owned, value) {
                 Err(_) => Err(ParseError::Memory),
-                Ok(owned) => match self.values.insert(owned, value) {
-                    Err(_) => Err(ParseError::Memory),
-                    Ok(_) => Ok(()),
-                },
+                Ok(_) => Ok(()),
             },
-        }
+        },
     }
 }

@@ -1,81 +1,84 @@
 //! The values on the lines of a script.
-ghost use Rattle.std.specs.Prelude.{◌≡◌, ◌==◌, ◌<◌, [], ◌∷◌, length, slice_index, IfOk, IfSome, option_map, option_and_then};
+ghost use Rattle.std.specs.Prelude.{◌≡◌, ◌==◌, ◌<◌, [], ◌∷◌, length, slice_index, IfSome, option_map, option_and_then};
 ghost use Rattle.std.specs.List.{list_all, slice_split};
 ghost use Rattle.std.specs.Option.{option_map_or};
+ghost use Rattle.std.specs.String.{string_bytes};
 ghost use Rattle.http_header.specs.Token.{is_visible_or_blank};
-ghost use Rattle.oidc_types.specs.SigningAlgorithms.{signing_text, signing_algorithms};
-ghost use Rattle.oidc_types.specs.Words.{find_word};
+ghost use Rattle.oidc_types.specs.{signing_text, signing_algorithms};
+ghost use Rattle.oidc_types.specs.{find_word};
 ghost use Rattle.oidc_login.specs.IdTokens.{url_of_text, moment_at};
-ghost use Rattle.oidc_cli.specs.Values.{algorithms_of as algorithms_in, moment_of as moment_in, status_of as status_in, content_type_of as content_type_in};
-ghost use Rattle.oidc_cli.specs.Script.{read_in};
+ghost use Rattle.oidc_cli.specs.Values.{Reads, pair_text as text_of_pair, pair_value, algorithms_of as algorithms_in, moment_of_text as moment_in, status_code_of as status_code_in, content_type_of as content_type_in};
 
+use crate::events::LineError;
 use http::StatusCode;
 use http_header::{HeaderValue, HeaderValueError};
 use jiff::Timestamp;
 use oidc_pairs::Pairs;
 use oidc_types::{ClosedVocabulary, CoreJwsSigningAlgorithm, Marker, UrlText, UrlTextError};
-use std::alloc::{AllocError, Global};
+use std::alloc::Global;
+
+// The value of the one pair with this name.
+fn only_text<'a>(line: &'a Pairs, name: &str) -> Result<&'a str, LineError>
+    ensures { Reads (λ text. text.now) result (text_of_pair line.now name.now) }
+{
+    line.only(name).ok_or(LineError::NoEvent)
+}
+
+/// A copy of the value of the one pair with this name.
+pub fn pair_text(alloc: Global, line: &Pairs, name: &str) -> Result<String, LineError>
+    ensures { Reads string_bytes result (text_of_pair line.now name.now) }
+{
+    let text = only_text(line, name)?;
+    Ok(String::from_str(alloc, text)?)
+}
 
 /// The URL text of the one pair with this name.
-pub fn url_named<M: Marker>(
-    alloc: Global,
-    line: &Pairs,
-    name: &str,
-) -> Result<Option<UrlText<M>>, AllocError>
-    ensures { IfOk result (λ url. url ≡ read_in url_of_text line.now name.now) }
+pub fn pair_url<M: Marker>(alloc: Global, line: &Pairs, name: &str) -> Result<UrlText<M>, LineError>
+    ensures { Reads (λ url. url) result (pair_value url_of_text line.now name.now) }
 {
-    match line.only(name) {
-        Some(text) => url_of(alloc, text),
-        None => Ok(None),
-    }
+    url_of(alloc, only_text(line, name)?)
 }
 
 // A URL text, where the URL Standard takes it.
-fn url_of<M: Marker>(alloc: Global, text: &str) -> Result<Option<UrlText<M>>, AllocError>
-    ensures { IfOk result (λ url. url ≡ url_of_text text.now) }
+fn url_of<M: Marker>(alloc: Global, text: &str) -> Result<UrlText<M>, LineError>
+    ensures { Reads (λ url. url) result (url_of_text text.now) }
 {
     match UrlText::new(alloc, String::from_str(alloc, text)?) {
-        Ok(url) => Ok(Some(url)),
-        Err(UrlTextError::Refused(_)) => Ok(None),
-        Err(UrlTextError::Memory) => Err(AllocError),
+        Ok(url) => Ok(url),
+        Err(UrlTextError::Refused(_)) => Err(LineError::NoEvent),
+        Err(UrlTextError::Memory) => Err(LineError::Memory),
     }
 }
 
 /// The algorithms of the one pair with this name.
-pub fn algorithms_named(
+pub fn pair_algorithms(
     alloc: Global,
     line: &Pairs,
     name: &str,
-) -> Result<Option<Vec<CoreJwsSigningAlgorithm>>, AllocError>
-    ensures { IfOk result (λ found. option_map (λ v. v.items) found ≡ read_in algorithms_in line.now name.now) }
+) -> Result<Vec<CoreJwsSigningAlgorithm>, LineError>
+    ensures { Reads (λ found. found.items) result (pair_value algorithms_in line.now name.now) }
 {
-    match line.only(name) {
-        Some(text) => algorithms_of(alloc, text),
-        None => Ok(None),
-    }
+    algorithms_of(alloc, only_text(line, name)?)
 }
 
 // The algorithms of a text.
-fn algorithms_of(
-    alloc: Global,
-    text: &str,
-) -> Result<Option<Vec<CoreJwsSigningAlgorithm>>, AllocError>
-    ensures { IfOk result (λ found. option_map (λ v. v.items) found ≡ algorithms_in text.now) }
+fn algorithms_of(alloc: Global, text: &str) -> Result<Vec<CoreJwsSigningAlgorithm>, LineError>
+    ensures { Reads (λ found. found.items) result (algorithms_in text.now) }
 {
     let mut algorithms = Vec::new(alloc);
     if text.is_empty() {
-        return Ok(Some(algorithms));
+        return Ok(algorithms);
     }
     let mut rest = Some(text);
     while let Some(words) = rest {
         let (word, later) = cut(words);
         let Some(algorithm) = algorithm_of(word) else {
-            return Ok(None);
+            return Err(LineError::NoEvent);
         };
         algorithms.push(algorithm)?;
         rest = later;
     }
-    Ok(Some(algorithms))
+    Ok(algorithms)
 }
 
 // The first word of a text, and what stands behind its space, where there is one.
@@ -97,10 +100,10 @@ fn algorithm_of(text: &str) -> Option<CoreJwsSigningAlgorithm>
 }
 
 /// The moment of the one pair with this name.
-pub fn moment_named(line: &Pairs, name: &str) -> Option<Timestamp>
-    ensures { option_map (λ t. t.nanosecond) result ≡ read_in moment_in line.now name.now }
+pub fn pair_moment(line: &Pairs, name: &str) -> Result<Timestamp, LineError>
+    ensures { Reads (λ t. t.nanosecond) result (pair_value moment_in line.now name.now) }
 {
-    moment_of(line.only(name)?)
+    moment_of(only_text(line, name)?).ok_or(LineError::NoEvent)
 }
 
 fn moment_of(text: &str) -> Option<Timestamp>
@@ -126,16 +129,16 @@ fn begins_with_plus(text: &str) -> bool
     text.as_bytes().first() == Some(&b'+')
 }
 
-/// The status of the one pair with this name.
-pub fn status_named(line: &Pairs, name: &str) -> Option<StatusCode>
-    ensures { result ≡ read_in status_in line.now name.now }
+/// The status code of the one pair with this name.
+pub fn pair_status(line: &Pairs, name: &str) -> Result<StatusCode, LineError>
+    ensures { Reads (λ code. code) result (pair_value status_code_in line.now name.now) }
 {
-    status_of(line.only(name)?)
+    status_code_of(only_text(line, name)?).ok_or(LineError::NoEvent)
 }
 
-#[tactic(auto, unfolding(crate::specs::Values::status_of))]
-fn status_of(text: &str) -> Option<StatusCode>
-    ensures { result ≡ status_in text.now }
+#[tactic(auto, unfolding(crate::specs::Values::status_code_of))]
+fn status_code_of(text: &str) -> Option<StatusCode>
+    ensures { result ≡ status_code_in text.now }
 {
     if text.len() != 3 {
         return None;
@@ -150,29 +153,22 @@ fn status_of(text: &str) -> Option<StatusCode>
 }
 
 /// The content type of the one pair with this name.
-pub fn content_type_named(
-    alloc: Global,
-    line: &Pairs,
-    name: &str,
-) -> Result<Option<HeaderValue>, AllocError>
-    ensures { IfOk result (λ found. option_map (λ v. v.bytes) found ≡ read_in content_type_in line.now name.now) }
+pub fn pair_content_type(alloc: Global, line: &Pairs, name: &str) -> Result<HeaderValue, LineError>
+    ensures { Reads (λ v. v.bytes) result (pair_value content_type_in line.now name.now) }
 {
-    match line.only(name) {
-        Some(text) => content_type_of(alloc, text),
-        None => Ok(None),
-    }
+    content_type_of(alloc, only_text(line, name)?)
 }
 
 #[tactic(auto, unfolding(crate::specs::Values::content_type_of))]
-fn content_type_of(alloc: Global, text: &str) -> Result<Option<HeaderValue>, AllocError>
-    ensures { IfOk result (λ found. option_map (λ v. v.bytes) found ≡ content_type_in text.now) }
+fn content_type_of(alloc: Global, text: &str) -> Result<HeaderValue, LineError>
+    ensures { Reads (λ v. v.bytes) result (content_type_in text.now) }
 {
     if !is_content_type(text.as_bytes()) {
-        return Ok(None);
+        return Err(LineError::NoEvent);
     }
     match HeaderValue::from_str(alloc, text) {
-        Ok(value) => Ok(Some(value)),
-        Err(HeaderValueError::OutOfMemory) => Err(AllocError),
+        Ok(value) => Ok(value),
+        Err(HeaderValueError::OutOfMemory) => Err(LineError::Memory),
         Err(HeaderValueError::Invalid) => unreachable!(),
     }
 }

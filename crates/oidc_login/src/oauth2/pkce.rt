@@ -10,9 +10,9 @@ use sha2::{Digest, Sha256};
 use std::alloc::{AllocError, Global};
 use std::marker::Model;
 
-// The challenge of a verifier, by the method `S256`. Contracts see it as its text.
+/// The challenge of a verifier, by the method `S256`. Contracts see it as its text.
 #[derive(Debug, Drop)]
-pub(crate) struct PkceCodeChallenge {
+pub struct PkceCodeChallenge {
     text: String,
 }
 
@@ -25,9 +25,9 @@ impl Model for PkceCodeChallenge {
     ghost view = { λ c. string_bytes c.text };
 }
 
-// Why there is no challenge.
+/// Why there is no challenge.
 #[derive(Clone, Copy, Debug, PartialEq, Eq)]
-pub(crate) enum PkceError {
+pub enum PkceError {
     /// The verifier hasn't 43 to 128 bytes.
     Length,
     /// There was no memory.
@@ -49,7 +49,7 @@ impl PkceCodeChallenge {
     /// The S256 challenge of a verifier (RFC 7636 section 4.2). `Length` exactly where the verifier
     /// hasn't 43 to 128 bytes (section 4.1), else `Memory` where there is none.
     #[tactic(auto, unfolding(crate::specs::Pkce::s256))]
-    pub(crate) fn from_code_verifier_sha256(
+    pub fn from_code_verifier_sha256(
         alloc: Global,
         verifier: &PkceCodeVerifier,
     ) -> Result<Self, PkceError>
@@ -66,7 +66,7 @@ impl PkceCodeChallenge {
     }
 
     /// The text of the challenge.
-    pub(crate) fn as_str(&self) -> &str
+    pub fn as_str(&self) -> &str
         ensures { result.now ≡ self.now }
     {
         self.text.as_str()

@@ -1,7 +1,7 @@
 use Rattle.std.proofs.Common.{◌≡◌, drop}
 use Rattle.std.specs.Slice.Iter.{iter_rest}
 use Rattle.serde_json.specs.View.{items_view, members_view}
-use Rattle.oidc_claims.specs.SameData.{same_items, same_members}
+use Rattle.oidc_claims.specs.Same.{same_items, same_members}
 use Rattle.oidc_claims.proofs.same.+same.Given as goal
 
 abbrev pub invariant-is_same_array-loop-item : goal.invariant-is_same_array-loop-item

@@ -1,5 +1,5 @@
 use Rattle.std.proofs.Common.{◌≡◌, ◌++◌, take, drop}
-use Rattle.oidc_keys.specs.Hmac.{masked}
+use Rattle.oidc_keys.specs.Mac.{masked}
 use Rattle.oidc_keys.proofs.mac.masked_block.Given as goal
 
 abbrev pub invariant-loop-byte : goal.invariant-loop-byte

@@ -1,8 +1,8 @@
 use Rattle.std.proofs.Common.{rules}
-use Rattle.oidc_types.specs.KeyTypes.{key_type_text, key_types}
-use Rattle.oidc_types.specs.SigningAlgorithms.{signing_text, signing_algorithms}
-use Rattle.oidc_types.specs.EncryptionAlgorithms.{encryption_text, encryption_algorithms}
-use Rattle.oidc_types.specs.ManagementAlgorithms.{management_text, management_algorithms}
+use Rattle.oidc_types.specs.CoreAlgorithms.{key_type_text, key_types}
+use Rattle.oidc_types.specs.CoreAlgorithms.{signing_text, signing_algorithms}
+use Rattle.oidc_types.specs.CoreAlgorithms.{encryption_text, encryption_algorithms}
+use Rattle.oidc_types.specs.CoreAlgorithms.{management_text, management_algorithms}
 use Rattle.oidc_types.proofs.Unknown.{exact}
 use Rattle.oidc_types.proofs.laws.closed_words_are_exact.Goals as goal
 

@@ -1,5 +1,5 @@
 use Rattle.std.proofs.Common.{◌≡◌, ◌-◌, length, take}
-use Rattle.oidc_types.specs.Draws.{next_bytes}
+use Rattle.oidc_types.specs.Random.{next_bytes}
 use Rattle.oidc_types.proofs.Drawn.{behind}
 use Rattle.oidc_types.proofs.random.fill.Given as goal
 

@@ -1,4 +1,4 @@
-use Rattle.oidc_cli.proofs.Words.{ReadSoFar, turns_left}
+use Rattle.oidc_cli.proofs.Algorithms.{ReadSoFar, turns_left}
 use Rattle.oidc_cli.proofs.script.values.algorithms_of.Given as goal
 
 abbrev pub invariant-loop-rest : goal.invariant-loop-rest

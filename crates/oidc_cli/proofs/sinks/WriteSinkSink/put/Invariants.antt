@@ -4,8 +4,8 @@ use Rattle.oidc_cli.proofs.sinks.WriteSinkSink.put.Given as goal
 
 abbrev pub invariant-loop-rest : goal.invariant-loop-rest
 invariant-loop-rest g l = record {
-  written : IsWrittenSoFar (g.W.Write.contents l.fn.self.writer) (g.W.Write.contents l.self.writer) l.fn.piece l.rest;
-  uncounted : l.self.faults ≡ l.fn.self.faults;
+  written : IsWrittenSoFar (g.W.Write.contents l.fn.self.writer) (g.W.Write.contents l.self-inside.writer) l.fn.piece l.rest;
+  uncounted : l.self-inside.faults ≡ l.fn.self.faults;
 }
 
 abbrev pub decreases-loop-rest : goal.decreases-loop-rest

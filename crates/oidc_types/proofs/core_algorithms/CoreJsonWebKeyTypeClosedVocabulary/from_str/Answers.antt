@@ -1,5 +1,5 @@
 use Rattle.std.proofs.Common.{rules, sym}
-use Rattle.oidc_types.specs.KeyTypes.{key_type_text, key_types}
+use Rattle.oidc_types.specs.CoreAlgorithms.{key_type_text, key_types}
 use Rattle.oidc_types.proofs.Unknown.{none_found}
 use Rattle.oidc_types.proofs.core_algorithms.CoreJsonWebKeyTypeClosedVocabulary.from_str.Goals as goal
 

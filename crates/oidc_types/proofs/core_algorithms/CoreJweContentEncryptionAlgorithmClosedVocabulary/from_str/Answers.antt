@@ -1,5 +1,5 @@
 use Rattle.std.proofs.Common.{rules, sym}
-use Rattle.oidc_types.specs.EncryptionAlgorithms.{encryption_text, encryption_algorithms}
+use Rattle.oidc_types.specs.CoreAlgorithms.{encryption_text, encryption_algorithms}
 use Rattle.oidc_types.proofs.Unknown.{none_found}
 use Rattle.oidc_types.proofs.core_algorithms.CoreJweContentEncryptionAlgorithmClosedVocabulary.from_str.Goals as goal
 

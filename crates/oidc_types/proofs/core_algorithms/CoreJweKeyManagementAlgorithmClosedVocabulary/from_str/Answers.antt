@@ -1,5 +1,5 @@
 use Rattle.std.proofs.Common.{rules, sym}
-use Rattle.oidc_types.specs.ManagementAlgorithms.{management_text, management_algorithms}
+use Rattle.oidc_types.specs.CoreAlgorithms.{management_text, management_algorithms}
 use Rattle.oidc_types.proofs.Unknown.{none_found}
 use Rattle.oidc_types.proofs.core_algorithms.CoreJweKeyManagementAlgorithmClosedVocabulary.from_str.Goals as goal
 

@@ -1,5 +1,5 @@
 use Rattle.std.proofs.Common.{rules, sym}
-use Rattle.oidc_types.specs.SigningAlgorithms.{signing_text, signing_algorithms}
+use Rattle.oidc_types.specs.CoreAlgorithms.{signing_text, signing_algorithms}
 use Rattle.oidc_types.proofs.Unknown.{none_found}
 use Rattle.oidc_types.proofs.core_algorithms.CoreJwsSigningAlgorithmClosedVocabulary.from_str.Goals as goal
 

@@ -1,5 +1,5 @@
 use Rattle.std.proofs.Common.{rules, sym}
-use Rattle.oidc_types.specs.CoreWords.{auth_display_text, auth_displays}
+use Rattle.oidc_types.specs.CoreAuthorization.{auth_display_text, auth_displays}
 use Rattle.oidc_types.proofs.Unknown.{none_found}
 use Rattle.oidc_types.proofs.core_authorization.CoreAuthDisplay.known.Goals as goal
 

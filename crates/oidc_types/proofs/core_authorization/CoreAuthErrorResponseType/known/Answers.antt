@@ -1,5 +1,5 @@
 use Rattle.std.proofs.Common.{rules, sym}
-use Rattle.oidc_types.specs.CoreWords.{auth_error_text, auth_errors}
+use Rattle.oidc_types.specs.CoreAuthorization.{auth_error_text, auth_errors}
 use Rattle.oidc_types.proofs.Unknown.{none_found}
 use Rattle.oidc_types.proofs.core_authorization.CoreAuthErrorResponseType.known.Goals as goal
 

@@ -1,5 +1,5 @@
 use Rattle.std.proofs.Common.{rules, sym}
-use Rattle.oidc_types.specs.CoreWords.{auth_prompt_text, auth_prompts}
+use Rattle.oidc_types.specs.CoreAuthorization.{auth_prompt_text, auth_prompts}
 use Rattle.oidc_types.proofs.Unknown.{none_found}
 use Rattle.oidc_types.proofs.core_authorization.CoreAuthPrompt.known.Goals as goal
 

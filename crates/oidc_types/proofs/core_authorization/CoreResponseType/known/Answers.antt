@@ -1,5 +1,5 @@
 use Rattle.std.proofs.Common.{rules, sym}
-use Rattle.oidc_types.specs.CoreWords.{response_type_text, response_types}
+use Rattle.oidc_types.specs.CoreAuthorization.{response_type_text, response_types}
 use Rattle.oidc_types.proofs.Unknown.{none_found}
 use Rattle.oidc_types.proofs.core_authorization.CoreResponseType.known.Goals as goal
 

@@ -1,5 +1,5 @@
 use Rattle.std.proofs.Common.{rules, sym}
-use Rattle.oidc_types.specs.CoreWords.{application_type_text, application_types}
+use Rattle.oidc_types.specs.CoreRegistration.{application_type_text, application_types}
 use Rattle.oidc_types.proofs.Unknown.{none_found}
 use Rattle.oidc_types.proofs.core_registration.CoreApplicationType.known.Goals as goal
 

@@ -1,5 +1,5 @@
 use Rattle.std.proofs.Common.{rules, sym}
-use Rattle.oidc_types.specs.CoreWords.{claim_type_text, claim_types}
+use Rattle.oidc_types.specs.CoreRegistration.{claim_type_text, claim_types}
 use Rattle.oidc_types.proofs.Unknown.{none_found}
 use Rattle.oidc_types.proofs.core_registration.CoreClaimType.known.Goals as goal
 

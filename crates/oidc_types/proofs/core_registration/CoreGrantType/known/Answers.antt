@@ -1,5 +1,5 @@
 use Rattle.std.proofs.Common.{rules, sym}
-use Rattle.oidc_types.specs.CoreWords.{grant_type_text, grant_types}
+use Rattle.oidc_types.specs.CoreRegistration.{grant_type_text, grant_types}
 use Rattle.oidc_types.proofs.Unknown.{none_found}
 use Rattle.oidc_types.proofs.core_registration.CoreGrantType.known.Goals as goal
 

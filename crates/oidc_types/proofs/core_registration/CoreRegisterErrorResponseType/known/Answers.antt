@@ -1,5 +1,5 @@
 use Rattle.std.proofs.Common.{rules, sym}
-use Rattle.oidc_types.specs.CoreWords.{register_error_text, register_errors}
+use Rattle.oidc_types.specs.CoreRegistration.{register_error_text, register_errors}
 use Rattle.oidc_types.proofs.Unknown.{none_found}
 use Rattle.oidc_types.proofs.core_registration.CoreRegisterErrorResponseType.known.Goals as goal
 

@@ -1,5 +1,5 @@
 use Rattle.std.proofs.Common.{◌∙◌}
-use Rattle.oidc_types.specs.Variants.{entries_of}
+use Rattle.oidc_types.specs.Localized.{entries_of}
 use Rattle.oidc_types.proofs.Entries.{entries_are}
 use Rattle.oidc_types.proofs.localized.LocalizedClaim.iter.Goals as goal
 

@@ -1,5 +1,5 @@
 use Rattle.std.proofs.Common.{◌∙◌, ap}
-use Rattle.oidc_types.specs.Variants.{variants_of}
+use Rattle.oidc_types.specs.Localized.{variants_of}
 use Rattle.std.proofs.Common.{None}
 use Rattle.oidc_types.proofs.Entries.{is_empty}
 use Rattle.oidc_types.proofs.localized.LocalizedClaim.new.Goals as goal

@@ -1,7 +1,7 @@
 use Rattle.std.proofs.Common.{◌∙◌, sym, ap, refl}
 use Rattle.std.specs.FinMap as finite
 use Rattle.std.specs.Option.{option_copied}
-use Rattle.oidc_types.specs.Variants.{variants_of}
+use Rattle.oidc_types.specs.Localized.{variants_of}
 use Rattle.oidc_types.proofs.Entries.{gets_none, gets_some, takes_none, takes_some}
 use Rattle.oidc_types.proofs.localized.LocalizedClaim.remove.Goals as goal
 

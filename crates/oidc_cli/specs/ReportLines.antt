@@ -1,0 +1,119 @@
+-- The lines of a report.
+use Rattle.std.specs.Prelude.{ℕ, List, [], ◌∷◌, ◌++◌, Option, None, Some, Result, Ok, Err, if◌then◌else◌, bytes_eq, codes, decimal}
+use Rattle.std.specs.FinMap as finite
+use Rattle.url.specs.Parts.{Parts, serialize}
+use Rattle.http_header.specs.HeaderMap.{get}
+use Rattle.http_header.specs.FieldValue.{FieldValue}
+use Rattle.form_urlencoded.specs.Form.{ampersand, serialize_pair}
+use Rattle.oidc_pairs.specs.Form.{form}
+use Rattle.oidc_members.specs.Written.{object_text}
+use Rattle.oidc_keys.specs.declared.refusals.SignatureVerificationError.{SignatureVerificationError}
+use Rattle.oidc_keys.specs.declared.refusals.SignatureVerificationError.TheVariants as signature
+use Rattle.oidc_login.specs.declared.tokens.verification.ClaimsVerificationError.{ClaimsVerificationError}
+use Rattle.oidc_login.specs.declared.tokens.verification.ClaimsVerificationError.TheVariants.{InvalidIssuer, InvalidAudience, SignatureVerification, Expired, InvalidNonce}
+use Rattle.oidc_login.specs.declared.errors.BeginError.{BeginError}
+use Rattle.oidc_login.specs.declared.errors.BeginError.TheVariants as begin
+use Rattle.oidc_login.specs.declared.errors.LoginError.{LoginError}
+use Rattle.oidc_login.specs.declared.errors.LoginError.TheVariants as login
+use Rattle.oidc_login.specs.Transport.{SeenRequest}
+use Rattle.oidc_login.specs.Pending.{Pending}
+use Rattle.oidc_login.specs.SignedIns.{SeenSignedIn}
+use Rattle.oidc_login.specs.WrittenClaims.{written}
+use Rattle.oidc_login.specs.Outcome.{Run}
+
+-- each line ends in a line feed
+abbrev pub line_of : List ℕ → List ℕ
+line_of words = words ++ 10 ∷ []
+
+-- ---- begins
+
+-- No begin means want of memory, and so it has no line here.
+unfoldable pub begin_line : Result Parts BeginError → List ℕ
+begin_line (Ok url) = line_of (codes "begin ok " ++ serialize url)
+begin_line (Err begin.Verifier) = line_of (codes "begin refused verifier")
+begin_line (Err begin.Pending) = line_of (codes "begin refused pending")
+begin_line (Err begin.Memory) = []
+
+-- ---- requests
+
+-- the pair of a header, where the request has it
+abbrev pub header_pair : List ℕ → Option FieldValue → List (List ℕ × List ℕ)
+header_pair name None = []
+header_pair name (Some value) = (name, value.bytes) ∷ []
+
+-- the pair of the body, where the method is POST
+abbrev pub body_pair : SeenRequest → List (List ℕ × List ℕ)
+body_pair request = if bytes_eq request.method (codes "POST") then (codes "body", request.body) ∷ [] else []
+
+abbrev pub request_list : SeenRequest → List (List ℕ × List ℕ)
+request_list request =
+    (codes "method", request.method)
+    ∷ (codes "address", request.address)
+    ∷ header_pair (codes "accept") (get request.headers (codes "accept"))
+    ++ header_pair (codes "content_type") (get request.headers (codes "content-type"))
+    ++ header_pair (codes "authorization") (get request.headers (codes "authorization"))
+    ++ body_pair request
+
+unfoldable pub request_line : SeenRequest → List ℕ
+request_line request = line_of (codes "request " ++ form (request_list request))
+
+abbrev pub request_lines : List SeenRequest → List ℕ
+request_lines [] = []
+request_lines (request ∷ later) = request_line request ++ request_lines later
+
+-- ---- verdicts
+
+abbrev pub signed_list : SeenSignedIn → List (List ℕ × List ℕ)
+signed_list signed =
+    (codes "access_token", signed.access_token)
+    ∷ (codes "claims", object_text (written signed.id_token.claims))
+    ∷ []
+
+-- No key's verdict on a signature is want of memory: that is a law of keys. So `Memory` never stands in a
+-- verdict, and has no word here.
+abbrev pub signature_word : SignatureVerificationError → List ℕ
+signature_word signature.AmbiguousKeyId = codes "ambiguous_key"
+signature_word signature.CryptoError = codes "crypto_error"
+signature_word signature.DisallowedAlg = codes "disallowed_alg"
+signature_word signature.InvalidKey = codes "invalid_key"
+signature_word signature.NoMatchingKey = codes "no_matching_key"
+signature_word signature.NoSignature = codes "no_signature"
+signature_word signature.UnsupportedAlg = codes "unsupported_alg"
+signature_word signature.Memory = []
+
+abbrev pub claims_word : ClaimsVerificationError → List ℕ
+claims_word InvalidIssuer = codes "invalid_issuer"
+claims_word InvalidAudience = codes "invalid_audience"
+claims_word (SignatureVerification kind) = signature_word kind
+claims_word Expired = codes "expired"
+claims_word InvalidNonce = codes "invalid_nonce"
+
+-- No callback means want of memory, and so it has no line here.
+unfoldable pub verdict_line : Result SeenSignedIn LoginError → List ℕ
+verdict_line (Ok signed) = line_of (codes "callback ok " ++ form (signed_list signed))
+verdict_line (Err login.State) = line_of (codes "callback refused state")
+verdict_line (Err login.Callback) = line_of (codes "callback refused callback")
+verdict_line (Err login.Unbuilt) = line_of (codes "callback refused unbuilt")
+verdict_line (Err (login.Claims kind)) = line_of (codes "callback refused claims " ++ claims_word kind)
+verdict_line (Err (login.Memory spent)) = []
+
+-- the requests that a callback sends, in their order, and its verdict
+unfoldable pub callback_lines : Run → List ℕ
+callback_lines run = request_lines run.sent ++ verdict_line run.reply
+
+-- ---- the last line
+
+-- the number of pending logins
+abbrev pub pending_line : Pending → List ℕ
+pending_line pending = codes "pending " ++ decimal (finite.len pending) ++ 10 ∷ []
+
+-- the number of the line with the script's first fault
+abbrev pub fault_line : ℕ → List ℕ
+fault_line n = codes "script fault line " ++ decimal n ++ 10 ∷ []
+
+-- ---- a form text, pair by pair
+
+-- what these pairs add to a form text that has others before them
+abbrev pub behind : List (List ℕ × List ℕ) → List ℕ
+behind [] = []
+behind (pair ∷ list) = ampersand ∷ serialize_pair pair ++ behind list

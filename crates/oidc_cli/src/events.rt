@@ -1,0 +1,119 @@
+//! What the lines of a script say.
+use http::StatusCode;
+use http_header::HeaderValue;
+use jiff::Timestamp;
+use oidc_types::{
+    AuthUrl, ClientId, ClientSecret, CoreJwsSigningAlgorithm, CsrfToken, IssuerUrl, Nonce,
+    PkceCodeVerifier, TokenUrl,
+};
+use std::alloc::{AllocError, AllocFailed};
+use std::marker::Model;
+
+/// What a client line says.
+#[derive(Drop)]
+pub struct ClientLine {
+    pub id: ClientId,
+    pub secret: ClientSecret,
+    pub issuer: IssuerUrl,
+    pub auth: AuthUrl,
+    pub token: TokenUrl,
+    pub algorithms: Vec<CoreJwsSigningAlgorithm>,
+}
+
+impl Model for ClientLine {
+    ghost use Rattle.oidc_cli.specs.Events.{SeenClientLine};
+
+    ghost Value = { SeenClientLine };
+
+    ghost view = { λ c. record {
+      id = c.id;
+      secret = c.secret;
+      issuer = c.issuer;
+      auth = c.auth;
+      token = c.token;
+      algorithms = c.algorithms.items;
+    } };
+}
+
+/// What a begin line says.
+#[derive(Drop)]
+pub struct BeginLine {
+    pub state: CsrfToken,
+    pub nonce: Nonce,
+    pub verifier: PkceCodeVerifier,
+}
+
+impl Model for BeginLine {
+    ghost use Rattle.oidc_cli.specs.Events.{SeenBeginLine};
+
+    ghost Value = { SeenBeginLine };
+
+    ghost view = { λ b. record { state = b.state; nonce = b.nonce; verifier = b.verifier } };
+}
+
+/// What a callback line says: the moment, the query, and the answer to the token request.
+#[derive(Drop)]
+pub struct CallbackLine {
+    pub now: Timestamp,
+    pub query: String,
+    pub status: StatusCode,
+    pub content_type: HeaderValue,
+    pub body: String,
+}
+
+impl Model for CallbackLine {
+    ghost use Rattle.std.specs.String.{string_bytes};
+    ghost use Rattle.oidc_cli.specs.Events.{SeenCallbackLine};
+
+    ghost Value = { SeenCallbackLine };
+
+    ghost view = { λ c. record {
+      now = c.now.nanosecond;
+      query = string_bytes c.query;
+      status = c.status;
+      content_type = c.content_type.bytes;
+      body = string_bytes c.body;
+    } };
+}
+
+/// What a line of a script says.
+#[derive(Drop)]
+pub enum Event {
+    /// The client that the script is for.
+    Client(ClientLine),
+    /// A login begins.
+    Begin(BeginLine),
+    /// A user comes back, and the provider answers.
+    Callback(CallbackLine),
+}
+
+/// Why a line gives no event.
+#[derive(Clone, Copy, Debug, PartialEq, Eq)]
+pub enum LineError {
+    /// It is none.
+    NoEvent,
+    /// There was no memory.
+    Memory,
+}
+
+impl From<AllocError> for LineError {
+    ghost use Rattle.std.specs.Prelude.{◌≡◌};
+    ghost use Rattle.oidc_cli.specs.declared.events.LineError.TheVariants.{Memory};
+
+    ghost from_gives = { λ _ e. e ≡ Memory };
+
+    fn from(_refused: AllocError) -> LineError {
+        LineError::Memory
+    }
+}
+
+impl<T: Drop> From<AllocFailed<T>> for LineError {
+    ghost use Rattle.std.specs.Prelude.{◌≡◌};
+    ghost use Rattle.oidc_cli.specs.declared.events.LineError.TheVariants.{Memory};
+
+    ghost from_gives = { λ _ e. e ≡ Memory };
+
+    fn from(_refused: AllocFailed<T>) -> LineError {
+        LineError::Memory
+    }
+}

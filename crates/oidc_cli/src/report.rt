@@ -1,0 +1,428 @@
+//! A script's events, one after another, and their report.
+ghost use Rattle.std.specs.Prelude.{◌≡◌, ◌+◌, ◌≤◌, ◌<◌, ◌^◌, IfOk, OnOk, OnErr, IsErrOf, IfSome, IsSome, IsNone, Some, false};
+ghost use Rattle.std.specs.FinMap as finite;
+ghost use Rattle.std.specs.String.{string_bytes};
+ghost use Rattle.oidc_pairs.specs.Pairs.{pairs};
+ghost use Rattle.oidc_login.specs.Transport.{seen_response};
+ghost use Rattle.oidc_login.specs.Outcome.{begin_store, callback_store};
+ghost use Rattle.oidc_cli.specs.Calls.{HasRisen};
+ghost use Rattle.oidc_cli.specs.Sinks.{Puts, PutsPrefix};
+ghost use Rattle.oidc_cli.specs.Script.{lines, is_client, is_step, fault_from, fault_of};
+ghost use Rattle.oidc_cli.specs.ReportLines.{request_lines, callback_lines, fault_line as line_of_fault, pending_line as line_of_pending};
+ghost use Rattle.oidc_cli.specs.Report.{client_of as client_seen, reply_of_begin, run_of_callback, step_lines, store_after, rest_of_report, report, ending_of};
+
+use crate::events::{BeginLine, CallbackLine, ClientLine, Event};
+use crate::reading::LIMIT;
+use crate::report_lines::{begin_line, fault_line, pending_line, request_line, verdict_line};
+use crate::script::{first_line, read_line};
+use crate::{Failed, Sink};
+use http::response::Parts;
+use http::{Response, StatusCode, Version};
+use http_header::{CONTENT_TYPE, HeaderMap, HeaderMapError, HeaderValue};
+use oidc_login::client::Client;
+use oidc_login::client::authorization::AuthorizationRequest;
+use oidc_login::errors::{BeginError, LoginError};
+use oidc_login::logins::Logins;
+use oidc_login::oauth2::transport::{Answer, Body, HttpRequest, HttpResponse, Recorded};
+use oidc_login::signed_in::SignedIn;
+use std::alloc::{AllocError, Global};
+use url::Url;
+
+/// Why a report stops before its end.
+#[derive(Clone, Copy, Debug, PartialEq, Eq)]
+pub enum Halt {
+    /// The sink failed.
+    Sink,
+    /// There was no memory.
+    Memory,
+}
+
+impl From<Failed> for Halt {
+    ghost use Rattle.std.specs.Prelude.{◌≡◌};
+    ghost use Rattle.oidc_cli.specs.declared.report.Halt.TheVariants.{Sink};
+
+    ghost from_gives = { λ _ e. e ≡ Sink };
+
+    fn from(_failed: Failed) -> Halt {
+        Halt::Sink
+    }
+}
+
+impl From<AllocError> for Halt {
+    ghost use Rattle.std.specs.Prelude.{◌≡◌};
+    ghost use Rattle.oidc_cli.specs.declared.report.Halt.TheVariants.{Memory};
+
+    ghost from_gives = { λ _ e. e ≡ Memory };
+
+    fn from(_refused: AllocError) -> Halt {
+        Halt::Memory
+    }
+}
+
+/// How a report ends that was written to its end.
+#[derive(Clone, Copy, Debug, PartialEq, Eq)]
+pub enum Ending {
+    /// With the number of pending logins.
+    Pending,
+    /// With the line of the script's first fault.
+    Fault,
+}
+
+// The client line of an event, where it is one.
+fn client_line_of(event: Option<Event>) -> Option<ClientLine>
+    ensures found { IfSome result (λ line. event ≡ Some (Event.Client line)) }
+    ensures none { IsNone result → is_client event ≡ false }
+{
+    match event {
+        Some(Event::Client(line)) => Some(line),
+        Some(Event::Begin(_)) => None,
+        Some(Event::Callback(_)) => None,
+        None => None,
+    }
+}
+
+// The client of a client line.
+fn client_of(line: ClientLine) -> Client
+    ensures { result ≡ client_seen line }
+{
+    let ClientLine {
+        id,
+        secret,
+        issuer,
+        auth,
+        token,
+        algorithms,
+    } = line;
+    Client::new(id, secret, issuer, auth, algorithms).set_token_uri(token)
+}
+
+// ---- begins
+
+// What a begin line gets, unless there is no memory.
+fn begin(logins: &mut Logins<'_>, line: BeginLine) -> Result<Result<Url, BeginError>, AllocError>
+    ensures reply { IfOk result
+        (λ reply. reply ≡ reply_of_begin logins.old.client logins.old.pending line) }
+    ensures client { logins.new.client ≡ logins.old.client }
+    ensures store { OnOk result
+        (logins.new.pending
+        ≡ store_after logins.old.client logins.old.pending (Some (Event.Begin line))) }
+{
+    let BeginLine {
+        state,
+        nonce,
+        verifier,
+    } = line;
+    match logins.begin(AuthorizationRequest::new(state, nonce), verifier) {
+        Ok(url) => Ok(Ok(url)),
+        Err(BeginError::Memory) => Err(AllocError),
+        Err(refusal) => Ok(Err(refusal)),
+    }
+}
+
+// Runs a begin line and puts its line.
+#[tactic(auto, using(crate::proofs::Passing::prefix_none))]
+fn put_begin<O: Sink>(
+    alloc: Global,
+    logins: &mut Logins<'_>,
+    line: BeginLine,
+    sink: &mut O,
+) -> Result<(), Halt>
+    ensures whole { OnOk result
+        (Puts (O.written sink.old) (O.written sink.new)
+        (step_lines logins.old.client logins.old.pending (Some (Event.Begin line)))) }
+    ensures begun { OnErr result
+        (PutsPrefix (O.written sink.old) (O.written sink.new)
+        (step_lines logins.old.client logins.old.pending (Some (Event.Begin line)))) }
+    ensures client { logins.new.client ≡ logins.old.client }
+    ensures store { OnOk result
+        (logins.new.pending
+        ≡ store_after logins.old.client logins.old.pending (Some (Event.Begin line))) }
+    ensures blamed { IsErrOf result Halt.Sink → HasRisen (O.faults sink.old) (O.faults sink.new) }
+    ensures counts { O.faults sink.old ≤ O.faults sink.new }
+{
+    let reply = begin(logins, line)?;
+    let text = begin_line(alloc, &reply)?;
+    sink.put(text.as_str().as_bytes())?;
+    Ok(())
+}
+
+// ---- callbacks
+
+// The response of a callback line.
+fn response_of(
+    alloc: Global,
+    status: StatusCode,
+    content_type: HeaderValue,
+    body: String,
+) -> Result<HttpResponse, HeaderMapError>
+    ensures { IfOk result (λ response. seen_response response
+        ≡ record {
+          status = status;
+          content_type = Some content_type.bytes;
+          body = string_bytes body;
+        }) }
+{
+    let mut headers = HeaderMap::new(alloc);
+    headers.insert(CONTENT_TYPE, content_type)?;
+    let head = Parts {
+        status,
+        version: Version::HTTP_11,
+        headers,
+    };
+    Ok(Response::from_parts(head, Body::new(body.into_bytes())))
+}
+
+// What a callback got, and the transport that it used.
+#[derive(Drop)]
+struct Replied {
+    reply: Result<SignedIn, LoginError>,
+    http: Recorded,
+}
+
+// What a callback line gets, unless there is no memory.
+fn call_back(
+    alloc: Global,
+    logins: &mut Logins<'_>,
+    line: CallbackLine,
+) -> Result<Replied, AllocError>
+    ensures reply { IfOk result
+        (λ replied. replied.reply
+        ≡ (run_of_callback logins.old.client logins.old.pending line).reply) }
+    ensures sent { IfOk result
+        (λ replied. replied.http.requests
+        ≡ (run_of_callback logins.old.client logins.old.pending line).sent) }
+    ensures client { logins.new.client ≡ logins.old.client }
+    ensures store { OnOk result
+        (logins.new.pending ≡ callback_store logins.old.pending (pairs line.query)) }
+{
+    let CallbackLine {
+        now,
+        query,
+        status,
+        content_type,
+        body,
+    } = line;
+    let Ok(response) = response_of(alloc, status, content_type, body) else {
+        return Err(AllocError);
+    };
+    let mut answers = Vec::new(alloc);
+    answers.push(Answer::Response(response))?;
+    let mut http = Recorded::new(alloc, answers);
+    match logins.callback(query.as_bytes(), &mut http, now) {
+        Ok(signed) => Ok(Replied {
+            reply: Ok(signed),
+            http,
+        }),
+        Err(refusal) => match refusal {
+            LoginError::Memory { .. } => Err(AllocError),
+            _ => Ok(Replied {
+                reply: Err(refusal),
+                http,
+            }),
+        },
+    }
+}
+
+// Puts the lines of requests.
+#[tactic(auto, using(crate::proofs::Passing::begun))]
+fn put_requests<O: Sink>(alloc: Global, requests: &[HttpRequest], sink: &mut O) -> Result<(), Halt>
+    ensures whole { OnOk result
+        (Puts (O.written sink.old) (O.written sink.new) (request_lines requests.now)) }
+    ensures begun { OnErr result
+        (PutsPrefix (O.written sink.old) (O.written sink.new) (request_lines requests.now)) }
+    ensures blamed { IsErrOf result Halt.Sink → HasRisen (O.faults sink.old) (O.faults sink.new) }
+    ensures counts { O.faults sink.old ≤ O.faults sink.new }
+{
+    for request in requests {
+        let text = request_line(alloc, request)?;
+        sink.put(text.as_str().as_bytes())?;
+    }
+    Ok(())
+}
+
+// Puts the lines of a callback.
+fn put_replied<O: Sink>(alloc: Global, replied: &Replied, sink: &mut O) -> Result<(), Halt>
+    ensures whole { OnOk result
+        (Puts (O.written sink.old) (O.written sink.new)
+        (callback_lines
+        (record { reply = replied.now.reply; sent = replied.now.http.requests }))) }
+    ensures begun { OnErr result
+        (PutsPrefix (O.written sink.old) (O.written sink.new)
+        (callback_lines
+        (record { reply = replied.now.reply; sent = replied.now.http.requests }))) }
+    ensures blamed { IsErrOf result Halt.Sink → HasRisen (O.faults sink.old) (O.faults sink.new) }
+    ensures counts { O.faults sink.old ≤ O.faults sink.new }
+{
+    put_requests(alloc, replied.http.requests(), sink)?;
+    let text = verdict_line(alloc, &replied.reply)?;
+    sink.put(text.as_str().as_bytes())?;
+    Ok(())
+}
+
+// Runs a callback line and puts its lines.
+#[tactic(auto, using(crate::proofs::Passing::prefix_none))]
+fn put_callback<O: Sink>(
+    alloc: Global,
+    logins: &mut Logins<'_>,
+    line: CallbackLine,
+    sink: &mut O,
+) -> Result<(), Halt>
+    ensures whole { OnOk result
+        (Puts (O.written sink.old) (O.written sink.new)
+        (step_lines logins.old.client logins.old.pending (Some (Event.Callback line)))) }
+    ensures begun { OnErr result
+        (PutsPrefix (O.written sink.old) (O.written sink.new)
+        (step_lines logins.old.client logins.old.pending (Some (Event.Callback line)))) }
+    ensures client { logins.new.client ≡ logins.old.client }
+    ensures store { OnOk result
+        (logins.new.pending
+        ≡ store_after logins.old.client logins.old.pending (Some (Event.Callback line))) }
+    ensures blamed { IsErrOf result Halt.Sink → HasRisen (O.faults sink.old) (O.faults sink.new) }
+    ensures counts { O.faults sink.old ≤ O.faults sink.new }
+{
+    let replied = call_back(alloc, logins, line)?;
+    put_replied(alloc, &replied, sink)?;
+    Ok(())
+}
+
+// ---- the report
+
+// Runs a begin or a callback and puts its lines. The result is whether the event is one.
+#[tactic(auto, using(crate::proofs::Passing::puts_nothing))]
+fn put_step<O: Sink>(
+    alloc: Global,
+    logins: &mut Logins<'_>,
+    event: Option<Event>,
+    sink: &mut O,
+) -> Result<bool, Halt>
+    ensures placed { IfOk result (λ placed. placed ≡ is_step event) }
+    ensures whole { OnOk result
+        (Puts (O.written sink.old) (O.written sink.new)
+        (step_lines logins.old.client logins.old.pending event)) }
+    ensures begun { OnErr result
+        (PutsPrefix (O.written sink.old) (O.written sink.new)
+        (step_lines logins.old.client logins.old.pending event)) }
+    ensures client { logins.new.client ≡ logins.old.client }
+    ensures store { OnOk result
+        (logins.new.pending ≡ store_after logins.old.client logins.old.pending event) }
+    ensures blamed { IsErrOf result Halt.Sink → HasRisen (O.faults sink.old) (O.faults sink.new) }
+    ensures counts { O.faults sink.old ≤ O.faults sink.new }
+{
+    match event {
+        Some(Event::Begin(line)) => {
+            put_begin(alloc, logins, line, sink)?;
+            Ok(true)
+        }
+        Some(Event::Callback(line)) => {
+            put_callback(alloc, logins, line, sink)?;
+            Ok(true)
+        }
+        Some(Event::Client(_)) => Ok(false),
+        None => Ok(false),
+    }
+}
+
+// Puts a line.
+fn put_line<O: Sink>(line: &str, sink: &mut O) -> Result<(), Halt>
+    ensures whole { OnOk result (Puts (O.written sink.old) (O.written sink.new) line.now) }
+    ensures begun { OnErr result (PutsPrefix (O.written sink.old) (O.written sink.new) line.now) }
+    ensures blamed { IsErrOf result Halt.Sink → HasRisen (O.faults sink.old) (O.faults sink.new) }
+    ensures counts { O.faults sink.old ≤ O.faults sink.new }
+{
+    sink.put(line.as_bytes())?;
+    Ok(())
+}
+
+// Puts the line of the script's first fault.
+#[tactic(auto, using(crate::proofs::Passing::prefix_none))]
+fn put_fault<O: Sink>(alloc: Global, number: usize, sink: &mut O) -> Result<Ending, Halt>
+    ensures ending { IfOk result (λ ending. ending ≡ Ending.Fault) }
+    ensures whole { OnOk result
+        (Puts (O.written sink.old) (O.written sink.new) (line_of_fault number)) }
+    ensures begun { OnErr result
+        (PutsPrefix (O.written sink.old) (O.written sink.new) (line_of_fault number)) }
+    ensures blamed { IsErrOf result Halt.Sink → HasRisen (O.faults sink.old) (O.faults sink.new) }
+    ensures counts { O.faults sink.old ≤ O.faults sink.new }
+{
+    let line = fault_line(alloc, number)?;
+    put_line(line.as_str(), sink)?;
+    Ok(Ending::Fault)
+}
+
+// Puts the line of the pending logins.
+#[tactic(auto, using(crate::proofs::Passing::prefix_none))]
+fn put_pending<O: Sink>(alloc: Global, logins: &Logins<'_>, sink: &mut O) -> Result<Ending, Halt>
+    ensures ending { IfOk result (λ ending. ending ≡ Ending.Pending) }
+    ensures whole { OnOk result
+        (Puts (O.written sink.old) (O.written sink.new) (line_of_pending logins.now.pending)) }
+    ensures begun { OnErr result
+        (PutsPrefix (O.written sink.old) (O.written sink.new)
+        (line_of_pending logins.now.pending)) }
+    ensures blamed { IsErrOf result Halt.Sink → HasRisen (O.faults sink.old) (O.faults sink.new) }
+    ensures counts { O.faults sink.old ≤ O.faults sink.new }
+{
+    let line = pending_line(alloc, logins.pending())?;
+    put_line(line.as_str(), sink)?;
+    Ok(Ending::Pending)
+}
+
+// Puts the report of the lines behind the client line.
+fn put_steps<O: Sink>(
+    alloc: Global,
+    client: &Client,
+    script: &[u8],
+    sink: &mut O,
+) -> Result<Ending, Halt>
+    requires endpoint { IsSome client.now.token_endpoint }
+    ensures ending { IfOk result
+        (λ ending. ending ≡ ending_of (fault_from 2 (lines script.now))) }
+    ensures whole { OnOk result
+        (Puts (O.written sink.old) (O.written sink.new)
+        (let all = lines script.now in
+        rest_of_report client.now finite.empty 2 all (fault_from 2 all))) }
+    ensures begun { OnErr result
+        (PutsPrefix (O.written sink.old) (O.written sink.new)
+        (let all = lines script.now in
+        rest_of_report client.now finite.empty 2 all (fault_from 2 all))) }
+    ensures blamed { IsErrOf result Halt.Sink → HasRisen (O.faults sink.old) (O.faults sink.new) }
+    ensures counts { O.faults sink.old ≤ O.faults sink.new }
+{
+    let Ok(mut logins) = Logins::new(alloc, client) else {
+        unreachable!()
+    };
+    let mut number = 2usize;
+    let mut left = script;
+    while let Some((line, rest)) = first_line(left) {
+        let event = read_line(alloc, line)?;
+        if !put_step(alloc, &mut logins, event, sink)? {
+            return put_fault(alloc, number, sink);
+        }
+        number += 1;
+        left = rest;
+    }
+    put_pending(alloc, &logins, sink)
+}
+
+/// Runs a script and puts its report.
+pub fn put_report<O: Sink>(alloc: Global, script: &[u8], sink: &mut O) -> Result<Ending, Halt>
+    ensures ending { IfOk result (λ ending. ending ≡ ending_of (fault_of script.now)) }
+    ensures whole { OnOk result
+        (Puts (O.written sink.old) (O.written sink.new) (report script.now)) }
+    ensures begun { OnErr result
+        (PutsPrefix (O.written sink.old) (O.written sink.new) (report script.now)) }
+    ensures blamed { IsErrOf result Halt.Sink → HasRisen (O.faults sink.old) (O.faults sink.new) }
+    ensures counts { O.faults sink.old ≤ O.faults sink.new }
+{
+    if script.len() > LIMIT {
+        return put_fault(alloc, 0, sink);
+    }
+    let Some((line, rest)) = first_line(script) else {
+        return put_fault(alloc, 1, sink);
+    };
+    let Some(client) = client_line_of(read_line(alloc, line)?) else {
+        return put_fault(alloc, 1, sink);
+    };
+    let client = client_of(client);
+    put_line("client ok\n", sink)?;
+    put_steps(alloc, &client, rest, sink)
+}

@@ -1,0 +1,206 @@
+//! The lines of a report.
+ghost use Rattle.std.specs.Prelude.{◌≡◌, ℕ, List, [], ◌∷◌, ◌++◌, decimal, codes, IfOk, OnOk, Ok, Err};
+ghost use Rattle.std.specs.Option.{option_copied};
+ghost use Rattle.std.specs.String.{string_bytes};
+ghost use Rattle.form_urlencoded.specs.Form.{serialize_pair};
+ghost use Rattle.oidc_pairs.specs.Form.{escaped};
+ghost use Rattle.oidc_cli.specs.ReportLines.{behind, header_pair, body_pair, begin_line as line_of_begin, request_line as line_of_request, signature_word as word_of_signature, claims_word as word_of_claims, verdict_line as line_of_verdict, fault_line as line_of_fault};
+
+use form_urlencoded::byte_serialize;
+use http_header::HeaderValue;
+use oidc_keys::SignatureVerificationError;
+use oidc_login::errors::{BeginError, LoginError};
+use oidc_login::oauth2::transport::HttpRequest;
+use oidc_login::signed_in::SignedIn;
+use oidc_login::tokens::verification::ClaimsVerificationError;
+use oidc_members::write_object;
+use std::alloc::{AllocError, Global};
+use url::Url;
+
+// ---- form texts, pair by pair
+
+// Adds bytes as a form writes a name or a value.
+fn push_escaped(text: &mut String, bytes: &[u8]) -> Result<(), AllocError>
+    ensures { OnOk result (string_bytes text.new ≡ string_bytes text.old ++ escaped bytes.now) }
+{
+    for piece in byte_serialize(bytes) {
+        text.push_str(piece)?;
+    }
+    Ok(())
+}
+
+// Adds the first pair of a form text.
+fn push_first(text: &mut String, name: &str, value: &[u8]) -> Result<(), AllocError>
+    ensures { OnOk result (string_bytes text.new
+        ≡ string_bytes text.old ++ serialize_pair (name.now, value.now)) }
+{
+    push_escaped(text, name.as_bytes())?;
+    text.push_str("=")?;
+    push_escaped(text, value)?;
+    Ok(())
+}
+
+// Adds a further pair of a form text.
+fn push_behind(text: &mut String, name: &str, value: &[u8]) -> Result<(), AllocError>
+    ensures { OnOk result (string_bytes text.new
+        ≡ string_bytes text.old ++ behind ((name.now, value.now) ∷ [])) }
+{
+    text.push_str("&")?;
+    push_first(text, name, value)?;
+    Ok(())
+}
+
+// Adds the pair of a header, where it is there.
+fn push_header(
+    text: &mut String,
+    name: &str,
+    header: Option<&HeaderValue>,
+) -> Result<(), AllocError>
+    ensures { OnOk result (string_bytes text.new
+        ≡ string_bytes text.old ++ behind (header_pair name.now (option_copied header.entry))) }
+{
+    match header {
+        Some(value) => push_behind(text, name, value.as_bytes()),
+        None => Ok(()),
+    }
+}
+
+// Adds the pair of the body, where the method is POST.
+fn push_body(text: &mut String, request: &HttpRequest) -> Result<(), AllocError>
+    ensures { OnOk result (string_bytes text.new
+        ≡ string_bytes text.old ++ behind (body_pair request.now)) }
+{
+    if request.method().as_str() == "POST" {
+        push_behind(text, "body", request.body().as_slice())
+    } else {
+        Ok(())
+    }
+}
+
+// ---- lines
+
+/// The line of what a begin answered. For want of memory there is none.
+#[tactic(auto, unfolding(crate::specs::ReportLines::begin_line))]
+pub fn begin_line(alloc: Global, reply: &Result<Url, BeginError>) -> Result<String, AllocError>
+    ensures { IfOk result (λ text. string_bytes text ≡ line_of_begin reply.now) }
+{
+    match reply {
+        Ok(url) => begin_ok_line(alloc, url),
+        Err(BeginError::Verifier) => String::from_str(alloc, "begin refused verifier\n"),
+        Err(BeginError::Pending) => String::from_str(alloc, "begin refused pending\n"),
+        Err(BeginError::Memory) => Err(AllocError),
+    }
+}
+
+#[tactic(auto, unfolding(crate::specs::ReportLines::begin_line))]
+fn begin_ok_line(alloc: Global, url: &Url) -> Result<String, AllocError>
+    ensures { IfOk result (λ text. string_bytes text ≡ line_of_begin (Ok url.now)) }
+{
+    let mut text = String::from_str(alloc, "begin ok ")?;
+    text.push_str(url.as_str())?;
+    text.push_str("\n")?;
+    Ok(text)
+}
+
+/// The line of a request that was sent.
+pub fn request_line(alloc: Global, request: &HttpRequest) -> Result<String, AllocError>
+    ensures { IfOk result (λ text. string_bytes text ≡ line_of_request request.now) }
+{
+    let headers = request.headers();
+    let mut text = String::from_str(alloc, "request ")?;
+    push_first(&mut text, "method", request.method().as_str().as_bytes())?;
+    push_behind(&mut text, "address", request.address().as_bytes())?;
+    push_header(&mut text, "accept", headers.get("accept"))?;
+    push_header(&mut text, "content_type", headers.get("content-type"))?;
+    push_header(&mut text, "authorization", headers.get("authorization"))?;
+    push_body(&mut text, request)?;
+    text.push_str("\n")?;
+    Ok(text)
+}
+
+/// The line of a callback's verdict. For want of memory there is none.
+#[tactic(auto, unfolding(crate::specs::ReportLines::verdict_line))]
+pub fn verdict_line(
+    alloc: Global,
+    reply: &Result<SignedIn, LoginError>,
+) -> Result<String, AllocError>
+    ensures { IfOk result (λ text. string_bytes text ≡ line_of_verdict reply.now) }
+{
+    match reply {
+        Ok(signed) => signed_line(alloc, signed),
+        Err(LoginError::State) => String::from_str(alloc, "callback refused state\n"),
+        Err(LoginError::Callback) => String::from_str(alloc, "callback refused callback\n"),
+        Err(LoginError::Unbuilt) => String::from_str(alloc, "callback refused unbuilt\n"),
+        Err(LoginError::Claims(kind)) => claims_line(alloc, *kind),
+        Err(LoginError::Memory { .. }) => Err(AllocError),
+    }
+}
+
+fn signed_line(alloc: Global, signed: &SignedIn) -> Result<String, AllocError>
+    ensures { IfOk result (λ text. string_bytes text ≡ line_of_verdict (Ok signed.now)) }
+{
+    let members = signed.claims().write(alloc)?;
+    let claims = write_object(alloc, members.as_slice())?;
+    let mut text = String::from_str(alloc, "callback ok ")?;
+    push_first(
+        &mut text,
+        "access_token",
+        signed.access_token().secret().as_bytes(),
+    )?;
+    push_behind(&mut text, "claims", claims.as_slice())?;
+    text.push_str("\n")?;
+    Ok(text)
+}
+
+#[tactic(auto, unfolding(crate::specs::ReportLines::verdict_line))]
+fn claims_line(alloc: Global, kind: ClaimsVerificationError) -> Result<String, AllocError>
+    ensures { IfOk result
+        (λ text. string_bytes text ≡ line_of_verdict (Err (LoginError.Claims kind))) }
+{
+    let mut text = String::from_str(alloc, "callback refused claims ")?;
+    text.push_str(claims_word(kind))?;
+    text.push_str("\n")?;
+    Ok(text)
+}
+
+fn claims_word(kind: ClaimsVerificationError) -> &'static str
+    ensures { result.now ≡ word_of_claims kind }
+{
+    match kind {
+        ClaimsVerificationError::InvalidIssuer => "invalid_issuer",
+        ClaimsVerificationError::InvalidAudience => "invalid_audience",
+        ClaimsVerificationError::SignatureVerification(kind) => signature_word(kind),
+        ClaimsVerificationError::Expired => "expired",
+        ClaimsVerificationError::InvalidNonce => "invalid_nonce",
+    }
+}
+
+fn signature_word(kind: SignatureVerificationError) -> &'static str
+    ensures { result.now ≡ word_of_signature kind }
+{
+    match kind {
+        SignatureVerificationError::AmbiguousKeyId => "ambiguous_key",
+        SignatureVerificationError::CryptoError => "crypto_error",
+        SignatureVerificationError::DisallowedAlg => "disallowed_alg",
+        SignatureVerificationError::InvalidKey => "invalid_key",
+        SignatureVerificationError::NoMatchingKey => "no_matching_key",
+        SignatureVerificationError::NoSignature => "no_signature",
+        SignatureVerificationError::UnsupportedAlg => "unsupported_alg",
+        SignatureVerificationError::Memory => "",
+    }
+}
+
+/// The line that ends a report whose script has its first fault at this line.
+pub fn fault_line(alloc: Global, number: usize) -> Result<String, AllocError>
+    ensures { IfOk result (λ text. string_bytes text ≡ line_of_fault number) }
+{
+    format!(in alloc; "script fault line {number}\n")
+}
+
+/// The line that ends a report whose script has no fault.
+pub fn pending_line(alloc: Global, count: usize) -> Result<String, AllocError>
+    ensures { IfOk result
+        (λ text. string_bytes text ≡ codes "pending " ++ decimal count ++ 10 ∷ []) }
+{
+    format!(in alloc; "pending {count}\n")
+}

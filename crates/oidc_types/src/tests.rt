@@ -1,2 +1,0 @@
-mod newtypes;
-mod vocabularies;

@@ -1,0 +1,99 @@
+//! The standard claims, and the claims beside them.
+ghost use Rattle.std.specs.Prelude.{◌≡◌, IfOk, IsTrue};
+ghost use Rattle.oidc_claims.specs.Additional.{are_additional};
+ghost use Rattle.oidc_claims.specs.Home.{is_additional};
+
+use crate::answers::{object, ok_form, refused_as};
+use crate::case::{Case, CaseError};
+use oidc_claims::{
+    AdditionalClaims, AllOtherClaims, Home, PlacedError, USER_INFO_FIELDS, belongs, read_standard,
+    write_standard,
+};
+use oidc_members::{Member, Members, OutMember, ParseError, Refusal};
+use oidc_pairs::FormText;
+use oidc_types::CoreGenderClaim;
+use std::alloc::{AllocError, Global};
+
+/// `standard`: the claims of an object by the fields of user info, written again, and the additional
+/// ones that `AllOtherClaims` keeps.
+pub(crate) fn standard(alloc: Global, case: &Case) -> Result<String, CaseError> {
+    case.check(&["text"])?;
+    match Members::split(alloc, case.value("text").as_bytes()) {
+        Ok(members) => read_and_written(alloc, &members),
+        Err(ParseError::Refused(refusal)) => refused_at(alloc, "", &refusal),
+        Err(ParseError::Memory) => Err(CaseError::Memory),
+    }
+}
+
+// The claims of these members, written again.
+fn read_and_written(alloc: Global, members: &Members) -> Result<String, CaseError> {
+    match standard_members(alloc, members) {
+        Ok(claims) => with_additional(alloc, members, &claims),
+        Err(PlacedError::Refused { place, refusal }) => {
+            let place = format!(in alloc; "{place}")?;
+            refused_at(alloc, place.as_str(), &refusal)
+        }
+        Err(PlacedError::Memory) => Err(CaseError::Memory),
+    }
+}
+
+fn refused_at(alloc: Global, place: &str, refusal: &Refusal) -> Result<String, CaseError> {
+    let mut form = FormText::new(alloc);
+    form.push("place", place)?;
+    refused_as(alloc, form, refusal)
+}
+
+// The standard claims, read and written.
+fn standard_members(alloc: Global, members: &Members) -> Result<Vec<OutMember>, PlacedError> {
+    let claims = read_standard::<CoreGenderClaim>(alloc, members)?;
+    write_standard(alloc, &claims).map_err(|_| PlacedError::Memory)
+}
+
+fn with_additional(
+    alloc: Global,
+    members: &Members,
+    claims: &[OutMember],
+) -> Result<String, CaseError> {
+    let claims = object(alloc, claims)?;
+    let additional = additional(alloc, members)?;
+    let mut form = FormText::new(alloc);
+    form.push("claims", claims.as_str())?;
+    form.push("additional", additional.as_str())?;
+    ok_form(alloc, form)
+}
+
+// The additional members, read and written.
+fn additional(alloc: Global, members: &Members) -> Result<String, CaseError> {
+    let members = additional_members(alloc, members.as_slice())?;
+    match AllOtherClaims::read(alloc, members.as_slice()) {
+        Ok(kept) => written(alloc, &kept),
+        Err(_) => Err(CaseError::Memory),
+    }
+}
+
+fn written(alloc: Global, claims: &AllOtherClaims) -> Result<String, CaseError> {
+    let members = claims.write(alloc)?;
+    object(alloc, members.as_slice())
+}
+
+fn is_additional_name(name: &str) -> bool
+    ensures { result ≡ is_additional name.now }
+{
+    matches!(belongs(name, &USER_INFO_FIELDS), Home::Additional)
+}
+
+/// The additional ones of these members.
+pub(crate) fn additional_members(
+    alloc: Global,
+    members: &[Member],
+) -> Result<Vec<Member>, AllocError>
+    ensures { IfOk result (λ members. IsTrue (are_additional members.items)) }
+{
+    let mut additional = Vec::new(alloc);
+    for member in members {
+        if is_additional_name(member.name()) {
+            additional.push(member.clone_in(alloc)?)?;
+        }
+    }
+    Ok(additional)
+}

@@ -1,0 +1,135 @@
+//! What errors print.
+
+use crate::answers::ok_pair;
+use crate::case::{Case, CaseError};
+use crate::vocabularies::variant_name;
+use oidc_claims::PlacedError;
+use oidc_keys::{HashError, SignatureVerificationError};
+use oidc_login::{BeginError, ClaimsVerificationError, LoginError, NewLoginsError};
+use oidc_members::{FieldName, ParseError, ParseKind, Refusal};
+use oidc_types::{SigningError, UrlTextError};
+use std::alloc::Global;
+use std::fmt::{Debug, Display};
+
+const KINDS: [ParseKind; 11] = [
+    ParseKind::Syntax,
+    ParseKind::Number,
+    ParseKind::Duplicate,
+    ParseKind::UnexpectedTag,
+    ParseKind::WrongType,
+    ParseKind::Missing,
+    ParseKind::Url,
+    ParseKind::Moment,
+    ParseKind::Token,
+    ParseKind::Algorithm,
+    ParseKind::Additional,
+];
+
+const SIGNATURES: [SignatureVerificationError; 8] = [
+    SignatureVerificationError::AmbiguousKeyId,
+    SignatureVerificationError::CryptoError,
+    SignatureVerificationError::DisallowedAlg,
+    SignatureVerificationError::InvalidKey,
+    SignatureVerificationError::NoMatchingKey,
+    SignatureVerificationError::NoSignature,
+    SignatureVerificationError::UnsupportedAlg,
+    SignatureVerificationError::Memory,
+];
+
+const HASHES: [HashError; 2] = [HashError::Unsupported, HashError::Memory];
+
+const CLAIMS: [ClaimsVerificationError; 5] = [
+    ClaimsVerificationError::InvalidIssuer,
+    ClaimsVerificationError::InvalidAudience,
+    ClaimsVerificationError::SignatureVerification(SignatureVerificationError::CryptoError),
+    ClaimsVerificationError::Expired,
+    ClaimsVerificationError::InvalidNonce,
+];
+
+const STORES: [NewLoginsError; 1] = [NewLoginsError::TokenEndpoint];
+
+const BEGINS: [BeginError; 3] = [
+    BeginError::Verifier,
+    BeginError::Pending,
+    BeginError::Memory,
+];
+
+const LOGINS: [LoginError; 5] = [
+    LoginError::State,
+    LoginError::Callback,
+    LoginError::Unbuilt,
+    LoginError::Claims(ClaimsVerificationError::Expired),
+    LoginError::Memory { spent: false },
+];
+
+const URLS: [UrlTextError; 2] = [
+    UrlTextError::Refused(url::ParseError::RelativeUrlWithoutBase),
+    UrlTextError::Memory,
+];
+
+/// `display`: what the value of a variant prints. A variant that holds something holds what stands in
+/// the lists above.
+pub(crate) fn display(alloc: Global, case: &Case) -> Result<String, CaseError> {
+    case.check(&["type", "variant"])?;
+    let variant = case.value("variant");
+    match case.value("type") {
+        "BeginError" => one_of(alloc, &BEGINS, variant),
+        "ClaimsVerificationError" => one_of(alloc, &CLAIMS, variant),
+        "HashError" => one_of(alloc, &HASHES, variant),
+        "LoginError" => one_of(alloc, &LOGINS, variant),
+        "NewLoginsError" => one_of(alloc, &STORES, variant),
+        "ParseError" => parse_error(alloc, variant),
+        "ParseKind" => one_of(alloc, &KINDS, variant),
+        "PlacedError" => placed_error(alloc, variant),
+        "SignatureVerificationError" => one_of(alloc, &SIGNATURES, variant),
+        "SigningError" => signing_error(alloc, variant),
+        "UrlTextError" => one_of(alloc, &URLS, variant),
+        _ => Err(CaseError::NoCase),
+    }
+}
+
+fn parse_error(alloc: Global, variant: &str) -> Result<String, CaseError> {
+    let refusal = Refusal::of_text(alloc, ParseKind::Syntax);
+    one_of(
+        alloc,
+        &[ParseError::Refused(refusal), ParseError::Memory],
+        variant,
+    )
+}
+
+fn placed_error(alloc: Global, variant: &str) -> Result<String, CaseError> {
+    let refusal = Refusal::of_field(alloc, ParseKind::Duplicate, "x")?;
+    let all = [
+        PlacedError::Refused { place: 1, refusal },
+        PlacedError::Memory,
+    ];
+    one_of(alloc, &all, variant)
+}
+
+fn signing_error(alloc: Global, variant: &str) -> Result<String, CaseError> {
+    let none = FieldName::new(String::from_str(alloc, "ES256")?);
+    let other = FieldName::new(String::from_str(alloc, "ES256")?);
+    let all = [
+        SigningError::CryptoError,
+        SigningError::UnsupportedAlg(none),
+        SigningError::Other(other),
+        SigningError::Memory,
+    ];
+    one_of(alloc, &all, variant)
+}
+
+// What the one of these prints that has this variant.
+fn one_of<E: Debug + Display>(
+    alloc: Global,
+    all: &[E],
+    variant: &str,
+) -> Result<String, CaseError> {
+    for error in all {
+        let shown = format!(in alloc; "{error:?}")?;
+        if variant_name(shown.as_str()) == variant {
+            let text = format!(in alloc; "{error}")?;
+            return ok_pair(alloc, "text", text.as_str());
+        }
+    }
+    Err(CaseError::NoCase)
+}

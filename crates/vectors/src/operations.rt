@@ -1,0 +1,72 @@
+//! The operations.
+
+ghost use Rattle.std.specs.Prelude.{◌≡◌};
+ghost use Rattle.vectors.specs.Operations.{operation_of};
+
+use crate::case::{Case, CaseError};
+use crate::{claims, displays, keys, members, pkce, scripts, types, vocabularies};
+use std::alloc::Global;
+
+/// What a case asks for.
+#[derive(Clone, Copy, Debug, PartialEq, Eq)]
+pub(crate) enum Operation {
+    Pairs,
+    Members,
+    Standard,
+    Url,
+    Join,
+    Word,
+    Localized,
+    Random,
+    Hmac,
+    Verdict,
+    Digest,
+    Challenge,
+    Display,
+    Run,
+}
+
+/// The operation of that name.
+pub(crate) fn operation_named(name: &str) -> Option<Operation>
+    ensures { result ≡ operation_of name.now }
+{
+    match name {
+        "pairs" => Some(Operation::Pairs),
+        "members" => Some(Operation::Members),
+        "standard" => Some(Operation::Standard),
+        "url" => Some(Operation::Url),
+        "join" => Some(Operation::Join),
+        "word" => Some(Operation::Word),
+        "localized" => Some(Operation::Localized),
+        "random" => Some(Operation::Random),
+        "hmac" => Some(Operation::Hmac),
+        "verdict" => Some(Operation::Verdict),
+        "digest" => Some(Operation::Digest),
+        "challenge" => Some(Operation::Challenge),
+        "display" => Some(Operation::Display),
+        "run" => Some(Operation::Run),
+        _ => None,
+    }
+}
+
+impl Operation {
+    /// The answer of a case.
+    pub(crate) fn answer(self, alloc: Global, case: &Case) -> Result<String, CaseError> {
+        match self {
+            Operation::Pairs => members::pairs(alloc, case),
+            Operation::Members => members::members(alloc, case),
+            Operation::Standard => claims::standard(alloc, case),
+            Operation::Url => types::url(alloc, case),
+            Operation::Join => types::join(alloc, case),
+            Operation::Word => vocabularies::word(alloc, case),
+            Operation::Localized => types::localized(alloc, case),
+            Operation::Random => types::random(alloc, case),
+            Operation::Hmac => keys::hmac(alloc, case),
+            Operation::Verdict => keys::verdict(alloc, case),
+            Operation::Digest => keys::digest(alloc, case),
+            Operation::Challenge => pkce::challenge(alloc, case),
+            Operation::Display => displays::display(alloc, case),
+            Operation::Run => scripts::run(alloc, case),
+        }
+    }
+}

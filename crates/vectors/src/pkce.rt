@@ -1,0 +1,26 @@
+//! Proof Key for Code Exchange.
+
+use crate::answers::{ok_form, refused_word};
+use crate::case::{Case, CaseError};
+use oidc_login::oauth2::pkce::{PkceCodeChallenge, PkceError};
+use oidc_pairs::FormText;
+use oidc_types::PkceCodeVerifier;
+use std::alloc::Global;
+
+/// `challenge`: the challenge of a verifier.
+pub(crate) fn challenge(alloc: Global, case: &Case) -> Result<String, CaseError> {
+    case.check(&["verifier"])?;
+    let verifier = PkceCodeVerifier::new(String::from_str(alloc, case.value("verifier"))?);
+    match PkceCodeChallenge::from_code_verifier_sha256(alloc, &verifier) {
+        Ok(challenge) => challenge_line(alloc, &challenge),
+        Err(PkceError::Length) => refused_word(alloc, "length"),
+        Err(PkceError::Memory) => Err(CaseError::Memory),
+    }
+}
+
+fn challenge_line(alloc: Global, challenge: &PkceCodeChallenge) -> Result<String, CaseError> {
+    let mut form = FormText::new(alloc);
+    form.push("challenge", challenge.as_str())?;
+    form.push("method", "S256")?;
+    ok_form(alloc, form)
+}

@@ -1,0 +1,1 @@
+//! Tests of oidc_login that no line of text can say.

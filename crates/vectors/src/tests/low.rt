@@ -1,0 +1,178 @@
+//! Tests of oidc_pairs, oidc_members and oidc_keys that no line of text can say: bytes that are no
+//! text, hundreds of thousands of members, calls that no operation makes, a key of the test's own.
+
+mod keys;
+
+use oidc_members::{FieldName, Members, OutMember, ParseError, ParseKind, Refusal, write_object};
+use oidc_pairs::{Pairs, escaped_text};
+use serde_json::Value;
+use std::alloc::Global;
+use std::test::Fail;
+
+// Of the pairs of a text: each name as a form writes it, with its first value, then every value.
+fn looked_up(alloc: Global, text: &[u8], names: &[&str]) -> Result<String, Fail> {
+    let mut list = String::new(alloc);
+    let read = Pairs::parse(alloc, text)?;
+    if read.is_empty() || read.len() < names.len() {
+        return Err(Fail::from("as many pairs as names"));
+    }
+    for name in names {
+        list.push_str(escaped_text(alloc, name)?.as_str())?;
+        list.push('=')?;
+        list.push_str(read.first(name).unwrap_or("nothing"))?;
+        list.push('|')?;
+    }
+    for pair in read.into_vec() {
+        list.push_str(pair.into_value().as_str())?;
+        list.push(';')?;
+    }
+    Ok(list)
+}
+
+// Each maximal part that isn't UTF-8 is one U+FFFD (Encoding Standard).
+#[test]
+fn pairs_of_any_bytes_are_looked_up(rt: HostRuntime) -> Result<(), Fail> {
+    let text = b"a=\xe2\x82&b+c=1&a=2&%ff=%41";
+    let list = looked_up(rt.alloc(), text, &["a", "b c", "b", "\u{fffd}"])?;
+    let want = "a=\u{fffd}|b+c=1|b=nothing|%EF%BF%BD=A|\u{fffd};1;2;A;";
+    assert_eq!(rt; list.as_str(), want);
+    Ok(())
+}
+
+// A text: a part, another so many times, and a last one.
+type Parts = (&'static [u8], &'static [u8], usize, &'static [u8]);
+
+// How many members the text has, or what it is refused as.
+fn count_of(alloc: Global, parts: &Parts) -> Result<Result<usize, ParseKind>, Fail> {
+    let (first, repeated, times, last) = *parts;
+    let mut text = first.to_vec(alloc)?;
+    for _ in 0..times {
+        text.extend_from_slice(repeated)?;
+    }
+    text.extend_from_slice(last)?;
+    match Members::split(alloc, &text) {
+        Ok(members) => Ok(Ok(members.len())),
+        Err(ParseError::Refused(refusal)) => Ok(Err(refusal.kind)),
+        Err(ParseError::Memory) => Err(Fail::from("memory")),
+    }
+}
+
+// Bytes that are no text, and texts of megabytes, each of which is read in one pass.
+static TEXTS: [(Parts, Result<usize, ParseKind>); 7] = [
+    ((b"{\"\xff\":1}", b"", 0, b""), Err(ParseKind::Syntax)),
+    ((b"{\"a\":\xff}", b"", 0, b""), Err(ParseKind::Syntax)),
+    ((b"{\"a\"\xff1}", b"", 0, b""), Err(ParseKind::Syntax)),
+    (
+        (b"{", b"\"name\":[\"\\\\\",{}],", 100_000, b"\"last\":1}"),
+        Ok(100_001),
+    ),
+    (
+        (
+            b"{\"a\":[[[[[[[[[[",
+            b"{\"a\":[\"\\\"]\",7]} ,",
+            100_000,
+            b"0]]]]]]]]]]}",
+        ),
+        Ok(1),
+    ),
+    ((b"", b"{\"\\\\\\\"", 200_000, b""), Err(ParseKind::Syntax)),
+    ((b"{\"a\":1", b" ", 200_000, b"}"), Ok(1)),
+];
+
+#[test]
+fn large_texts_take_linear_time(rt: HostRuntime) -> Result<(), Fail> {
+    for (parts, want) in &TEXTS {
+        assert_eq!(rt; count_of(rt.alloc(), parts)?, *want);
+    }
+    Ok(())
+}
+
+// A copy of each member of a text: its name, its value's bytes and its value written again.
+fn copies(alloc: Global, text: &[u8]) -> Result<String, Fail> {
+    let mut list = String::new(alloc);
+    let members = match Members::split(alloc, text) {
+        Ok(members) => members,
+        Err(_) => return Err(Fail::from("an object")),
+    };
+    for place in 0..members.len() + 1 {
+        match members.get(place) {
+            Some(member) => {
+                let copy = member.clone_in(alloc)?;
+                list.push_str(copy.name())?;
+                list.push('|')?;
+                list.push_str(str::from_utf8(copy.text()).unwrap_or("no text"))?;
+                list.push('|')?;
+                list.push_str(copy.value().to_string(alloc)?.as_str())?;
+                list.push(';')?;
+            }
+            None => list.push('.')?,
+        }
+    }
+    Ok(list)
+}
+
+// Python's `json.loads` reads these values, and its `json.dumps` writes them so.
+#[test]
+fn a_copy_equals_its_source(rt: HostRuntime) -> Result<(), Fail> {
+    let list = copies(
+        rt.alloc(),
+        b"{\"a\\n\" : {\"b\" : [null, -1]} ,\"c\": true}",
+    )?;
+    let want = "a\n|{\"b\" : [null, -1]}|{\"b\":[null,-1]};c|true|true;.";
+    assert_eq!(rt; list.as_str(), want);
+    Ok(())
+}
+
+// The text of members with these names, and with the values that these texts read as.
+fn written(alloc: Global, members: &[(&str, &str)]) -> Result<Vec<u8>, Fail> {
+    let mut list = Vec::new(alloc);
+    for (name, value) in members {
+        let name = FieldName::new(String::from_str(alloc, name)?);
+        match Value::from_str(alloc, value) {
+            Ok(value) => list.push(OutMember { name, value })?,
+            Err(_) => return Err(Fail::from("a value")),
+        }
+    }
+    Ok(write_object(alloc, &list)?)
+}
+
+// No members, a name that stands twice, and floats, of whose digits no clause speaks: as Python's
+// `json.dumps` with `separators=(',', ':')` writes them.
+#[test]
+fn members_are_written_in_order(rt: HostRuntime) -> Result<(), Fail> {
+    for (members, want) in [
+        ([].as_slice(), "{}"),
+        (&[("a", "2"), ("a", " 1 ")], "{\"a\":2,\"a\":1}"),
+        (
+            &[("a", "1.5"), ("b", "[-0.25]")],
+            "{\"a\":1.5,\"b\":[-0.25]}",
+        ),
+    ] {
+        assert_eq!(rt; written(rt.alloc(), members)?.as_slice(), want.as_bytes());
+    }
+    Ok(())
+}
+
+// What a refusal prints, and whether it equals itself and not one of another kind or field.
+fn printed(alloc: Global, kind: ParseKind, field: &str) -> Result<String, Fail> {
+    let refusal = Refusal::of_field(alloc, kind, field)?;
+    let is_itself = refusal == Refusal::of_field(alloc, kind, field)?;
+    let is_another = refusal == Refusal::of_field(alloc, kind, "another")?
+        || refusal == Refusal::of_field(alloc, ParseKind::Duplicate, field)?;
+    if !is_itself || is_another || refusal.field.as_str() != field {
+        return Err(Fail::from("an equality that isn't the fields'"));
+    }
+    let error = ParseError::from(refusal);
+    Ok(format!(in alloc; "{error}")?)
+}
+
+#[test]
+fn refusals_name_their_field(rt: HostRuntime) -> Result<(), Fail> {
+    for (kind, field, want) in [
+        (ParseKind::Missing, "sub", "a missing member: `sub`"),
+        (ParseKind::Syntax, "", "no JSON object"),
+    ] {
+        assert_eq!(rt; printed(rt.alloc(), kind, field)?.as_str(), want);
+    }
+    Ok(())
+}
