@@ -3,3 +3,5 @@ mod Credentials
 mod Essences
 mod Exchanged
 mod FaultCounts
+mod NoFaults
+mod PairLists

@@ -1,7 +1,7 @@
 -- Device authorization responses (RFC 8628 section 3.2).
 use Rattle.std.specs.Prelude.{ℕ, List, [], ◌∷◌, Option, unwrap_or, Result, Ok, codes, refl}
 use Rattle.std.specs.Coded.{Coded, code_by, coded×, coded_option, coded_list, coded_ℕ}
-use Rattle.oidc_types.specs.{TextAndUrl, text_and_url_code}
+use Rattle.oidc_types.specs.UrlText.{TextAndUrl, text_and_url_code}
 use Rattle.oidc_members.specs.Seen.{SeenMember}
 use Rattle.oidc_members.specs.declared.refusal.Refusal.{Refusal}
 use Rattle.oidc_readers.specs.Kinds.{text_kind, whole_kind, url_kind, or_null}

@@ -2,7 +2,7 @@
 -- tokens, each with its text.
 use Rattle.std.specs.Prelude.{ℕ, List, [], ◌∷◌, codes}
 use Rattle.std.specs.Str.{str_to_ascii_lowercase}
-use Rattle.oidc_types.specs.{word_or}
+use Rattle.oidc_types.specs.Vocabulary.{word_or}
 use Rattle.oidc_oauth2.specs.declared.error_types.CoreErrorResponseType.{CoreErrorResponseType}
 use Rattle.oidc_oauth2.specs.declared.error_types.CoreErrorResponseType.TheVariants as error
 use Rattle.oidc_oauth2.specs.declared.error_types.DeviceCodeErrorResponseType.{DeviceCodeErrorResponseType}

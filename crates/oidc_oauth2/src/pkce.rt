@@ -2,7 +2,7 @@
 
 ghost use Rattle.std.specs.Prelude.{◌≡◌, ◌↔◌, false, IfOk, IsErrOf, OnOk, OnErr, codes};
 ghost use Rattle.std.specs.String.{string_bytes};
-ghost use Rattle.oidc_types.specs.Draws.{next_bytes, random_text, IsBeforeOrAfter};
+ghost use Rattle.oidc_types.specs.Random.{next_bytes, random_text, IsBeforeOrAfter};
 ghost use Rattle.oidc_oauth2.specs.Pkce.{is_verifier, is_random_length, s256};
 
 use base64::engine::general_purpose::URL_SAFE_NO_PAD;

@@ -3,7 +3,7 @@
 ghost use Rattle.std.specs.Prelude.{◌≡◌, List, ℕ, IfOk};
 ghost use Rattle.std.specs.String.{string_bytes};
 ghost use Rattle.std.specs.Str.{str_to_ascii_lowercase};
-ghost use Rattle.oidc_types.specs.{word_or};
+ghost use Rattle.oidc_types.specs.Vocabulary.{word_or};
 ghost use Rattle.oidc_oauth2.specs.Words.{token_type_text, token_types};
 ghost use Rattle.oidc_oauth2.specs.declared.token_type.CoreTokenType.TheVariants.{Extension};
 
