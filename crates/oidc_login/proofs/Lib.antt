@@ -1,12 +1,11 @@
 pub mod Entries
-pub mod Credentials
 pub mod Extended
-pub mod Sent
 pub mod Begun
-pub mod Called
-pub mod Causes
-pub mod Handed
 pub mod Refused
 pub mod NoFloat
 pub mod Verification
 pub mod TokenParts
+pub mod Walks
+pub mod Answers
+pub mod Rows
+pub mod Causes
