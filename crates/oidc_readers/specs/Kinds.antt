@@ -69,7 +69,7 @@ one_or_more (boolean b) = None
 one_or_more (number n) = None
 one_or_more (string text) = Some (text ∷ [])
 one_or_more (array items) = texts_in items
-one_or_more (object members) = None
+one_or_more (object entries) = None
 
 -- a text, or an array of texts
 abbrev pub text_or_texts_kind : Kind (List (List ℕ))
