@@ -1,18 +1,17 @@
 -- No value that claims are written as holds a float.
-use Rattle.std.proofs.Common.{◌≡◌, ℕ, ℤ, pos, negsuc, List, [], ◌∷◌, ◌++◌, map, Option, None, Some, option_map, Bool, true, false, ◌||◌, refl, ap, ◌∙◌}
+use Rattle.std.proofs.Common.{◌≡◌, ℕ, ℤ, pos, negsuc, List, [], ◌∷◌, ◌++◌, map, Option, None, Some, option_map, Bool, true, false, ◌||◌, refl}
 use Rattle.std.specs.FinMap as finite
 use Rattle.std.specs.List.{flat_map}
 use Rattle.std.proofs.lemmas.Bool.{or_from}
-use Rattle.serde_json.specs.Data.{Num, unsigned, negative, float, Data, null, boolean, number, string, array, object, Items, no_items, item, Members, no_members, member}
+use Rattle.serde_json.specs.Data.{unsigned, negative, float, Data, null, boolean, number, string, array, object, Items, no_items, item, Members, no_members, member}
 use Rattle.serde_json.specs.Find.{of_integer}
 use Rattle.serde_json.specs.Written.{has_float, items_have_float, members_have_float}
 use Rattle.oidc_types.specs.{Variants}
 use Rattle.oidc_members.specs.Seen.{OutSeen}
 use Rattle.oidc_members.specs.Write.{data_of, any_float}
-use Rattle.oidc_readers.specs.WrittenBack.{IsWholeNumber, IsWhole, ItemsAreWhole, MembersAreWhole}
+use Rattle.oidc_readers.specs.WrittenBack.{IsWhole, ItemsAreWhole, MembersAreWhole}
 use Rattle.oidc_claims.specs.declared.claim.Claim.{Claim}
 use Rattle.oidc_claims.specs.declared.claim.Claim.TheVariants.{Subject, Name, GivenName, FamilyName, MiddleName, Nickname, PreferredUsername, Profile, Picture, Website, Email, EmailVerified, Gender, Birthday, Birthdate, Zoneinfo, Locale, PhoneNumber, PhoneNumberVerified, Address, UpdatedAt}
-use Rattle.oidc_claims.specs.declared.claims.address.AddressClaim.{AddressClaim}
 use Rattle.oidc_readers.specs.Moments.{seconds_of, seconds_data}
 use Rattle.oidc_claims.specs.Gender.{GenderIsValue}
 use Rattle.oidc_claims.specs.Seen.{SeenClaims}

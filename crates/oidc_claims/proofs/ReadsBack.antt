@@ -1,12 +1,11 @@
 -- Claims that were written are read back.
-use Rattle.std.proofs.Common.{◌≡◌, ◌≢◌, ℕ, ℤ, pos, negsuc, List, [], ◌∷◌, map, Option, None, Some, option_map, Result, Ok, true, false, ◌&&◌, cond, refl, ap, subst, ◌∙◌, append-nil, is_some, length}
+use Rattle.std.proofs.Common.{◌≡◌, ◌≢◌, ℕ, ℤ, pos, negsuc, List, [], ◌∷◌, map, Option, None, Some, option_map, Ok, false, cond, refl, ap, subst, ◌∙◌, append-nil, is_some, length}
 use Rattle.std.specs.List.{flat_map}
 use Rattle.std.specs.Option.{ok_or, option_flatten}
 use Rattle.std.specs.Result.{result_ok, result_err}
 use Rattle.serde_json.specs.Data.{Data, null, boolean, number, string, array, object}
 use Rattle.serde_json.specs.Find.{as_null, as_integer, of_integer}
 use Rattle.oidc_members.specs.Seen.{SeenMember, OutSeen}
-use Rattle.oidc_members.specs.declared.refusal.Refusal.{Refusal}
 use Rattle.oidc_members.specs.declared.refusal.ParseKind.TheVariants.{Moment}
 use Rattle.oidc_readers.specs.Moments.{moment_at, seconds_of, seconds_data}
 use Rattle.oidc_readers.specs.Kinds.{Kind, of_member, text_kind, flag_kind, moment_kind, seconds_read, or_null, there as as_there}

@@ -1,5 +1,5 @@
 -- the tags that came are those of the members that came
-use Rattle.std.proofs.Common.{◌≡◌, ℕ, List, [], ◌∷◌, ◌++◌, Option, Some, refl, sym, ap, ◌∙◌, cond, Bool, true, false, ◌||◌, is_some, fold, Result}
+use Rattle.std.proofs.Common.{◌≡◌, ℕ, List, [], ◌∷◌, ◌++◌, Option, Some, refl, sym, ap, ◌∙◌, cond, Bool, true, false, ◌||◌, is_some, fold}
 use Rattle.std.specs.List.{list_any}
 use Rattle.std.specs.FinMap as finite
 use Rattle.std.specs.Ordering.{is_eq}
@@ -7,7 +7,6 @@ use Rattle.std.proofs.lemmas.List.Sums.{fold_push}
 use Rattle.oidc_types.specs.{Variants, tag_cmp}
 use Rattle.oidc_types.proofs.Theorems.{tags_total}
 use Rattle.oidc_members.specs.Seen.{SeenMember}
-use Rattle.oidc_members.specs.declared.refusal.Refusal.{Refusal}
 use Rattle.oidc_claims.specs.Table.{tag_of}
 use Rattle.oidc_readers.specs.Kinds.{Kind}
 use Rattle.oidc_claims.specs.Claims.{same_tag, held, variants, with_value}

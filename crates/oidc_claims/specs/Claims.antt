@@ -1,6 +1,6 @@
 -- Which members of a list are faulty, and what the others say (OpenID Connect Core 1.0 sections 5.1
 -- and 5.2).
-use Rattle.std.specs.Prelude.{ℕ, List, [], ◌∷◌, Bool, cond, if◌then◌else◌, Option, None, Some, Result, Err, filter, is_some, fold}
+use Rattle.std.specs.Prelude.{ℕ, List, [], Bool, cond, if◌then◌else◌, Option, None, Some, Err, filter, is_some, fold}
 use Rattle.std.specs.FinMap as finite
 use Rattle.std.specs.List.{list_any}
 use Rattle.std.specs.Option.{option_flatten}

@@ -1,3 +1,8 @@
+-- Words of the crates below that public clauses cite
+pub use Rattle.oidc_members.specs.Answers
+pub use Rattle.oidc_members.specs.Objects
+pub use Rattle.oidc_readers.specs.Passes
+pub use Rattle.oidc_readers.specs.WrittenBack
 -- The claims and their table
 pub mod Table
 pub mod Seen

@@ -1,19 +1,16 @@
--- The lines of callbacks, and the store behind them.
-use Rattle.std.proofs.Common.{◌≡◌, ℕ, suc, ◌+◌, ◌<◌, List, [], ◌∷◌, ◌++◌, drop, length, get_or, Option, None, Some, option_and_then, Result, Ok, Err, Bool, true, false, cond, refl, sym, ap, ◌∙◌, arith, add-one, drop-cons}
-use Rattle.std.specs.Prelude.{if◌then◌else◌}
-use Rattle.std.specs.FinMap as finite
-use Rattle.std.specs.FinMap.{slice_cmp-IsAntisymmetric, nat_cmp-IsAntisymmetric}
-use Rattle.std.proofs.lemmas.Cmp.{nat_list_cmp_total}
-use Rattle.std.specs.Ordering.{nat_cmp, is_eq}
-use Rattle.std.specs.Cmp.Lexicographic.{slice_cmp}
-use Rattle.std.specs.declared.cmp.Ordering.{Ordering}
-use Rattle.std.specs.declared.cmp.Ordering.TheVariants.{Less, Equal, Greater}
-use Rattle.oidc_login.specs.Transport.{SeenRequest, Wire}
-use Rattle.oidc_login.specs.Pending.{Pending}
-use Rattle.oidc_login.specs.SignedIns.{SeenSignedIn}
-use Rattle.oidc_login.specs.Outcome.{named, state_in, callback_store}
-use Rattle.oidc_login.specs.Spent.{is_spent_by}
-use Rattle.oidc_login.specs.Callbacks.{Replies, HandsOver, after as after_sending}
+-- The lines of callbacks, and what their refusals leave.
+use Rattle.std.proofs.Common.{◌≡◌, ℕ, ℤ, suc, take, Option, None, Some, subst, ◌+◌, ◌<◌, List, [], ◌∷◌, ◌++◌, drop, length, get_or, Result, Ok, Err, Bool, refl, sym, ap, ◌∙◌, arith, add-one, drop-cons}
+use Rattle.std.proofs.Math.Seq.{take-length}
+use Rattle.oidc_pairs.specs.Pairs.{pairs}
+use Rattle.oidc_oauth2.specs.Messages.{SeenRequest, SeenAnswer}
+use Rattle.oidc_oauth2.specs.Transport.{Log, log_after, Plays, played, first_of}
+use Rattle.oidc_oauth2.specs.Exchanges.{Known}
+use Rattle.oidc_login.specs.Client.{SeenClient}
+use Rattle.oidc_login.specs.SignedIn.{SeenSignedIn}
+use Rattle.oidc_login.specs.Errors.{memory_of, reply_of, Unless}
+use Rattle.oidc_login.specs.Rows.{Attempt, Meant, Run, opening, after_token, with_token, outcome}
+use Rattle.oidc_login.specs.Runs.{Ran, handed_over}
+use Rattle.oidc_login.specs.declared.steps.Opened.{Opened}
 use Rattle.oidc_login.specs.declared.errors.LoginError.{LoginError}
 use Rattle.oidc_login.specs.declared.errors.LoginError.TheVariants as login
 use Rattle.oidc_cli.specs.ReportLines.{request_line, request_lines}
@@ -25,45 +22,43 @@ lines_at requests i request within is =
     (ap request_lines (drop-cons requests i request within)
     ∙ ap (λ r. request_line r ++ request_lines (drop (suc i) requests)) (sym is))
 
--- at a key without a value, a map without that key answers as it did
-kept : (pending : Pending) (state q : List ℕ) (order : Ordering) → slice_cmp nat_cmp q state ≡ order → finite.get pending state ≡ None
-    → cond (is_eq order) None (finite.get pending q) ≡ finite.get pending q
-kept pending state q Less tie lacks = refl
-kept pending state q Greater tie lacks = refl
-kept pending state q Equal tie lacks =
-    sym (ap (finite.get pending) (slice_cmp-IsAntisymmetric nat_cmp-IsAntisymmetric q state tie) ∙ lacks)
+-- ---- a callback over a transport in memory
 
--- without a login that is named, the store stays
-unnamed : (pending : Pending) (state : Option (List ℕ)) → option_and_then (finite.get pending) state ≡ None
-    → elim state [ None ↦ pending | Some s ↦ finite.remove pending s ] ≡ pending
-unnamed pending None lacks = refl
-unnamed pending (Some state) lacks =
-    finite.same_map nat_list_cmp_total (slice_cmp-IsAntisymmetric nat_cmp-IsAntisymmetric) (finite.remove pending state) pending
-    (λ q. finite.get-remove nat_list_cmp_total pending state q ∙ kept pending state q _ refl lacks)
+-- a refusal that isn't want of memory
+pub there_was_memory : {E P : Type 0} (refusal : LoginError E) → ((spent : Bool) → refusal ≡ login.Memory spent → ⊥) → Unless (memory_of refusal) P → P
+there_was_memory (login.TooLong place) memory fact = fact
+there_was_memory login.State memory fact = fact
+there_was_memory login.Unbuilt memory fact = fact
+there_was_memory login.Callback memory fact = fact
+there_was_memory (login.Token e) memory fact = fact
+there_was_memory login.NoIdToken memory fact = fact
+there_was_memory (login.Claims kind) memory fact = fact
+there_was_memory (login.Memory spent) memory fact = absurd (memory spent refl)
 
-pub store_of_refusal : (pending : Pending) (query : List (List ℕ × List ℕ)) (refusal : LoginError) (after : Pending)
-    → ((spent : Bool) → refusal ≡ login.Memory spent → ⊥)
-    → (◌≡◌ {A = Result SeenSignedIn LoginError} (Err refusal) (Err login.State) → named pending query ≡ None)
-    → after ≡ (if is_spent_by {A = SeenSignedIn} (Err refusal) then callback_store pending query else pending)
-    → after ≡ callback_store pending query
-store_of_refusal pending query login.State after memory state left = left ∙ sym (unnamed pending (state_in query) (state refl))
-store_of_refusal pending query login.Callback after memory state left = left
-store_of_refusal pending query login.Unbuilt after memory state left = left
-store_of_refusal pending query (login.Claims kind) after memory state left = left
-store_of_refusal pending query (login.Memory spent) after memory state left = absurd (memory spent refl)
+module _ (client : SeenClient) (now : ℤ) where
+  -- answers that are the next ones of a script give what the script gives
+  same_by : (m : Meant Opened) (answers script : List SeenAnswer) → answers ≡ played script (length answers)
+      → length answers ≡ length (with_token client now answers m).sent → with_token client now answers m ≡ with_token client now script m
+  same_by (Err e) answers script plays all = refl
+  same_by (Ok o) answers script plays all =
+      ap (λ (answer : SeenAnswer). record { reply = after_token client now o.login answer; sent = o.request ∷ [] })
+      (ap first_of (subst (λ n. answers ≡ played script n) all plays))
 
-pub reply_of_refusal : (refusal : LoginError) (meant : Result SeenSignedIn LoginError) → ((spent : Bool) → refusal ≡ login.Memory spent → ⊥)
-    → Replies (Err refusal) meant → Err refusal ≡ meant
-reply_of_refusal login.State meant memory replies = replies
-reply_of_refusal login.Callback meant memory replies = replies
-reply_of_refusal login.Unbuilt meant memory replies = replies
-reply_of_refusal (login.Claims kind) meant memory replies = replies
-reply_of_refusal (login.Memory spent) meant memory replies = absurd (memory spent refl)
+module _ {E : Type 0} (a : Attempt) (old new : Known) (result : Result SeenSignedIn (LoginError E)) (ran : Ran a old new result) (script : List SeenAnswer) where
+  same : old.script ≡ Some script → length ran.answers ≡ length (outcome a ran.answers).sent → outcome a ran.answers ≡ outcome a script
+  same is all = same_by a.client a.now (opening a.client a.pending (pairs a.query)) ran.answers script (subst (λ s. Plays s ran.answers new.script) is ran.plays).0 all
 
-pub sent_on_refusal : (refusal : LoginError) (old new : Wire) (sent : List SeenRequest) → ((spent : Bool) → refusal ≡ login.Memory spent → ⊥)
-    → HandsOver old new (Err refusal) sent → old.requests ≡ [] → new.requests ≡ sent
-sent_on_refusal login.State old new sent memory over none = ap (λ w. w.requests) over ∙ ap (λ r. r ++ sent) none
-sent_on_refusal login.Callback old new sent memory over none = ap (λ w. w.requests) over ∙ ap (λ r. r ++ sent) none
-sent_on_refusal login.Unbuilt old new sent memory over none = ap (λ w. w.requests) over ∙ ap (λ r. r ++ sent) none
-sent_on_refusal (login.Claims kind) old new sent memory over none = ap (λ w. w.requests) over ∙ ap (λ r. r ++ sent) none
-sent_on_refusal (login.Memory spent) old new sent memory over none = absurd (memory spent refl)
+  -- the reply and the requests are those that the script gives
+  pub recorded_reply : old.script ≡ Some script → length ran.answers ≡ length (outcome a ran.answers).sent
+      → (outcome a ran.answers).reply ≡ reply_of result → reply_of result ≡ (outcome a script).reply
+  recorded_reply is all reply = sym reply ∙ ap (λ (r : Run). r.reply) (same is all)
+
+  pub recorded_sent : (log : Log) → old.script ≡ Some script → old.log ≡ Some (record { requests = []; answers = [] }) → new.log ≡ Some log
+      → length ran.answers ≡ length (outcome a ran.answers).sent → log.requests ≡ (outcome a script).sent
+  recorded_sent log is none logged all =
+      let same_log : Some log ≡ log_after (Some (record { requests = []; answers = [] })) (handed_over a ran.answers) ran.answers =
+      sym logged ∙ ran.logged ∙ ap (λ l. log_after l (handed_over a ran.answers) ran.answers) none in
+      ap (λ l. elim l as (λ _. List SeenRequest) [ None ↦ [] | Some x ↦ x.requests ]) same_log
+      ∙ ap (λ n. take n (outcome a ran.answers).sent) all
+      ∙ take-length (outcome a ran.answers).sent
+      ∙ ap (λ (r : Run). r.sent) (same is all)

@@ -1,77 +1,95 @@
 -- What a response is worth is never a fault of the transport, a request that isn't made, want of memory, or
--- too long, unless its body is.
-use Rattle.std.proofs.Common.{◌≡◌, ◌==◌, ℕ, List, Bool, true, false, cond, Result, Ok, Err, refl, subst}
-use Rattle.std.specs.Prelude.{not}
-use Rattle.oidc_members.specs.Seen.{SeenMember}
-use Rattle.oidc_members.specs.declared.refusal.Refusal.{Refusal}
+-- too long; and what the steps answer by it.
+use Rattle.std.proofs.Common.{◌≡◌, ℕ, List, Bool, true, false, Result, Ok, Err, refl, ap, subst}
 use Rattle.oidc_oauth2.specs.Messages.{SeenResponse}
 use Rattle.oidc_oauth2.specs.ErrorResponse.{SeenError, error_response_of}
 use Rattle.oidc_oauth2.specs.TokenResponse.{tokens_of}
 use Rattle.oidc_oauth2.specs.Words.{error_of, token_type_of}
-use Rattle.oidc_oauth2.specs.TokenAnswers.{◌>>◌, ◌when◌, ◌or_as◌, record_in, refused_by, refusal_in, tokens_in, token_answer, is_over_long, is_empty, may_be_json}
+use Rattle.oidc_oauth2.specs.TokenAnswers.{◌>>◌, ◌when◌, ◌or_as◌, is_over_long, token_answer, Gives as GivesTokens}
 use Rattle.oidc_oauth2.specs.declared.error_types.CoreErrorResponseType.{CoreErrorResponseType}
-use Rattle.oidc_oauth2.specs.declared.token_answers.OtherCause.TheVariants.{Uri, EmptyBody, MediaType}
-use Rattle.oidc_oauth2.specs.declared.token_answers.RequestTokenError.TheVariants.{ServerResponse, Request, Parse, Other, TooLong, Memory}
+use Rattle.oidc_oauth2.specs.declared.token_answers.RequestTokenError.{RequestTokenError}
+use Rattle.oidc_oauth2.specs.declared.token_answers.RequestTokenError.TheVariants as token
+use Rattle.oidc_oauth2.proofs.Theorems.{IsJudged, status_answer-judged}
 use Rattle.oidc_login.specs.TokenResponse.{Tokens, TokenError, id_token_field_of, tokens_or_refusal}
+use Rattle.oidc_login.specs.Errors.{Gives, faulted, spent_of}
+use Rattle.oidc_login.specs.Steps.{of_token}
+use Rattle.oidc_login.specs.Rows.{Meant, tokens_in}
+use Rattle.oidc_login.specs.declared.errors.TooLong.TheVariants as place
+use Rattle.oidc_login.specs.declared.errors.LoginError.TheVariants as login
 
 abbrev CoreError : Type 0
 CoreError = SeenError CoreErrorResponseType
 
--- a refusal of a response whose body isn't too long
-abbrev pub OfResponse : Result Tokens TokenError → Type 0
-OfResponse (Ok tokens) = Unit {0}
-OfResponse (Err (Request cause)) = ⊥
-OfResponse (Err (Other Uri)) = ⊥
-OfResponse (Err (TooLong body)) = ⊥
-OfResponse (Err Memory) = ⊥
-OfResponse (Err e) = Unit {0}
+pub judged : (r : SeenResponse) → IsJudged Tokens CoreError (tokens_or_refusal r)
+unfolding tokens_or_refusal
+judged r = status_answer-judged Tokens CoreError (error_response_of error_of) (tokens_of token_type_of id_token_field_of) r
 
-after_when : (e : TokenError) (b : Bool) (next : Result Tokens TokenError) → OfResponse (Err e) → OfResponse next → OfResponse ((e when b) >> next)
-after_when e true next own later = own
-after_when e false next own later = later
+-- ---- the step on a response
 
-parsed : (read : Result Tokens Refusal) (body : List ℕ) → OfResponse (read or_as (λ refusal. Parse refusal body))
-parsed (Ok value) body = tt
-parsed (Err refusal) body = tt
+-- what a response is worth, and what its rows answer, by whether its body is too long
+abbrev sized : Bool → List ℕ → Result Tokens TokenError → Result Tokens TokenError
+sized long body meant = (token.TooLong body when long) >> meant
 
-either : (b : Bool) (x y : Result Tokens TokenError) → OfResponse x → OfResponse y → OfResponse (cond b x y)
-either true x y own other = own
-either false x y own other = other
+abbrev row : Bool → Result Tokens TokenError → Meant Tokens
+row long meant = (login.TooLong place.TokenAnswer when long) >> (meant or_as login.Token)
 
-refused : (read : Result CoreError Refusal) (body : List ℕ) → OfResponse (Err (refused_by read body))
-refused (Ok error) body = tt
-refused (Err refusal) body = tt
+ok_row : (long : Bool) (body : List ℕ) (meant : Result Tokens TokenError) (tokens : Tokens) → sized long body meant ≡ Ok tokens → row long meant ≡ Ok tokens
+ok_row true body meant tokens is = cc
+ok_row false body meant tokens is = ap (λ m. m or_as login.Token) is
 
-emptied : (b : Bool) (e : TokenError) → OfResponse (Err e) → OfResponse (Err (cond b (Other EmptyBody) e))
-emptied true e own = tt
-emptied false e own = own
+module _ {E : Type 0} where
+  own_row : (long : Bool) (body : List ℕ) (meant : Result Tokens TokenError) (e : TokenError) → (token.TooLong body ≡ e → ⊥)
+      → sized long body meant ≡ Err e → row long meant ≡ Err (login.Token e)
+  own_row true body meant e other is = absurd (other (ap (λ r. elim r as (λ _. TokenError) [ Ok tokens ↦ e | Err x ↦ x ]) is))
+  own_row false body meant e other is = ap (λ m. m or_as login.Token) is
 
-of_refusal : (read_of : List SeenMember → Result CoreError Refusal) (body : List ℕ) → OfResponse (Err (refusal_in read_of body))
-unfolding refusal_in
-of_refusal read_of body = emptied (is_empty body) (refused_by (record_in read_of body) body) (refused (record_in read_of body) body)
+  long_row : (long : Bool) (body b : List ℕ) (meant : Result Tokens TokenError) → IsJudged Tokens CoreError meant
+      → sized long body meant ≡ Err (token.TooLong b) → row long meant ≡ Err (login.TooLong place.TokenAnswer)
+  long_row true body b meant own is = refl
+  long_row false body b meant own is = absurd (subst (IsJudged Tokens CoreError) is own)
 
-of_tokens : (read_of : List SeenMember → Result Tokens Refusal) (json : Bool) (body : List ℕ) → OfResponse (tokens_in read_of json body)
-unfolding tokens_in
-of_tokens read_of json body =
-    after_when (Other MediaType) (not json) _ tt
-    (after_when (Other EmptyBody) (is_empty body) _ tt (parsed (record_in read_of body) body))
+  never_fault : (long : Bool) (body : List ℕ) (meant : Result Tokens TokenError) → IsJudged Tokens CoreError meant
+      → sized long body meant ≡ Err (token.Request tt) → ⊥
+  never_fault true body meant own is = cc
+  never_fault false body meant own is = subst (IsJudged Tokens CoreError) is own
 
-when_short : (e : TokenError) (b : Bool) (next : Result Tokens TokenError) → b ≡ false → OfResponse next → OfResponse ((e when b) >> next)
-when_short e true next short own = cc
-when_short e false next short own = own
+  err_row : (long : Bool) (body : List ℕ) (meant : Result Tokens TokenError) (e : RequestTokenError E CoreError) → IsJudged Tokens CoreError meant
+      → GivesTokens {A = Tokens} (Err e) (sized long body meant) → Gives {A = Tokens} (Err (of_token e)) (row long meant)
+  err_row long body meant (token.ServerResponse error) own is = own_row long body meant _ (λ same. cc) is
+  err_row long body meant (token.Request cause) own is = absurd (never_fault long body meant own is)
+  err_row long body meant (token.Parse refusal text) own is = own_row long body meant _ (λ same. cc) is
+  err_row long body meant (token.Other cause) own is = own_row long body meant _ (λ same. cc) is
+  err_row long body meant (token.TooLong b) own is = long_row long body b meant own is
+  err_row long body meant token.Memory own is = tt
 
-pub of_response : (r : SeenResponse) → is_over_long r.body ≡ false → OfResponse (tokens_or_refusal r)
-unfolding tokens_or_refusal token_answer
-of_response r short =
-    when_short (TooLong r.body) (is_over_long r.body) _ short
-    (either (r.status == 200) (tokens_in (tokens_of token_type_of id_token_field_of) (may_be_json r) r.body) (Err (refusal_in (error_response_of error_of) r.body))
-    (of_tokens (tokens_of token_type_of id_token_field_of) (may_be_json r) r.body) (of_refusal (error_response_of error_of) r.body))
+  no_fault : (long : Bool) (body : List ℕ) (meant : Result Tokens TokenError) (e : RequestTokenError E CoreError) → IsJudged Tokens CoreError meant
+      → GivesTokens {A = Tokens} (Err e) (sized long body meant) → faulted (of_token e) ≡ false
+  no_fault long body meant (token.ServerResponse error) own is = refl
+  no_fault long body meant (token.Request cause) own is = absurd (never_fault long body meant own is)
+  no_fault long body meant (token.Parse refusal text) own is = refl
+  no_fault long body meant (token.Other cause) own is = refl
+  no_fault long body meant (token.TooLong b) own is = refl
+  no_fault long body meant token.Memory own is = refl
 
-when_long : (e : TokenError) (b : Bool) (next : Result Tokens TokenError) → b ≡ true → (e when b) >> next ≡ Err e
-when_long e true next long = refl
-when_long e false next long = cc
+  abbrev Answered : SeenResponse → Result Tokens (RequestTokenError E CoreError) → Type 0
+  Answered r result = GivesTokens result (token_answer (error_response_of error_of) (tokens_of token_type_of id_token_field_of) r)
 
--- a response whose body is too long
-pub of_long_response : (r : SeenResponse) → is_over_long r.body ≡ true → tokens_or_refusal r ≡ Err (TooLong r.body)
-unfolding tokens_or_refusal token_answer
-of_long_response r long = when_long (TooLong r.body) (is_over_long r.body) _ long
+  pub tokens_given : (r : SeenResponse) (tokens : Tokens) → Answered r (Ok tokens) → tokens_in r ≡ Ok tokens
+  unfolding token_answer tokens_in tokens_or_refusal
+  tokens_given r tokens is = ok_row (is_over_long r.body) r.body (tokens_or_refusal r) tokens is
+
+  pub refusal_given : (r : SeenResponse) (e : RequestTokenError E CoreError) → Answered r (Err e) → Gives {A = Tokens} (Err (of_token e)) (tokens_in r)
+  unfolding token_answer tokens_in tokens_or_refusal
+  refusal_given r e is = err_row (is_over_long r.body) r.body (tokens_or_refusal r) e (judged r) is
+
+  pub no_fault_given : (r : SeenResponse) (e : RequestTokenError E CoreError) → Answered r (Err e) → faulted (of_token e) ≡ false
+  unfolding token_answer tokens_or_refusal
+  no_fault_given r e is = no_fault (is_over_long r.body) r.body (tokens_or_refusal r) e (judged r) is
+
+  pub of_token_spent : (e : RequestTokenError E CoreError) → spent_of (of_token e) ≡ true
+  of_token_spent (token.ServerResponse error) = refl
+  of_token_spent (token.Request cause) = refl
+  of_token_spent (token.Parse refusal text) = refl
+  of_token_spent (token.Other cause) = refl
+  of_token_spent (token.TooLong b) = refl
+  of_token_spent token.Memory = refl

@@ -9,3 +9,4 @@ pub mod Walks
 pub mod Answers
 pub mod Rows
 pub mod Causes
+pub mod Drives

@@ -18,7 +18,10 @@ use Rattle.oidc_login.specs.Rows.{Attempt, Meant, login_named_by, error_in, code
 use Rattle.oidc_login.specs.Causes.{Names, HasCode, Asks, Held, Answered, Reads, HasText, Holds, IsSignedIn, TokenCause, Cause}
 use Rattle.oidc_login.specs.declared.steps.Opened.{Opened}
 use Rattle.oidc_login.proofs.Walks.{Walk, at_or, at_meant, at_last, at_when, at_for, walked_err, walked_ok}
-use Rattle.oidc_login.proofs.Answers.{OfResponse, of_response}
+use Rattle.oidc_oauth2.specs.ErrorResponse.{SeenError}
+use Rattle.oidc_oauth2.specs.declared.error_types.CoreErrorResponseType.{CoreErrorResponseType}
+use Rattle.oidc_oauth2.proofs.Theorems.{IsJudged}
+use Rattle.oidc_login.proofs.Answers.{judged}
 use Rattle.oidc_login.proofs.Verification.{accepts}
 
 some_value : (values : List (List ℕ)) → is_some (first_value values) ≡ true → values ≢ []
@@ -56,10 +59,10 @@ module _ (a : Attempt) (answers : List SeenAnswer) where
   -- ---- behind it
 
   token_row : (l : SeenLogin) (r : SeenResponse) (e : TokenError) → Answered a answers l r → tokens_or_refusal r ≡ Err e → TokenCause a answers e
-  token_row l r (token_error.Request cause) answered is = absurd (subst OfResponse is (of_response r answered.not_too_long))
-  token_row l r (token_error.Other other.Uri) answered is = absurd (subst OfResponse is (of_response r answered.not_too_long))
-  token_row l r (token_error.TooLong body) answered is = absurd (subst OfResponse is (of_response r answered.not_too_long))
-  token_row l r token_error.Memory answered is = absurd (subst OfResponse is (of_response r answered.not_too_long))
+  token_row l r (token_error.Request cause) answered is = absurd (subst (IsJudged Tokens (SeenError CoreErrorResponseType)) is (judged r))
+  token_row l r (token_error.Other other.Uri) answered is = absurd (subst (IsJudged Tokens (SeenError CoreErrorResponseType)) is (judged r))
+  token_row l r (token_error.TooLong body) answered is = absurd (subst (IsJudged Tokens (SeenError CoreErrorResponseType)) is (judged r))
+  token_row l r token_error.Memory answered is = absurd (subst (IsJudged Tokens (SeenError CoreErrorResponseType)) is (judged r))
   token_row l r (token_error.Other other.EmptyBody) answered is = record { login = l; response = r; answered = answered; refused = is }
   token_row l r (token_error.Other other.MediaType) answered is = record { login = l; response = r; answered = answered; refused = is }
   token_row l r (token_error.ServerResponse error) answered is = record { login = l; response = r; answered = answered; refused = is }

@@ -1,4 +1,3 @@
-use Rattle.std.proofs.Common.{◌++◌, map}
 use Rattle.oidc_types.specs.{entries_left}
 use Rattle.oidc_claims.specs.Write.{variant_member}
 use Rattle.oidc_claims.proofs.Steps.{mapped_more}
