@@ -123,7 +123,7 @@ module _ (a : Attempt) (old : Known) where
       (unless_map (memory_of e) (λ is. ap (λ m. (with_token a.client a.now [] m).reply) is) gives)
 
   pub memory_first : {E : Type 0} (new : Known) → Untouched old new → Ran {E = E} a old new (Err (Memory true))
-  memory_first new kept = ran a old new (Err (Memory true)) [] (kept.logged ∙ sym (log_kept old.log)) kept.plays (omega arith) tt tt
+  memory_first new kept = ran a old new (Err (Memory true)) [] (kept.0 ∙ sym (log_kept old.log)) kept.1 (omega arith) tt tt
 
   -- the token request was sent
   pub answered : {E : Type 0} (o : Opened) → opening a.client a.pending (pairs a.query) ≡ Ok o → (new : Known) (x : SeenAnswer) → Exchanged old new o.request x
@@ -131,8 +131,8 @@ module _ (a : Attempt) (old : Known) where
   answered o is new x sent result gives =
       let whole : outcome a (x ∷ []) ≡ record { reply = after_token a.client a.now o.login x; sent = o.request ∷ [] } = ap (with_token a.client a.now (x ∷ [])) is in
       ran a old new result (x ∷ [])
-      (sent.logged ∙ ap (λ (r : Run). log_after old.log (take 1 r.sent) (x ∷ [])) (sym whole))
-      sent.plays
+      (sent.0 ∙ ap (λ (r : Run). log_after old.log (take 1 r.sent) (x ∷ [])) (sym whole))
+      sent.1
       (subst (λ (r : Run). 1 ≤ length r.sent) (sym whole) (lit≤ tt))
       (either result (sym (ap (λ (r : Run). length r.sent) whole)))
       (subst (Gives result) (sym (ap (λ (r : Run). r.reply) whole)) gives)

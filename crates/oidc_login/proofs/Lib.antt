@@ -10,3 +10,5 @@ pub mod Answers
 pub mod Rows
 pub mod Causes
 pub mod Drives
+pub mod NoMemory
+pub mod Called

@@ -1,6 +1,5 @@
 -- What the steps of a callback leave. No public clause cites this.
-use Rattle.std.specs.Prelude.{◌≡◌, [], ◌∷◌, true, None, Some, Result, Ok, Err, IfErr, List, ℕ}
-use Rattle.std.specs.Coded.{Coded}
+use Rattle.std.specs.Prelude.{◌≡◌, ℕ, List, [], ◌∷◌, true, None, Some, Result, Ok, Err, IfErr}
 use Rattle.http.specs.declared.response.Response.{Response}
 use Rattle.oidc_oauth2.specs.Messages.{SeenRequest, SeenAnswer, seen_response}
 use Rattle.oidc_oauth2.specs.Transport.{log_after, Plays}
@@ -20,14 +19,13 @@ answer_of (Ok response) = Some (seen_response response)
 answer_of (Err e) = None
 
 -- one request was handed over and took this answer
-pub record Exchanged (old new : Known) (request : SeenRequest) (answer : SeenAnswer) : Type 0 where
-  pub logged : new.log ≡ log_after old.log (request ∷ []) (answer ∷ [])
-  pub plays : Plays old.script (answer ∷ []) new.script
+abbrev pub Exchanged : Known → Known → SeenRequest → SeenAnswer → Type 0
+Exchanged old new request answer =
+    (new.log ≡ log_after old.log (request ∷ []) (answer ∷ [])) × Plays old.script (answer ∷ []) new.script
 
 -- nothing was handed over
-pub record Untouched (old new : Known) : Type 0 where
-  pub logged : new.log ≡ old.log
-  pub plays : Plays old.script [] new.script
+abbrev pub Untouched : Known → Known → Type 0
+Untouched old new = (new.log ≡ old.log) × Plays old.script [] new.script
 
 -- a fault only where the answer was one
 abbrev pub Faults : {A E : Type 0} → SeenAnswer → Result A (LoginError E) → Type 0

@@ -1,6 +1,6 @@
 // The steps of a callback. Those that judge have no transport inside.
 
-ghost use Rattle.std.specs.Prelude.{◌≡◌, ◌≤◌, IfErr, IfNone, IfSome, IsTrue, MatchResult, Unit, is_some, false, true, None, Some, if◌then◌else◌};
+ghost use Rattle.std.specs.Prelude.{◌≡◌, ◌≤◌, IfErr, IfNone, IfSome, IsSome, IsTrue, MatchResult, false, true, None, Some, if◌then◌else◌};
 ghost use Rattle.std.specs.String.{string_bytes};
 ghost use Rattle.oidc_pairs.specs.Pairs.{pairs};
 ghost use Rattle.oidc_oauth2.specs.Pkce.{is_verifier};
@@ -95,6 +95,7 @@ fn open<E>(
     ensures store { pending.new ≡ (if is_spent_by result
         then callback_store pending.old query.now else pending.old) }
     ensures left { OrMemory result (pending.new ≡ callback_store pending.old query.now) }
+    ensures removed { is_spent_by result ≡ true → IsSome (login_named_by pending.old query.now) }
     ensures verifiers { HasVerifiers pending.old → HasVerifiers pending.new }
 {
     let Some(login) = take_named(pending, query) else {
@@ -125,6 +126,8 @@ fn opening<E>(
     ensures store { pending.new ≡ (if is_spent_by result
         then callback_store pending.old (pairs query.now) else pending.old) }
     ensures left { OrMemory result (pending.new ≡ callback_store pending.old (pairs query.now)) }
+    ensures removed { is_spent_by result ≡ true
+        → IsSome (login_named_by pending.old (pairs query.now)) }
     ensures verifiers { HasVerifiers pending.old → HasVerifiers pending.new }
 {
     let Ok(pairs) = Pairs::parse(alloc, query) else {
@@ -249,7 +252,10 @@ pub(crate) fn drive<H: SyncHttpClient>(
     ensures store { let a = start client.now pending.old query.now now.nanosecond in
         Leaves a pending.new result }
     ensures left { OrMemory result (pending.new ≡ callback_store pending.old (pairs query.now)) }
-    ensures unspent { is_spent_by result ≡ false → http.new ≡ http.old }
+    ensures removed { is_spent_by result ≡ true
+        → IsSome (login_named_by pending.old (pairs query.now)) }
+    ensures unspent { is_spent_by result ≡ false
+        → (http.new ≡ http.old) × (pending.new ≡ pending.old) }
     ensures blamed { IsBlamed (H.faults http.old) (H.faults http.new) result }
     ensures never_falls { H.faults http.old ≤ H.faults http.new }
     ensures verifiers { HasVerifiers pending.old → HasVerifiers pending.new }
