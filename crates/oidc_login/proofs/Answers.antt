@@ -37,22 +37,22 @@ ok_row : (long : Bool) (body : List ℕ) (meant : Result Tokens TokenError) (tok
 ok_row true body meant tokens is = cc
 ok_row false body meant tokens is = ap (λ m. m or_as login.Token) is
 
+own_row : (long : Bool) (body : List ℕ) (meant : Result Tokens TokenError) (e : TokenError) → (token.TooLong body ≡ e → ⊥)
+    → sized long body meant ≡ Err e → row long meant ≡ Err (login.Token e)
+own_row true body meant e other is = absurd (other (ap (λ r. elim r as (λ _. TokenError) [ Ok tokens ↦ e | Err x ↦ x ]) is))
+own_row false body meant e other is = ap (λ m. m or_as login.Token) is
+
+long_row : (long : Bool) (body b : List ℕ) (meant : Result Tokens TokenError) → IsJudged Tokens CoreError meant
+    → sized long body meant ≡ Err (token.TooLong b) → row long meant ≡ Err (login.TooLong place.TokenAnswer)
+long_row true body b meant own is = refl
+long_row false body b meant own is = absurd (subst (IsJudged Tokens CoreError) is own)
+
+never_fault : (long : Bool) (body : List ℕ) (meant : Result Tokens TokenError) → IsJudged Tokens CoreError meant
+    → sized long body meant ≡ Err (token.Request tt) → ⊥
+never_fault true body meant own is = cc
+never_fault false body meant own is = subst (IsJudged Tokens CoreError) is own
+
 module _ {E : Type 0} where
-  own_row : (long : Bool) (body : List ℕ) (meant : Result Tokens TokenError) (e : TokenError) → (token.TooLong body ≡ e → ⊥)
-      → sized long body meant ≡ Err e → row long meant ≡ Err (login.Token e)
-  own_row true body meant e other is = absurd (other (ap (λ r. elim r as (λ _. TokenError) [ Ok tokens ↦ e | Err x ↦ x ]) is))
-  own_row false body meant e other is = ap (λ m. m or_as login.Token) is
-
-  long_row : (long : Bool) (body b : List ℕ) (meant : Result Tokens TokenError) → IsJudged Tokens CoreError meant
-      → sized long body meant ≡ Err (token.TooLong b) → row long meant ≡ Err (login.TooLong place.TokenAnswer)
-  long_row true body b meant own is = refl
-  long_row false body b meant own is = absurd (subst (IsJudged Tokens CoreError) is own)
-
-  never_fault : (long : Bool) (body : List ℕ) (meant : Result Tokens TokenError) → IsJudged Tokens CoreError meant
-      → sized long body meant ≡ Err (token.Request tt) → ⊥
-  never_fault true body meant own is = cc
-  never_fault false body meant own is = subst (IsJudged Tokens CoreError) is own
-
   err_row : (long : Bool) (body : List ℕ) (meant : Result Tokens TokenError) (e : RequestTokenError E CoreError) → IsJudged Tokens CoreError meant
       → GivesTokens {A = Tokens} (Err e) (sized long body meant) → Gives {A = Tokens} (Err (of_token e)) (row long meant)
   err_row long body meant (token.ServerResponse error) own is = own_row long body meant _ (λ same. cc) is
@@ -74,10 +74,6 @@ module _ {E : Type 0} where
   abbrev Answered : SeenResponse → Result Tokens (RequestTokenError E CoreError) → Type 0
   Answered r result = GivesTokens result (token_answer (error_response_of error_of) (tokens_of token_type_of id_token_field_of) r)
 
-  pub tokens_given : (r : SeenResponse) (tokens : Tokens) → Answered r (Ok tokens) → tokens_in r ≡ Ok tokens
-  unfolding token_answer tokens_in tokens_or_refusal
-  tokens_given r tokens is = ok_row (is_over_long r.body) r.body (tokens_or_refusal r) tokens is
-
   pub refusal_given : (r : SeenResponse) (e : RequestTokenError E CoreError) → Answered r (Err e) → Gives {A = Tokens} (Err (of_token e)) (tokens_in r)
   unfolding token_answer tokens_in tokens_or_refusal
   refusal_given r e is = err_row (is_over_long r.body) r.body (tokens_or_refusal r) e (judged r) is
@@ -93,3 +89,7 @@ module _ {E : Type 0} where
   of_token_spent (token.Other cause) = refl
   of_token_spent (token.TooLong b) = refl
   of_token_spent token.Memory = refl
+
+pub tokens_given : (r : SeenResponse) (tokens : Tokens) → token_answer (error_response_of error_of) (tokens_of token_type_of id_token_field_of) r ≡ Ok tokens → tokens_in r ≡ Ok tokens
+unfolding token_answer tokens_in tokens_or_refusal
+tokens_given r tokens is = ok_row (is_over_long r.body) r.body (tokens_or_refusal r) tokens is

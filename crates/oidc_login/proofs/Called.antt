@@ -12,6 +12,9 @@ use Rattle.oidc_login.specs.declared.errors.LoginError.{LoginError}
 use Rattle.oidc_login.specs.declared.errors.LoginError.TheVariants as login
 use Rattle.oidc_login.proofs.NoMemory.{memory, never_memory}
 
+same_refusal : (x y : Error) → ◌≡◌ {A = Result SeenSignedIn Error} (Err x) (Err y) → x ≡ y
+same_refusal x y e = ap (λ r. elim r as (λ _. Error) [ Ok signed ↦ x | Err z ↦ z ]) e
+
 module _ {E : Type 0} where
   is_state : (e : LoginError E) → login.State ≡ seen e → e ≡ login.State
   is_state (login.TooLong place) is = cc
@@ -22,9 +25,6 @@ module _ {E : Type 0} where
   is_state login.NoIdToken is = cc
   is_state (login.Claims kind) is = cc
   is_state (login.Memory spent) is = cc
-
-  same_refusal : (x y : Error) → ◌≡◌ {A = Result SeenSignedIn Error} (Err x) (Err y) → x ≡ y
-  same_refusal x y e = ap (λ r. elim r as (λ _. Error) [ Ok signed ↦ x | Err z ↦ z ]) e
 
   unless_state : (memory : Option Bool) (e : LoginError E) → Unless memory (◌≡◌ {A = Result SeenSignedIn Error} (Err login.State) (Err (seen e)))
       → Unless memory (◌≡◌ {A = Result SeenSignedIn (LoginError E)} (Err e) (Err login.State))

@@ -1,5 +1,5 @@
 -- A callback, return by return: what was handed over, and which reply and requests are meant.
-use Rattle.std.proofs.Common.{◌≡◌, ℕ, List, [], ◌∷◌, ◌++◌, length, take, Bool, true, false, Option, None, Some, Result, Ok, Err, refl, sym, ap, subst, ◌∙◌, ◌≤◌, lit≤, arith, append-nil, inl, inr}
+use Rattle.std.proofs.Common.{◌≡◌, ℕ, zero, suc, List, [], ◌∷◌, ◌++◌, length, take, Bool, true, false, Option, None, Some, Result, Ok, Err, refl, sym, ap, subst, ◌∙◌, ◌≤◌, lit≤, arith, append-nil, inl, inr}
 use Rattle.std.specs.Prelude.{◌⊎◌, IfOk, IfErr, OnOk, drop}
 use Rattle.oidc_pairs.specs.Pairs.{pairs}
 use Rattle.oidc_oauth2.specs.Messages.{SeenRequest, SeenAnswer}
@@ -66,9 +66,9 @@ module _ (a : Attempt) where
   sent_by answers m = (with_token a.client a.now answers m).sent
 
   at_most_one : (n : ℕ) (answers : List SeenAnswer) (m : Meant Opened) → length (take n (sent_by answers m)) ≤ 1
-  at_most_one 0 answers m = lit≤ tt
+  at_most_one zero answers m = lit≤ tt
   at_most_one (suc n) answers (Err e) = lit≤ tt
-  at_most_one (suc 0) answers (Ok o) = lit≤ tt
+  at_most_one (suc zero) answers (Ok o) = lit≤ tt
   at_most_one (suc (suc n)) answers (Ok o) = lit≤ tt
 
   its : (o : Opened) → Asks a o.login o.request → IsItsRequest a (o.request ∷ [])
@@ -76,9 +76,9 @@ module _ (a : Attempt) where
 
   only_its : (n : ℕ) (answers : List SeenAnswer) (m : Meant Opened) → Own m
       → (take n (sent_by answers m) ≡ []) ⊎ IsItsRequest a (take n (sent_by answers m))
-  only_its 0 answers m own = inl refl
+  only_its zero answers m own = inl refl
   only_its (suc n) answers (Err e) own = inl refl
-  only_its (suc 0) answers (Ok o) own = inr (its o own)
+  only_its (suc zero) answers (Ok o) own = inr (its o own)
   only_its (suc (suc n)) answers (Ok o) own = inr (its o own)
 
   -- behind an Ok it was the request

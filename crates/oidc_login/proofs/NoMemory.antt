@@ -3,7 +3,7 @@ use Rattle.std.proofs.Common.{◌≡◌, ◌≢◌, ℕ, ℤ, Bool, true, false,
 use Rattle.std.specs.Prelude.{not, if◌then◌else◌, int_lt}
 use Rattle.std.specs.Str.{bytes_eq}
 use Rattle.oidc_types.specs.declared.core_algorithms.CoreJwsSigningAlgorithm.{CoreJwsSigningAlgorithm}
-use Rattle.oidc_keys.specs.Symmetric.{symmetric_verdict, compared}
+use Rattle.oidc_keys.specs.CoreJwk.{symmetric_verdict, compared}
 use Rattle.oidc_keys.specs.declared.refusals.SignatureVerificationError.{SignatureVerificationError}
 use Rattle.oidc_keys.specs.declared.refusals.SignatureVerificationError.TheVariants as signature
 use Rattle.oidc_login.specs.Client.{SeenClient}

@@ -5,7 +5,7 @@ use Rattle.oidc_types.specs.declared.core_algorithms.CoreJwsSigningAlgorithm.{Co
 use Rattle.oidc_types.specs.{signing_text}
 use Rattle.oidc_keys.specs.declared.refusals.SignatureVerificationError.{SignatureVerificationError}
 use Rattle.oidc_keys.specs.declared.refusals.SignatureVerificationError.TheVariants.{DisallowedAlg}
-use Rattle.oidc_keys.specs.Symmetric.{symmetric_verdict}
+use Rattle.oidc_keys.specs.CoreJwk.{symmetric_verdict}
 use Rattle.oidc_login.specs.Client.{SeenClient}
 use Rattle.oidc_login.specs.Claims.{SeenIdTokenClaims}
 use Rattle.oidc_login.specs.IdToken.{SeenIdToken}

@@ -1,5 +1,5 @@
 //! The answers on a callback line.
-ghost use Rattle.std.specs.Prelude.{◌≡◌, [], ◌∷◌, map, option_map, IfOk};
+ghost use Rattle.std.specs.Prelude.{◌≡◌, [], ◌∷◌, map, option_map, unwrap_or, IfOk};
 ghost use Rattle.std.specs.String.{string_bytes};
 ghost use Rattle.oidc_oauth2.specs.Messages.{seen_response};
 ghost use Rattle.oidc_oauth2.specs.Recorded.{seen_answer};
@@ -79,6 +79,16 @@ fn response_with(
     Ok(Response::from_parts(head, Body::new(body.into_bytes())))
 }
 
+// A text, or the empty one where there is none.
+fn or_empty(alloc: Global, text: Option<String>) -> String
+    ensures { string_bytes result ≡ unwrap_or (option_map string_bytes text) [] }
+{
+    match text {
+        Some(text) => text,
+        None => String::new(alloc),
+    }
+}
+
 // The response of a line with a status.
 #[tactic(auto, unfolding(crate::specs::Script::response_of))]
 fn read_response(alloc: Global, line: &Pairs) -> Result<HttpResponse, LineError>
@@ -87,8 +97,7 @@ fn read_response(alloc: Global, line: &Pairs) -> Result<HttpResponse, LineError>
     let status = pair_status(line, "token_status")?;
     let content_type = optional_content_type(alloc, line, "token_type")?;
     let body = optional_text(alloc, line, "token_body")?;
-    let body = body.unwrap_or(String::new(alloc));
-    match response_with(alloc, status, content_type, body) {
+    match response_with(alloc, status, content_type, or_empty(alloc, body)) {
         Ok(response) => Ok(response),
         Err(_) => Err(LineError::Memory),
     }

@@ -1,0 +1,5 @@
+use Rattle.oidc_login.proofs.Called.{no_inner_memory}
+use Rattle.oidc_login.proofs.logins.Logins.callback.Goals as goal
+
+pub returns-clause-no_inner_memory : goal.returns-clause-no_inner_memory
+returns-clause-no_inner_memory g c = no_inner_memory _ _ _ _ c.drive.ensures.ran
