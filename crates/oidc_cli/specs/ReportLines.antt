@@ -8,7 +8,7 @@ use Rattle.form_urlencoded.specs.Form.{ampersand, serialize_pair}
 use Rattle.oidc_pairs.specs.Form.{form, escaped}
 use Rattle.oidc_members.specs.declared.refusal.Refusal.{Refusal}
 use Rattle.oidc_members.specs.declared.refusal.ParseKind.{ParseKind}
-use Rattle.oidc_members.specs.declared.refusal.ParseKind.TheVariants as kind
+use Rattle.oidc_members.specs.declared.refusal.ParseKind.TheVariants as parse_kind
 use Rattle.oidc_members.specs.Write.{object_text}
 use Rattle.oidc_keys.specs.declared.refusals.SignatureVerificationError.{SignatureVerificationError}
 use Rattle.oidc_keys.specs.declared.refusals.SignatureVerificationError.TheVariants as signature
@@ -21,7 +21,7 @@ use Rattle.oidc_login.specs.declared.errors.LoginError.TheVariants as login
 use Rattle.oidc_oauth2.specs.Messages.{SeenRequest}
 use Rattle.oidc_oauth2.specs.Words.{error_text}
 use Rattle.oidc_oauth2.specs.declared.token_answers.OtherCause.TheVariants as other
-use Rattle.oidc_oauth2.specs.declared.token_answers.RequestTokenError.TheVariants as token
+use Rattle.oidc_oauth2.specs.declared.token_answers.RequestTokenError.TheVariants as token_error
 use Rattle.oidc_login.specs.TokenResponse.{TokenError}
 use Rattle.oidc_login.specs.Errors.{Error}
 use Rattle.oidc_login.specs.Logins.{Pending}
@@ -73,7 +73,7 @@ request_lines (request ∷ later) = request_line request ++ request_lines later
 
 abbrev pub refresh_pair : Option (List ℕ) → List (List ℕ × List ℕ)
 refresh_pair None = []
-refresh_pair (Some token) = (codes "refresh_token", token) ∷ []
+refresh_pair (Some text) = (codes "refresh_token", text) ∷ []
 
 abbrev pub signed_list : SeenSignedIn → List (List ℕ × List ℕ)
 signed_list signed =
@@ -102,17 +102,17 @@ claims_word Expired = codes "expired"
 claims_word InvalidNonce = codes "invalid_nonce"
 
 abbrev pub kind_word : ParseKind → List ℕ
-kind_word kind.Syntax = codes "syntax"
-kind_word kind.Number = codes "number"
-kind_word kind.Duplicate = codes "duplicate"
-kind_word kind.UnexpectedTag = codes "tag"
-kind_word kind.WrongType = codes "type"
-kind_word kind.Missing = codes "missing"
-kind_word kind.Url = codes "url"
-kind_word kind.Moment = codes "moment"
-kind_word kind.Token = codes "token"
-kind_word kind.Algorithm = codes "algorithm"
-kind_word kind.Additional = codes "additional"
+kind_word parse_kind.Syntax = codes "syntax"
+kind_word parse_kind.Number = codes "number"
+kind_word parse_kind.Duplicate = codes "duplicate"
+kind_word parse_kind.UnexpectedTag = codes "tag"
+kind_word parse_kind.WrongType = codes "type"
+kind_word parse_kind.Missing = codes "missing"
+kind_word parse_kind.Url = codes "url"
+kind_word parse_kind.Moment = codes "moment"
+kind_word parse_kind.Token = codes "token"
+kind_word parse_kind.Algorithm = codes "algorithm"
+kind_word parse_kind.Additional = codes "additional"
 
 abbrev pub parse_words : Refusal → List ℕ
 parse_words refusal =
@@ -120,14 +120,14 @@ parse_words refusal =
 
 -- `TooLong` and `Memory` never stand inside a refusal of a callback, and have no words here
 abbrev pub token_words : TokenError → List ℕ
-token_words (token.ServerResponse error) = codes "server " ++ escaped (error_text error.error)
-token_words (token.Request cause) = codes "request"
-token_words (token.Parse refusal body) = parse_words refusal
-token_words (token.Other other.Uri) = codes "uri"
-token_words (token.Other other.EmptyBody) = codes "empty_body"
-token_words (token.Other other.MediaType) = codes "media_type"
-token_words (token.TooLong body) = []
-token_words token.Memory = []
+token_words (token_error.ServerResponse error) = codes "server " ++ escaped (error_text error.error)
+token_words (token_error.Request cause) = codes "request"
+token_words (token_error.Parse refusal body) = parse_words refusal
+token_words (token_error.Other other.Uri) = codes "uri"
+token_words (token_error.Other other.EmptyBody) = codes "empty_body"
+token_words (token_error.Other other.MediaType) = codes "media_type"
+token_words (token_error.TooLong body) = []
+token_words token_error.Memory = []
 
 -- No callback means want of memory, and so it has no line here.
 unfoldable pub verdict_line : Result SeenSignedIn Error → List ℕ
