@@ -1,5 +1,5 @@
 -- Each cause has its row: the facts of a cause compute the reply.
-use Rattle.std.proofs.Common.{◌≡◌, ◌≢◌, ℕ, List, [], ◌∷◌, Bool, true, false, Option, None, Some, Result, Ok, Err, refl, sym, ap, ◌∙◌, ⊎_elim}
+use Rattle.std.proofs.Common.{◌≡◌, ◌≢◌, ℕ, List, [], ◌∷◌, true, Some, Ok, Err, refl, sym, ap, ◌∙◌, ⊎_elim}
 use Rattle.std.specs.Prelude.{is_some, codes}
 use Rattle.oidc_pairs.specs.Pairs.{pairs, values, first_of as first_value}
 use Rattle.oidc_oauth2.specs.Messages.{SeenRequest, SeenResponse, SeenAnswer}
@@ -10,9 +10,8 @@ use Rattle.oidc_login.specs.Logins.{SeenLogin}
 use Rattle.oidc_login.specs.TokenResponse.{Tokens, TokenError}
 use Rattle.oidc_login.specs.SignedIn.{SeenSignedIn}
 use Rattle.oidc_login.specs.Errors.{Error}
-use Rattle.oidc_login.specs.Rows.{Attempt, Meant, opening, tokens_in, signing_in, signed_by, after_token, with_token, outcome}
-use Rattle.oidc_login.specs.Causes.{Names, Asks, Held, Reads, HasText, Holds, IsSignedIn, HasError, HasOtherText, HasNoTokens, TooLongCause, TokenCause, Cause}
-use Rattle.oidc_login.specs.declared.steps.Opened.{Opened}
+use Rattle.oidc_login.specs.Rows.{Attempt, Meant, opening, tokens_in, signing_in, after_token, with_token, outcome}
+use Rattle.oidc_login.specs.Causes.{Asks, Reads, IsSignedIn, HasError, HasOtherText, HasNoTokens, TooLongCause, TokenCause, Cause}
 use Rattle.oidc_login.specs.declared.errors.TooLong.{TooLong}
 use Rattle.oidc_login.specs.declared.errors.TooLong.TheVariants as place
 use Rattle.oidc_login.specs.declared.errors.LoginError.TheVariants as login

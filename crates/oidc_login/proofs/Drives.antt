@@ -1,9 +1,9 @@
 -- A callback, return by return: what was handed over, and which reply and requests are meant.
-use Rattle.std.proofs.Common.{◌≡◌, ℕ, zero, suc, List, [], ◌∷◌, ◌++◌, length, take, Bool, true, false, Option, None, Some, Result, Ok, Err, refl, sym, ap, subst, ◌∙◌, ◌≤◌, lit≤, arith, append-nil, inl, inr}
-use Rattle.std.specs.Prelude.{◌⊎◌, IfOk, IfErr, OnOk, drop}
+use Rattle.std.proofs.Common.{◌≡◌, ℕ, zero, suc, List, [], ◌∷◌, length, take, Bool, true, Option, None, Some, Result, Ok, Err, refl, sym, ap, subst, ◌∙◌, ◌≤◌, lit≤, arith, append-nil, inl, inr}
+use Rattle.std.specs.Prelude.{◌⊎◌, IfOk, IfErr, OnOk}
 use Rattle.oidc_pairs.specs.Pairs.{pairs}
 use Rattle.oidc_oauth2.specs.Messages.{SeenRequest, SeenAnswer}
-use Rattle.oidc_oauth2.specs.Transport.{Log, log_after, Plays, first_of}
+use Rattle.oidc_oauth2.specs.Transport.{Log, log_after, Plays}
 use Rattle.oidc_oauth2.specs.Exchanges.{Known}
 use Rattle.oidc_login.specs.SignedIn.{SeenSignedIn}
 use Rattle.oidc_login.specs.Errors.{Error, seen, memory_of, Unless, OrMemory, Gives}

@@ -1,7 +1,7 @@
 -- Each row of the table has its cause: one line for each row, in the order of the table.
-use Rattle.std.proofs.Common.{◌≡◌, ◌≢◌, ℕ, ℤ, List, [], ◌∷◌, Bool, true, false, Option, None, Some, Result, Ok, Err, refl, sym, subst, inl, inr}
+use Rattle.std.proofs.Common.{◌≡◌, ◌≢◌, ℕ, List, [], ◌∷◌, true, false, Some, Ok, Err, refl, subst, inl, inr}
 use Rattle.std.specs.Prelude.{is_some, codes}
-use Rattle.oidc_pairs.specs.Pairs.{pairs, values, only_of, first_of as first_value}
+use Rattle.oidc_pairs.specs.Pairs.{pairs, values, first_of as first_value}
 use Rattle.oidc_oauth2.specs.Messages.{SeenRequest, SeenResponse, SeenAnswer}
 use Rattle.oidc_oauth2.specs.Transport.{first_of}
 use Rattle.oidc_oauth2.specs.TokenAnswers.{is_over_long}
@@ -12,7 +12,6 @@ use Rattle.oidc_login.specs.TokenRequest.{token_request}
 use Rattle.oidc_login.specs.TokenResponse.{Tokens, TokenError, tokens_or_refusal}
 use Rattle.oidc_login.specs.IdToken.{token_of}
 use Rattle.oidc_login.specs.Verification.{first_failure}
-use Rattle.oidc_login.specs.SignedIn.{SeenSignedIn}
 use Rattle.oidc_login.specs.Errors.{Error}
 use Rattle.oidc_login.specs.Rows.{Attempt, Meant, login_named_by, error_in, code_in, opening, tokens_in, signing_in, after_token, with_token, outcome}
 use Rattle.oidc_login.specs.Causes.{Names, HasCode, Asks, Held, Answered, Reads, HasText, Holds, IsSignedIn, TokenCause, Cause}

@@ -1,6 +1,6 @@
 -- The table of a callback: what it answers and sends, row by row, in the order of the rows: RFC 6749
 -- sections 4.1.2 to 4.1.4, OpenID Connect Core 1.0 section 3.1.3.
-use Rattle.std.specs.Prelude.{ℕ, ℤ, List, [], ◌∷◌, Bool, true, false, Option, None, Some, is_some, option_and_then, Result, Ok, Err, codes}
+use Rattle.std.specs.Prelude.{ℕ, ℤ, List, [], ◌∷◌, Option, None, Some, is_some, option_and_then, Result, Ok, Err, codes}
 use Rattle.std.specs.FinMap as finite
 use Rattle.oidc_pairs.specs.Pairs.{pairs, values_in, only_of, first_of as first_value}
 use Rattle.oidc_oauth2.specs.Messages.{SeenRequest, SeenResponse, SeenAnswer}
