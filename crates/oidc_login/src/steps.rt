@@ -219,8 +219,8 @@ fn exchange<H: SyncHttpClient>(
     ensures exchanged { let before = known (H.log http.old) (H.script http.old) in
         let after = known (H.log http.new) (H.script http.new) in
         MatchResult result
-            (λ answer. Exchanged before after request (answer_of answer))
-            (λ e. Untouched before after) }
+        (λ answer. Exchanged before after request (answer_of answer))
+        (λ e. Untouched before after) }
     ensures never_falls { H.faults http.old ≤ H.faults http.new }
     ensures blamed { MatchResult result
         (λ answer. answer_of answer ≡ None → HasRisen (H.faults http.old) (H.faults http.new))
