@@ -1,16 +1,14 @@
 -- The lines of callbacks, and what their refusals leave.
-use Rattle.std.proofs.Common.{◌≡◌, ℕ, ℤ, suc, take, Option, None, Some, subst, ◌+◌, ◌<◌, List, [], ◌∷◌, ◌++◌, drop, length, get_or, Result, Ok, Err, Bool, refl, sym, ap, ◌∙◌, arith, add-one, drop-cons}
+use Rattle.std.proofs.Common.{◌≡◌, ℕ, suc, take, Option, None, Some, subst, ◌+◌, ◌<◌, List, [], ◌∷◌, ◌++◌, drop, length, get_or, Result, Ok, Err, Bool, refl, sym, ap, ◌∙◌, arith, add-one, drop-cons}
 use Rattle.std.proofs.Math.Seq.{take-length}
-use Rattle.oidc_pairs.specs.Pairs.{pairs}
 use Rattle.oidc_oauth2.specs.Messages.{SeenRequest, SeenAnswer}
-use Rattle.oidc_oauth2.specs.Transport.{Log, log_after, Plays, played, first_of}
+use Rattle.oidc_oauth2.specs.Transport.{Log, log_after, Plays}
 use Rattle.oidc_oauth2.specs.Exchanges.{Known}
-use Rattle.oidc_login.specs.Client.{SeenClient}
 use Rattle.oidc_login.specs.SignedIn.{SeenSignedIn}
 use Rattle.oidc_login.specs.Errors.{memory_of, reply_of, Unless}
-use Rattle.oidc_login.specs.Rows.{Attempt, Meant, Run, opening, after_token, with_token, outcome}
+use Rattle.oidc_login.specs.Rows.{Attempt, Run, outcome}
 use Rattle.oidc_login.specs.Runs.{Ran, handed_over}
-use Rattle.oidc_login.specs.declared.steps.Opened.{Opened}
+use Rattle.oidc_login.proofs.Theorems.{outcome-of_script}
 use Rattle.oidc_login.specs.declared.errors.LoginError.{LoginError}
 use Rattle.oidc_login.specs.declared.errors.LoginError.TheVariants as login
 use Rattle.oidc_cli.specs.ReportLines.{request_line, request_lines}
@@ -35,18 +33,9 @@ there_was_memory login.NoIdToken memory fact = fact
 there_was_memory (login.Claims kind) memory fact = fact
 there_was_memory (login.Memory spent) memory fact = absurd (memory spent refl)
 
-module _ (client : SeenClient) (now : ℤ) where
-  -- answers that are the next ones of a script give what the script gives
-  same_by : (m : Meant Opened) (answers script : List SeenAnswer) → answers ≡ played script (length answers)
-      → length answers ≡ length (with_token client now answers m).sent → with_token client now answers m ≡ with_token client now script m
-  same_by (Err e) answers script plays all = refl
-  same_by (Ok o) answers script plays all =
-      ap (λ (answer : SeenAnswer). record { reply = after_token client now o.login answer; sent = o.request ∷ [] })
-      (ap first_of (subst (λ n. answers ≡ played script n) all plays))
-
 module _ {E : Type 0} (a : Attempt) (old new : Known) (result : Result SeenSignedIn (LoginError E)) (ran : Ran a old new result) (script : List SeenAnswer) where
   same : old.script ≡ Some script → length ran.answers ≡ length (outcome a ran.answers).sent → outcome a ran.answers ≡ outcome a script
-  same is all = same_by a.client a.now (opening a.client a.pending (pairs a.query)) ran.answers script (subst (λ s. Plays s ran.answers new.script) is ran.plays).0 all
+  same is all = outcome-of_script a ran.answers script (subst (λ s. Plays s ran.answers new.script) is ran.plays).0 all
 
   -- the reply and the requests are those that the script gives
   pub recorded_reply : old.script ≡ Some script → length ran.answers ≡ length (outcome a ran.answers).sent

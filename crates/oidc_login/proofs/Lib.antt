@@ -1,3 +1,4 @@
+pub mod Theorems
 pub mod Entries
 pub mod Extended
 pub mod Begun
