@@ -1,5 +1,5 @@
 -- The lines of callbacks, and what their refusals leave.
-use Rattle.std.proofs.Common.{◌≡◌, ℕ, suc, take, Option, None, Some, subst, ◌+◌, ◌<◌, List, [], ◌∷◌, ◌++◌, drop, length, get_or, Result, Ok, Err, Bool, refl, sym, ap, ◌∙◌, arith, add-one, drop-cons}
+use Rattle.std.proofs.Common.{◌≡◌, ℕ, suc, take, None, Some, subst, ◌+◌, ◌<◌, List, [], ◌++◌, drop, length, get_or, Result, Bool, refl, sym, ap, ◌∙◌, add-one, drop-cons}
 use Rattle.std.proofs.Math.Seq.{take-length}
 use Rattle.oidc_oauth2.specs.Messages.{SeenRequest, SeenAnswer}
 use Rattle.oidc_oauth2.specs.Transport.{Log, log_after, Plays}

@@ -1,6 +1,5 @@
 -- Form texts, pair by pair.
-use Rattle.std.proofs.Common.{◌≡◌, ℕ, List, [], ◌∷◌, ◌++◌, map, codes, Ok, refl, sym, ap, ◌∙◌, append_assoc, append-nil}
-use Rattle.std.specs.List.{join_with_byte}
+use Rattle.std.proofs.Common.{◌≡◌, ℕ, List, [], ◌∷◌, ◌++◌, codes, Ok, refl, sym, ap, ◌∙◌, append_assoc, append-nil}
 use Rattle.form_urlencoded.specs.Form.{serialize_pair}
 use Rattle.http_header.specs.HeaderMap.{get}
 use Rattle.oidc_pairs.specs.Form.{form}
@@ -10,7 +9,7 @@ use Rattle.oidc_members.specs.declared.refusal.Refusal.{Refusal}
 use Rattle.oidc_login.specs.SignedIn.{SeenSignedIn}
 use Rattle.oidc_login.specs.Claims.{written}
 use Rattle.oidc_cli.specs.ReportLines.{behind}
-use Rattle.oidc_cli.specs.ReportLines.{header_pair, body_pair, request_list, request_line, refresh_pair, kind_word, parse_words, verdict_line}
+use Rattle.oidc_cli.specs.ReportLines.{header_pair, body_pair, request_line, refresh_pair, kind_word, parse_words, verdict_line}
 
 form_first : (pair : List ℕ × List ℕ) (list : List (List ℕ × List ℕ)) → form (pair ∷ list) ≡ serialize_pair pair ++ behind list
 unfolding form

@@ -18,8 +18,8 @@ use oidc_login::signed_in::SignedIn;
 use oidc_login::tokens::verification::ClaimsVerificationError;
 use oidc_members::{ParseKind, Refusal, write_object};
 use oidc_oauth2::{
-    CoreErrorResponseType, CoreRequestTokenError, Fault, HttpRequest, OtherCause, RequestTokenError,
-    StandardErrorResponse,
+    CoreErrorResponseType, CoreRequestTokenError, Fault, HttpRequest, OtherCause,
+    RequestTokenError, StandardErrorResponse,
 };
 use oidc_types::{RefreshToken, Vocabulary};
 use std::alloc::{AllocError, Global};

@@ -1,4 +1,4 @@
-use Rattle.std.proofs.Common.{◌≡◌, [], Some, refl, ap, ◌∙◌}
+use Rattle.std.proofs.Common.{◌≡◌, Some, refl, ap, ◌∙◌}
 use Rattle.oidc_oauth2.specs.Transport.{Log}
 use Rattle.oidc_login.specs.Rows.{Run, outcome}
 use Rattle.oidc_login.specs.Runs.{attempt}

@@ -1,4 +1,4 @@
-use Rattle.std.proofs.Common.{◌≡◌, ◌++◌, refl, ap, ◌∙◌}
+use Rattle.std.proofs.Common.{refl}
 use Rattle.std.specs.String.{string_bytes}
 use Rattle.oidc_cli.proofs.FormTexts.{request_text}
 use Rattle.oidc_cli.proofs.report_lines.request_line.Goals as goal

@@ -1,4 +1,4 @@
-use Rattle.std.proofs.Common.{◌≡◌, ◌++◌, refl, ap, ◌∙◌}
+use Rattle.std.proofs.Common.{◌≡◌, refl, ap, ◌∙◌}
 use Rattle.std.specs.String.{string_bytes}
 use Rattle.oidc_members.specs.Write.{any_float, object_text}
 use Rattle.oidc_login.specs.Claims.{written}
