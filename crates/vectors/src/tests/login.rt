@@ -111,7 +111,10 @@ fn login(alloc: Global, client: &Client, given: Given) -> Result<String, Fail> {
     Ok(format!(in alloc; "{before} {after} {sent} {answered}")?)
 }
 
-fn answer(alloc: Global, reply: Result<oidc_login::SignedIn, LoginError<Fault>>) -> Result<String, Fail> {
+fn answer(
+    alloc: Global,
+    reply: Result<oidc_login::SignedIn, LoginError<Fault>>,
+) -> Result<String, Fail> {
     match reply {
         Ok(signed) => {
             let subject = signed.claims().subject().as_str();
@@ -132,10 +135,26 @@ fn login_at(alloc: Global, len: usize, given: Given) -> Result<String, Fail> {
 // that is judged, of 1,048,576. After each the login is gone.
 const CASES: [(usize, Given, &str); 8] = [
     (5, Given::Plain, "true false 1 u1 abc true"),
-    (5, Given::Fault, "true false 1 no tokens: the request failed"),
-    (5, Given::Nothing, "true false 1 no tokens: the request failed"),
-    (65_518, Given::Nothing, "true false 1 no tokens: the request failed"),
-    (65_519, Given::Nothing, "true false 0 no tokens: an address that is not sent to"),
+    (
+        5,
+        Given::Fault,
+        "true false 1 no tokens: the request failed",
+    ),
+    (
+        5,
+        Given::Nothing,
+        "true false 1 no tokens: the request failed",
+    ),
+    (
+        65_518,
+        Given::Nothing,
+        "true false 1 no tokens: the request failed",
+    ),
+    (
+        65_519,
+        Given::Nothing,
+        "true false 0 no tokens: an address that is not sent to",
+    ),
     (
         5,
         Given::Blank(StatusCode::OK, 1_048_576),
