@@ -5,3 +5,4 @@ mod Exchanged
 mod FaultCounts
 mod NoFaults
 mod PairLists
+mod Unknown

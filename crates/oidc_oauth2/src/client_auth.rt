@@ -48,7 +48,11 @@ pub enum ConfigurationError {
 }
 
 // Client ID and secret, form-coded, with a colon between them.
-fn plain_credentials(alloc: Global, id: &ClientId, secret: &ClientSecret) -> Result<String, AllocError>
+fn plain_credentials(
+    alloc: Global,
+    id: &ClientId,
+    secret: &ClientSecret,
+) -> Result<String, AllocError>
     ensures { IfOk result
         (λ plain. string_bytes plain ≡ escaped id.now ++ codes ":" ++ escaped secret.now) }
 {
@@ -60,7 +64,11 @@ fn plain_credentials(alloc: Global, id: &ClientId, secret: &ClientSecret) -> Res
 }
 
 // The Basic credentials of a client, which are a header's value.
-fn credentials_text(alloc: Global, id: &ClientId, secret: &ClientSecret) -> Result<String, AllocError>
+fn credentials_text(
+    alloc: Global,
+    id: &ClientId,
+    secret: &ClientSecret,
+) -> Result<String, AllocError>
     ensures text { IfOk result (λ text. string_bytes text ≡ spec.basic_credentials id.now secret.now) }
     ensures valid { IfOk result (λ text. IsFieldValue (string_bytes text)) }
 {

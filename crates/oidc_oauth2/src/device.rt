@@ -31,8 +31,9 @@ pub struct StandardDeviceAuthorizationResponse<EF: ExtraDeviceAuthorizationField
 pub type DeviceAuthorizationResponse<EF> = StandardDeviceAuthorizationResponse<EF>;
 
 /// A device authorization response without extra fields.
-pub type CoreDeviceAuthorizationResponse =
-    StandardDeviceAuthorizationResponse<EmptyExtraDeviceAuthorizationFields>;
+pub type CoreDeviceAuthorizationResponse = StandardDeviceAuthorizationResponse<
+    EmptyExtraDeviceAuthorizationFields,
+>;
 
 impl<EF: ExtraDeviceAuthorizationFields> Model for StandardDeviceAuthorizationResponse<EF> {
     ghost use Rattle.std.specs.Duration.{as_nanos};
@@ -111,12 +112,12 @@ impl MemberReader for DeviceFields {
     ghost state = { device_fields };
 
     fn take(&mut self, alloc: Global, member: &Member) -> Result<(), ParseError> {
-        let uri =
-            self.verification_uri
-                .take_either(alloc, "verification_uri", "verification_url", member);
-        let complete =
-            self.verification_uri_complete
-                .take(alloc, "verification_uri_complete", member);
+        let uri = self
+            .verification_uri
+            .take_either(alloc, "verification_uri", "verification_url", member);
+        let complete = self
+            .verification_uri_complete
+            .take(alloc, "verification_uri_complete", member);
         self.device_code
             .take(alloc, "device_code", member)
             .and(self.user_code.take(alloc, "user_code", member))

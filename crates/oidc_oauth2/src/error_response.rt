@@ -87,7 +87,10 @@ impl MemberReader for ErrorFields {
     fn take(&mut self, alloc: Global, member: &Member) -> Result<(), ParseError> {
         self.error
             .take(alloc, "error", member)
-            .and(self.error_description.take(alloc, "error_description", member))
+            .and(
+                self.error_description
+                    .take(alloc, "error_description", member),
+            )
             .and(self.error_uri.take(alloc, "error_uri", member))
     }
 }
@@ -116,9 +119,9 @@ impl<T: ErrorResponseType> StandardErrorResponse<T> {
     /// A response of these three. It takes no memory.
     pub fn new(error: T, description: Option<String>, uri: Option<String>) -> Self
         ensures kept { result ≡ record {
-            error = error;
-            error_description = option_map string_bytes description;
-            error_uri = option_map string_bytes uri;
+          error = error;
+          error_description = option_map string_bytes description;
+          error_uri = option_map string_bytes uri;
         } }
     {
         StandardErrorResponse {

@@ -52,9 +52,15 @@ impl CoreErrorResponseType {
             CoreErrorResponseType::InvalidGrant => Ok(CoreErrorResponseType::InvalidGrant),
             CoreErrorResponseType::InvalidRequest => Ok(CoreErrorResponseType::InvalidRequest),
             CoreErrorResponseType::InvalidScope => Ok(CoreErrorResponseType::InvalidScope),
-            CoreErrorResponseType::UnauthorizedClient => Ok(CoreErrorResponseType::UnauthorizedClient),
-            CoreErrorResponseType::UnsupportedGrantType => Ok(CoreErrorResponseType::UnsupportedGrantType),
-            CoreErrorResponseType::Extension(other) => Ok(CoreErrorResponseType::Extension(other.clone_in(alloc)?)),
+            CoreErrorResponseType::UnauthorizedClient => Ok(
+                CoreErrorResponseType::UnauthorizedClient,
+            ),
+            CoreErrorResponseType::UnsupportedGrantType => Ok(
+                CoreErrorResponseType::UnsupportedGrantType,
+            ),
+            CoreErrorResponseType::Extension(other) => Ok(CoreErrorResponseType::Extension(
+                other.clone_in(alloc)?,
+            )),
         }
     }
 }
@@ -62,7 +68,7 @@ impl CoreErrorResponseType {
 impl Vocabulary for CoreErrorResponseType {
     ghost use Rattle.std.specs.Prelude.{refl};
     ghost use Rattle.oidc_oauth2.specs.Words.{error_text, errors, error_of};
-    ghost use Rattle.oidc_types.specs.KeepsText.{keeps};
+    ghost use Rattle.oidc_oauth2.specs.KeepsText.{keeps};
     ghost use Rattle.oidc_oauth2.specs.declared.error_types.CoreErrorResponseType.TheVariants as error;
 
     ghost as_ref = { error_text };
@@ -139,11 +145,19 @@ impl DeviceCodeErrorResponseType {
         ensures copy { IfOk result (λ copy. copy ≡ self.now) }
     {
         match self {
-            DeviceCodeErrorResponseType::AuthorizationPending => Ok(DeviceCodeErrorResponseType::AuthorizationPending),
+            DeviceCodeErrorResponseType::AuthorizationPending => Ok(
+                DeviceCodeErrorResponseType::AuthorizationPending,
+            ),
             DeviceCodeErrorResponseType::SlowDown => Ok(DeviceCodeErrorResponseType::SlowDown),
-            DeviceCodeErrorResponseType::AccessDenied => Ok(DeviceCodeErrorResponseType::AccessDenied),
-            DeviceCodeErrorResponseType::ExpiredToken => Ok(DeviceCodeErrorResponseType::ExpiredToken),
-            DeviceCodeErrorResponseType::Basic(other) => Ok(DeviceCodeErrorResponseType::Basic(other.clone_in(alloc)?)),
+            DeviceCodeErrorResponseType::AccessDenied => Ok(
+                DeviceCodeErrorResponseType::AccessDenied,
+            ),
+            DeviceCodeErrorResponseType::ExpiredToken => Ok(
+                DeviceCodeErrorResponseType::ExpiredToken,
+            ),
+            DeviceCodeErrorResponseType::Basic(other) => Ok(DeviceCodeErrorResponseType::Basic(
+                other.clone_in(alloc)?,
+            )),
         }
     }
 }
@@ -152,7 +166,7 @@ impl Vocabulary for DeviceCodeErrorResponseType {
     ghost use Rattle.std.specs.Prelude.{refl};
     ghost use Rattle.oidc_oauth2.specs.Words.{error_text, errors, error_of};
     ghost use Rattle.oidc_oauth2.specs.Words.{device_error_text, device_errors, device_error_of};
-    ghost use Rattle.oidc_types.specs.KeepsText.{keeps};
+    ghost use Rattle.oidc_oauth2.specs.KeepsText.{keeps};
     ghost use Rattle.oidc_oauth2.specs.declared.error_types.DeviceCodeErrorResponseType.TheVariants as own;
     ghost use Rattle.oidc_oauth2.specs.declared.error_types.CoreErrorResponseType.TheVariants as error;
 
@@ -219,8 +233,12 @@ impl RevocationErrorResponseType {
         ensures copy { IfOk result (λ copy. copy ≡ self.now) }
     {
         match self {
-            RevocationErrorResponseType::UnsupportedTokenType => Ok(RevocationErrorResponseType::UnsupportedTokenType),
-            RevocationErrorResponseType::Basic(other) => Ok(RevocationErrorResponseType::Basic(other.clone_in(alloc)?)),
+            RevocationErrorResponseType::UnsupportedTokenType => Ok(
+                RevocationErrorResponseType::UnsupportedTokenType,
+            ),
+            RevocationErrorResponseType::Basic(other) => Ok(RevocationErrorResponseType::Basic(
+                other.clone_in(alloc)?,
+            )),
         }
     }
 }
@@ -229,7 +247,7 @@ impl Vocabulary for RevocationErrorResponseType {
     ghost use Rattle.std.specs.Prelude.{refl};
     ghost use Rattle.oidc_oauth2.specs.Words.{error_text, errors, error_of};
     ghost use Rattle.oidc_oauth2.specs.Words.{revocation_error_text, revocation_errors, revocation_error_of};
-    ghost use Rattle.oidc_types.specs.KeepsText.{keeps};
+    ghost use Rattle.oidc_oauth2.specs.KeepsText.{keeps};
     ghost use Rattle.oidc_oauth2.specs.declared.error_types.RevocationErrorResponseType.TheVariants as own;
     ghost use Rattle.oidc_oauth2.specs.declared.error_types.CoreErrorResponseType.TheVariants as error;
 

@@ -27,7 +27,7 @@ pub trait ExtraTokenFields: Drop {
 }
 
 /// No fields beside those of the standard.
-#[derive(Clone, Copy, Debug, Default, PartialEq, Eq)]
+#[derive(Clone, Copy, Debug, Default)]
 pub struct EmptyExtraTokenFields;
 
 impl ExtraTokenFields for EmptyExtraTokenFields {
@@ -57,7 +57,7 @@ pub trait ExtraDeviceAuthorizationFields: Drop {
 }
 
 /// No fields beside those of the standard.
-#[derive(Clone, Copy, Debug, Default, PartialEq, Eq)]
+#[derive(Clone, Copy, Debug, Default)]
 pub struct EmptyExtraDeviceAuthorizationFields;
 
 impl ExtraDeviceAuthorizationFields for EmptyExtraDeviceAuthorizationFields {

@@ -57,8 +57,10 @@ pub struct StandardTokenIntrospectionResponse<EF: ExtraTokenFields, TT: TokenTyp
 }
 
 /// An introspection response without extra fields.
-pub type CoreTokenIntrospectionResponse =
-    StandardTokenIntrospectionResponse<EmptyExtraTokenFields, CoreTokenType>;
+pub type CoreTokenIntrospectionResponse = StandardTokenIntrospectionResponse<
+    EmptyExtraTokenFields,
+    CoreTokenType,
+>;
 
 impl<EF: ExtraTokenFields, TT: TokenType> Model for StandardTokenIntrospectionResponse<EF, TT> {
     ghost use Rattle.std.specs.Prelude.{option_map};
@@ -181,8 +183,7 @@ fn type_in<TT: TokenType>(alloc: Global, text: Option<FieldName>) -> Result<Opti
 }
 
 impl<EF: ExtraTokenFields, TT: TokenType> TokenIntrospectionResponse
-    for StandardTokenIntrospectionResponse<EF, TT>
-{
+    for StandardTokenIntrospectionResponse<EF, TT> {
     ghost read_of = { spec.introspection_of TT.read_of EF.read_of };
 
     ghost active = { λ i. i.active };

@@ -36,8 +36,8 @@ pub use crate::extra::{
     ExtraTokenFields,
 };
 pub use crate::http_utils::{
-    BEARER, BearerError, MIME_TYPE_JSON, MIME_TYPE_JWKS, MIME_TYPE_JWT, UnexpectedType, auth_bearer,
-    check_content_type, content_type_has_essence,
+    BEARER, BearerError, MIME_TYPE_JSON, MIME_TYPE_JWKS, MIME_TYPE_JWT, UnexpectedType,
+    auth_bearer, check_content_type, content_type_has_essence,
 };
 pub use crate::introspection::{
     CoreTokenIntrospectionResponse, StandardTokenIntrospectionResponse, TokenIntrospectionResponse,

@@ -2,7 +2,7 @@
 
 ghost use Rattle.std.specs.Prelude.{◌≡◌, ◌↔◌, false, IfOk, IsErrOf, OnOk, OnErr, codes};
 ghost use Rattle.std.specs.String.{string_bytes};
-ghost use Rattle.oidc_types.specs.Random.{next_bytes, random_text, IsBeforeOrAfter};
+ghost use Rattle.oidc_types.specs.Random.{random_text, stream_after, IsBeforeOrAfter};
 ghost use Rattle.oidc_oauth2.specs.Pkce.{is_verifier, is_random_length, s256};
 
 use base64::engine::general_purpose::URL_SAFE_NO_PAD;
@@ -72,7 +72,7 @@ fn random_pair<R: Rng>(
 ) -> Result<(PkceCodeChallenge, PkceCodeVerifier), AllocError>
     ensures verifier { IfOk result (λ pair. pair.1 ≡ random_text num_bytes (R.stream rng.old)) }
     ensures challenge { IfOk result (λ pair. pair.0 ≡ s256 pair.1) }
-    ensures moved { OnOk result (R.stream rng.new ≡ (next_bytes num_bytes (R.stream rng.old)).1) }
+    ensures moved { OnOk result (R.stream rng.new ≡ stream_after num_bytes (R.stream rng.old)) }
     ensures err { OnErr result (IsBeforeOrAfter num_bytes (R.stream rng.old) (R.stream rng.new)) }
 {
     let text = Nonce::new_random_len(alloc, rng, num_bytes)?.into_string();
@@ -105,7 +105,7 @@ impl PkceCodeChallenge {
     ) -> Result<(Self, PkceCodeVerifier), AllocError>
         ensures verifier { IfOk result (λ pair. pair.1 ≡ random_text 32 (R.stream rng.old)) }
         ensures challenge { IfOk result (λ pair. pair.0 ≡ s256 pair.1) }
-        ensures moved { OnOk result (R.stream rng.new ≡ (next_bytes 32 (R.stream rng.old)).1) }
+        ensures moved { OnOk result (R.stream rng.new ≡ stream_after 32 (R.stream rng.old)) }
         ensures err { OnErr result (IsBeforeOrAfter 32 (R.stream rng.old) (R.stream rng.new)) }
     {
         random_pair(alloc, rng, 32)
@@ -122,7 +122,7 @@ impl PkceCodeChallenge {
     ) -> Result<(Self, PkceCodeVerifier), PkceError>
         ensures verifier { IfOk result (λ pair. pair.1 ≡ random_text num_bytes (R.stream rng.old)) }
         ensures challenge { IfOk result (λ pair. pair.0 ≡ s256 pair.1) }
-        ensures moved { OnOk result (R.stream rng.new ≡ (next_bytes num_bytes (R.stream rng.old)).1) }
+        ensures moved { OnOk result (R.stream rng.new ≡ stream_after num_bytes (R.stream rng.old)) }
         ensures length { IsErrOf result PkceError.Length ↔ (is_random_length num_bytes ≡ false) }
         ensures unmoved { IsErrOf result PkceError.Length → R.stream rng.new ≡ R.stream rng.old }
         ensures err { OnErr result (IsBeforeOrAfter num_bytes (R.stream rng.old) (R.stream rng.new)) }

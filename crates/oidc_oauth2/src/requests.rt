@@ -169,12 +169,12 @@ impl<'a, TE, TR> CodeTokenRequest<'a, TE, TR> {
         code: AuthorizationCode,
     ) -> Self
         ensures kept { result ≡ record {
-            address = serialize endpoint.now.url;
-            client = seen_client auth.entry;
-            code = code;
-            verifier = None;
-            redirect_uri = None;
-            extra = [];
+          address = serialize endpoint.now.url;
+          client = seen_client auth.entry;
+          code = code;
+          verifier = None;
+          redirect_uri = None;
+          extra = [];
         } }
     {
         CodeTokenRequest {

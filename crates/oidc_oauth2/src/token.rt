@@ -184,12 +184,12 @@ impl<EF: ExtraTokenFields, TT: TokenType> StandardTokenResponse<EF, TT> {
     /// A response with these three, and nothing else. It takes no memory.
     pub fn new(access_token: AccessToken, token_type: TT, extra_fields: EF) -> Self
         ensures kept { result ≡ record {
-            access_token = access_token;
-            token_type = token_type;
-            expires_in = None;
-            refresh_token = None;
-            scopes = None;
-            extra_fields = extra_fields;
+          access_token = access_token;
+          token_type = token_type;
+          expires_in = None;
+          refresh_token = None;
+          scopes = None;
+          extra_fields = extra_fields;
         } }
     {
         StandardTokenResponse {
@@ -259,7 +259,12 @@ impl<EF: ExtraTokenFields, TT: TokenType> StandardTokenResponse<EF, TT> {
         put_text(alloc, &mut out, "access_token", self.access_token.secret())?;
         put_text(alloc, &mut out, "token_type", self.token_type.as_ref())?;
         put_optional_whole(alloc, &mut out, "expires_in", seconds_of(self.expires_in))?;
-        put_optional_text(alloc, &mut out, "refresh_token", text_of(&self.refresh_token))?;
+        put_optional_text(
+            alloc,
+            &mut out,
+            "refresh_token",
+            text_of(&self.refresh_token),
+        )?;
         let scope = optional_joined(alloc, &self.scopes)?;
         put_optional_text(alloc, &mut out, "scope", scope.as_deref())?;
         let mut extra_fields = self.extra_fields.write(alloc)?;

@@ -56,8 +56,10 @@ pub enum RequestTokenError<RE, T> {
 }
 
 /// Why a request to a token endpoint has no answer.
-pub type CoreRequestTokenError<RE> =
-    RequestTokenError<RE, StandardErrorResponse<CoreErrorResponseType>>;
+pub type CoreRequestTokenError<RE> = RequestTokenError<
+    RE,
+    StandardErrorResponse<CoreErrorResponseType>,
+>;
 
 // Whether a response has no media type, or that of JSON.
 fn may_be_json(response: &HttpResponse) -> bool
