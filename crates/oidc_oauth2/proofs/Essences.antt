@@ -1,5 +1,5 @@
 -- The essence of a media type, as it is cut out.
-use Rattle.std.proofs.Common.{◌≡◌, ◌<◌, ◌≤◌, ◌-◌, ℕ, Bool, true, false, List, length, take, drop, Option, Some, None, cond, nat_lt, refl, sym, ◌∙◌, ap, arith}
+use Rattle.std.proofs.Common.{◌≡◌, ◌≤◌, ◌-◌, ℕ, Bool, true, false, List, length, take, drop, Some, None, cond, nat_lt, refl, sym, ◌∙◌, ap, arith}
 use Rattle.std.specs.Prelude.{◌==◌, not}
 use Rattle.std.specs.List.{prefix_len, suffix_len, before_first, position, position_or_len}
 use Rattle.std.specs.Char.{is_ascii_whitespace}

@@ -1,5 +1,5 @@
 -- Pairs that were added one after another.
-use Rattle.std.proofs.Common.{◌≡◌, List, [], ◌∷◌, ◌++◌, Result, Ok, Err, OnOk, sym, ◌∙◌, ap, append_assoc}
+use Rattle.std.proofs.Common.{◌≡◌, List, [], ◌∷◌, ◌++◌, Result, Ok, Err, OnOk, ◌∙◌, ap, append_assoc}
 
 -- one pair, and then others
 pub one_and_others : {A E : Type 0} (r : Result (Unit {0}) E) (new mid form : List A) (x : A) (ys zs : List A)

@@ -1,5 +1,5 @@
 -- What crates above may cite: the refusals that a response is never worth.
-use Rattle.std.proofs.Common.{◌≡◌, ◌==◌, ℕ, List, Bool, true, false, cond, Result, Ok, Err, subst}
+use Rattle.std.proofs.Common.{◌==◌, ℕ, List, Bool, true, false, cond, Result, Ok, Err, subst}
 use Rattle.std.specs.Prelude.{not}
 use Rattle.oidc_members.specs.Seen.{SeenMember}
 use Rattle.oidc_members.specs.declared.refusal.Refusal.{Refusal}

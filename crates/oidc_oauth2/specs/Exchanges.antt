@@ -1,8 +1,6 @@
 -- What one request leaves of any transport.
-use Rattle.std.specs.Prelude.{◌≡◌, ◌≤◌, ℕ, List, length, take, Option, None, Some, Result, Ok, Err}
+use Rattle.std.specs.Prelude.{◌≡◌, ◌≤◌, ℕ, List, length, take, Option, None, Some, Result, Err}
 use Rattle.std.specs.Option.{option_to_list}
-use Rattle.oidc_members.specs.Seen.{SeenMember}
-use Rattle.oidc_members.specs.declared.refusal.Refusal.{Refusal}
 use Rattle.oidc_oauth2.specs.Messages.{SeenRequest, SeenResponse, SeenAnswer}
 use Rattle.oidc_oauth2.specs.Transport.{Log, log_after, Plays, HasRisen, first_of}
 use Rattle.oidc_oauth2.specs.TokenAnswers.{TokenRefusal, Gives}

@@ -1,5 +1,5 @@
 -- What a response to a token request is worth (RFC 6749 sections 5.1 and 5.2).
-use Rattle.std.specs.Prelude.{◌≡◌, ◌==◌, nat_lt, not, ℕ, List, length, Bool, true, false, Option, Result, Ok, Err, if◌then◌else◌, codes}
+use Rattle.std.specs.Prelude.{◌≡◌, ◌==◌, nat_lt, not, ℕ, List, length, Bool, true, false, Result, Ok, Err, if◌then◌else◌, codes}
 use Rattle.oidc_members.specs.Seen.{SeenMember}
 use Rattle.oidc_members.specs.Objects.{split_of}
 use Rattle.oidc_members.specs.declared.refusal.Refusal.{Refusal}

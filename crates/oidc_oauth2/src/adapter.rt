@@ -8,6 +8,7 @@ use std::alloc::Global;
 
 /// A transport that hands each request to a closure. Nothing is known of what went over it; it counts
 /// the closure's errors.
+#[derive(Drop)]
 pub struct Adapter<F> {
     call: F,
     faults: u64,
