@@ -91,8 +91,8 @@ fn essence(value: &[u8]) -> &[u8]
     before_parameters(value).trim_ascii()
 }
 
-/// Whether a header's value is visible ASCII, spaces and tabs alone, and what stands before its first
-/// `;`, without spaces and tabs around it, is the expected media type in either case of its letters
+/// Whether a header's value is visible ASCII, spaces and tabs alone, and what stands before its
+/// first `;`, without spaces and tabs around it, is the expected media type in either case of its letters
 /// (RFC 9110 section 8.3.1).
 pub fn content_type_has_essence(value: &HeaderValue, expected: &str) -> bool
     ensures essence { result ≡ spec.has_essence value.now.bytes expected.now }
@@ -103,7 +103,8 @@ pub fn content_type_has_essence(value: &HeaderValue, expected: &str) -> bool
 
 /// Refuses exactly where a `content-type` is there, and the first one hasn't the expected essence.
 pub fn check_content_type(headers: &HeaderMap, expected: &str) -> Result<(), UnexpectedType>
-    ensures accepts { IsOk result ↔ IsTrue (spec.may_be (spec.content_type_in headers.now) expected.now) }
+    ensures accepts { let found = spec.content_type_in headers.now in
+        IsOk result ↔ IsTrue (spec.may_be found expected.now) }
 {
     match headers.get(CONTENT_TYPE) {
         None => Ok(()),

@@ -111,10 +111,10 @@ impl PkceCodeChallenge {
         random_pair(alloc, rng, 32)
     }
 
-    /// A random verifier, and its challenge. The verifier is the base64url text, without padding, of
-    /// the next `num_bytes` bytes of the generator, each drawn by `random::<u8>()`. `Length` exactly
-    /// where `num_bytes` isn't 32 to 96; the generator then stands where it stood. Where there is no
-    /// memory, it stands there or behind these bytes.
+    /// A random verifier, and its challenge. The verifier is the base64url text, without padding,
+    /// of the next `num_bytes` bytes of the generator, each drawn by `random::<u8>()`. `Length`
+    /// exactly where `num_bytes` isn't 32 to 96; the generator then stands where it stood. Where
+    /// there is no memory, it stands there or behind these bytes.
     pub fn new_random_sha256_len<R: Rng>(
         alloc: Global,
         rng: &mut R,
@@ -125,7 +125,8 @@ impl PkceCodeChallenge {
         ensures moved { OnOk result (R.stream rng.new ≡ stream_after num_bytes (R.stream rng.old)) }
         ensures length { IsErrOf result PkceError.Length ↔ (is_random_length num_bytes ≡ false) }
         ensures unmoved { IsErrOf result PkceError.Length → R.stream rng.new ≡ R.stream rng.old }
-        ensures err { OnErr result (IsBeforeOrAfter num_bytes (R.stream rng.old) (R.stream rng.new)) }
+        ensures err { OnErr result
+            (IsBeforeOrAfter num_bytes (R.stream rng.old) (R.stream rng.new)) }
     {
         if num_bytes < 32 || num_bytes > 96 {
             return Err(PkceError::Length);

@@ -77,8 +77,8 @@ impl Kept {
     }
 }
 
-/// A transport in memory: it gives its answers in their order, and then faults. It keeps each request
-/// that was handed over, and of each response the three parts that are read.
+/// A transport in memory: it gives its answers in their order, and then faults. It keeps each
+/// request that was handed over, and of each response the three parts that are read.
 #[derive(Drop)]
 pub struct Recorded {
     next: Option<Answer>,
@@ -120,10 +120,12 @@ impl Recorded {
         }
     }
 
-    // Keeps the request, and what will be read of the next answer; or nothing where there is no memory.
+    // Keeps the request, and what will be read of the next answer; or nothing, where there is no
+    // memory.
     fn keep(&mut self, alloc: Global, request: HttpRequest) -> Result<(), AllocError>
         ensures requests { OnOk result (self.new.requests ≡ self.old.requests ++ request ∷ []) }
-        ensures given { OnOk result (self.new.given ≡ self.old.given ++ first_of self.old.left ∷ []) }
+        ensures given { OnOk result
+            (self.new.given ≡ self.old.given ++ first_of self.old.left ∷ []) }
         ensures left { OnOk result (self.new.left ≡ self.old.left) }
         ensures err { OnErr result (self.new ≡ self.old) }
     {

@@ -126,9 +126,9 @@ fn push_all(form: &mut FormText, pairs: &[(String, String)]) -> Result<(), Alloc
     Ok(())
 }
 
-/// The request that exchanges a code for tokens. `TE` is the error response, `TR` the token response.
-/// Contracts see its address, which is the text of the endpoint's parsed URL, the client, the code, its
-/// verifier, the text of the redirect, and the extra pairs.
+/// The request that exchanges a code for tokens. `TE` is the error response, `TR` the token
+/// response. Contracts see its address, which is the text of the endpoint's parsed URL, the client,
+/// the code, its verifier, the text of the redirect, and the extra pairs.
 #[derive(Drop)]
 pub struct CodeTokenRequest<'a, TE, TR> {
     endpoint: &'a TokenUrl,
@@ -206,8 +206,9 @@ impl<'a, TE, TR> CodeTokenRequest<'a, TE, TR> {
 
     /// With one more pair behind all others. `AllocError` is want of memory, the one error.
     pub fn add_extra_param(mut self, name: String, value: String) -> Result<Self, AllocError>
-        ensures added { let extra = self.entry.extra ++ (string_bytes name, string_bytes value) ∷ [] in
-            IfOk result (λ request. request ≡ record self.entry { extra = extra }) }
+        ensures added { IfOk result (λ request. request ≡ record self.entry {
+          extra = self.entry.extra ++ (string_bytes name, string_bytes value) ∷ [];
+        }) }
     {
         self.extra_params.push((name, value))?;
         Ok(self)
@@ -245,8 +246,8 @@ impl<'a, TE, TR> CodeTokenRequest<'a, TE, TR> {
         }
     }
 
-    /// The request as it is handed over: a POST to the endpoint. `Uri` exactly where its address isn't
-    /// one that is sent to: at most 65,534 bytes, each from 0x21 to 0x7E.
+    /// The request as it is handed over: a POST to the endpoint. `Uri` exactly where its address
+    /// isn't one that is sent to: at most 65,534 bytes, each from 0x21 to 0x7E.
     #[tactic(auto, unfolding(crate::specs::Requests::code_request))]
     pub fn prepare(&self, alloc: Global) -> Result<HttpRequest, PrepareError>
         ensures prepared { spec.Prepares result (spec.code_request self.now) }
@@ -262,8 +263,8 @@ impl<'a, TE, TR> CodeTokenRequest<'a, TE, TR> {
 }
 
 impl<'a, TE: ErrorResponse, TR: OAuth2TokenResponse> CodeTokenRequest<'a, TE, TR> {
-    /// Hands the request of `prepare` over, and answers what the response is worth. On `Uri` nothing is
-    /// handed over, and `Request` comes only where the transport failed.
+    /// Hands the request of `prepare` over, and answers what the response is worth. On `Uri` nothing
+    /// is handed over, and `Request` comes only where the transport failed.
     pub fn request<C: SyncHttpClient>(
         self,
         alloc: Global,
