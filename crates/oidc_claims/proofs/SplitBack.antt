@@ -8,7 +8,7 @@ use Rattle.oidc_members.specs.Objects.{members_of}
 use Rattle.oidc_members.specs.Write.{data_of, object_text}
 use Rattle.oidc_members.specs.declared.refusal.Refusal.{Refusal}
 use Rattle.oidc_readers.specs.WrittenBack.{MayBeWritten, IsUtf8Member, MembersAreWhole, MembersHaveTexts}
-use Rattle.oidc_readers.proofs.WrittenBack.{written_split_back}
+use Rattle.oidc_readers.proofs.Theorems.{written_split_back}
 use Rattle.oidc_claims.specs.declared.claim.Claim.TheVariants.{Address}
 use Rattle.oidc_claims.specs.declared.claims.address.AddressClaim.{AddressClaim}
 use Rattle.oidc_claims.specs.Seen.{SeenClaims}

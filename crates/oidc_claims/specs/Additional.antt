@@ -1,4 +1,5 @@
--- The claims beside the standard ones (OpenID Connect Core 1.0 section 5.1.2), and the laws of a type that keeps them.
+-- The claims beside the standard ones (OpenID Connect Core 1.0 section 5.1.2), and the laws of a type
+-- that keeps them.
 use Rattle.std.specs.Prelude.{◌≡◌, List, map, Bool, Result, Ok, IsTrue}
 use Rattle.std.specs.List.{list_all}
 use Rattle.oidc_members.specs.Seen.{SeenMember, OutSeen}
@@ -18,8 +19,11 @@ out_of m = record { name = m.name; value = m.value }
 
 module _ {Claims : Type 0} where
   -- What is written reads back, from every list of members with those names and values.
-  abbrev pub ReadsBack : (List SeenMember → Result Claims Refusal) → (Claims → List OutSeen) → Type 0
-  ReadsBack read write = (claims : Claims) (members : List SeenMember) → map out_of members ≡ write claims → read members ≡ Ok claims
+  abbrev pub ReadsBack : (List SeenMember → Result Claims Refusal) → (Claims → List OutSeen)
+      → Type 0
+  ReadsBack read write =
+      (claims : Claims) (members : List SeenMember) → map out_of members ≡ write claims
+      → read members ≡ Ok claims
 
   -- What is written has no name of a user info field, and none whose base is a standard claim.
   abbrev pub StaysAdditional : (Claims → List OutSeen) → Type 0

@@ -8,7 +8,8 @@ use Rattle.oidc_readers.specs.WrittenBack.{MayStand}
 module _ {Gender : Type 0} where
   -- what is written reads back, whatever the member's name and its text
   abbrev pub GenderReadsBack : (SeenMember → Result Gender Refusal) → (Gender → Data) → Type 0
-  GenderReadsBack read write = (gender : Gender) (member : SeenMember) → member.value ≡ write gender → read member ≡ Ok gender
+  GenderReadsBack read write =
+      (gender : Gender) (member : SeenMember) → member.value ≡ write gender → read member ≡ Ok gender
 
   -- what is written isn't null, and is one that a member may have
   abbrev pub GenderIsValue : (Gender → Data) → Type 0

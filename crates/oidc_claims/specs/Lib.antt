@@ -1,3 +1,8 @@
+-- Words of the crates below that public clauses cite
+pub use Rattle.oidc_members.specs.Answers
+pub use Rattle.oidc_members.specs.Objects
+pub use Rattle.oidc_readers.specs.Passes
+pub use Rattle.oidc_readers.specs.WrittenBack
 -- The claims and their table
 pub mod Table
 pub mod Seen
@@ -6,6 +11,8 @@ pub mod Home
 pub mod Address
 pub mod Claims
 pub mod Standard
+pub mod Slots
+pub mod Reader
 pub mod Gender
 pub mod Additional
 pub mod Others
@@ -15,6 +22,4 @@ pub mod Write
 pub mod SameClaims
 pub mod Same
 -- For private clauses
-pub mod Reader
-pub mod Slots
 pub mod SeenCode

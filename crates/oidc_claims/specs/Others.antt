@@ -1,4 +1,5 @@
--- Additional members kept whole, in their order; that the list and its fact are the value, which an impl cites.
+-- Additional members kept whole, in their order. That the list and its fact are the value is proved
+-- here, since an impl cites it.
 use Rattle.std.specs.Prelude.{◌≡◌, List, [], map, Bool, true, false, refl, Result, Ok}
 use Rattle.std.specs.Coded.{Coded, coded_list, code_by}
 use Rattle.std.proofs.Math.Bool.{Bool-set}

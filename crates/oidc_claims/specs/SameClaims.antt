@@ -64,7 +64,12 @@ module _ {Gender : Type 0} (gender_eq : Gender → Gender → Bool) where
       && option_eq int_eq a.updated_at b.updated_at
 
   abbrev pub same_claims : SeenClaims Gender → SeenClaims Gender → Bool
-  same_claims a b = pointwise nat_eq a.subject b.subject && same_names a b && same_pages a b && same_person a b && same_rest a b
+  same_claims a b =
+      pointwise nat_eq a.subject b.subject
+      && same_names a b
+      && same_pages a b
+      && same_person a b
+      && same_rest a b
 
 -- ---- for the laws of `==`: it is symmetric and transitive
 

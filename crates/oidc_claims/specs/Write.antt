@@ -1,4 +1,5 @@
--- The members that the standard claims are written as (OpenID Connect Core 1.0 sections 5.1, 5.1.1 and 5.2).
+-- The members that the standard claims are written as (OpenID Connect Core 1.0 sections 5.1, 5.1.1
+-- and 5.2).
 use Rattle.std.specs.Prelude.{◌≡◌, ◌≢◌, ℕ, ℤ, List, [], ◌∷◌, ◌++◌, map, Option, None, Some, option_map, Result, Ok, codes}
 use Rattle.std.specs.List.{All, flat_map}
 use Rattle.std.specs.FinMap as finite
@@ -33,7 +34,9 @@ part_members a part.Country = text_member (part_name part.Country) a.country
 
 -- in the byte order of their names
 abbrev pub parts_in_order : List AddressPart
-parts_in_order = part.Country ∷ part.Formatted ∷ part.Locality ∷ part.PostalCode ∷ part.Region ∷ part.StreetAddress ∷ []
+parts_in_order =
+    part.Country ∷ part.Formatted ∷ part.Locality ∷ part.PostalCode ∷ part.Region
+    ∷ part.StreetAddress ∷ []
 
 -- the parts of an address that are there
 abbrev pub address_members : AddressClaim → List OutSeen
@@ -70,7 +73,8 @@ module _ {GC : Type 0} (gender_data : GC → Data) where
   claim_members s FamilyName = variant_members FamilyName s.family_name
   claim_members s MiddleName = variant_members MiddleName s.middle_name
   claim_members s Nickname = variant_members Nickname s.nickname
-  claim_members s PreferredUsername = plain_member PreferredUsername (option_map string s.preferred_username)
+  claim_members s PreferredUsername =
+      plain_member PreferredUsername (option_map string s.preferred_username)
   claim_members s Profile = variant_members Profile s.profile
   claim_members s Picture = variant_members Picture s.picture
   claim_members s Website = variant_members Website s.website
@@ -82,7 +86,8 @@ module _ {GC : Type 0} (gender_data : GC → Data) where
   claim_members s Zoneinfo = plain_member Zoneinfo (option_map string s.zoneinfo)
   claim_members s Locale = plain_member Locale (option_map string s.locale)
   claim_members s PhoneNumber = plain_member PhoneNumber (option_map string s.phone_number)
-  claim_members s PhoneNumberVerified = plain_member PhoneNumberVerified (option_map boolean s.phone_number_verified)
+  claim_members s PhoneNumberVerified =
+      plain_member PhoneNumberVerified (option_map boolean s.phone_number_verified)
   claim_members s Address = plain_member Address (option_map address_data s.address)
   claim_members s UpdatedAt = plain_member UpdatedAt (option_map seconds_data s.updated_at)
 
@@ -122,7 +127,8 @@ pub record IsInRange {GC : Type 0} (claims : SeenClaims GC) : Type 0 where
   pub updated_at : IsWholeSecond claims.updated_at
 
 -- The object's text of those members is read as these claims.
-abbrev pub GivesClaims : {GC : Type 0} → (SeenMember → Result GC Refusal) → List OutSeen → SeenClaims GC → Type 0
+abbrev pub GivesClaims : {GC : Type 0} → (SeenMember → Result GC Refusal)
+    → List OutSeen → SeenClaims GC → Type 0
 GivesClaims gender_read members claims =
     option_map (claims_of gender_read) (members_of (object_text members)) ≡ Some (Ok claims)
 

@@ -1,6 +1,6 @@
 //! The standard claims of an end user (OpenID Connect Core 1.0 section 5.1).
 
-ghost use Rattle.std.specs.Prelude.{◌≡◌, IfOk, option_map, None};
+ghost use Rattle.std.specs.Prelude.{◌≡◌, ℤ, Option, None, IfOk, option_map};
 ghost use Rattle.std.specs.Option.{option_copied};
 ghost use Rattle.oidc_claims.specs.SameClaims.{same_names, same_pages, same_person, same_rest};
 ghost use Rattle.oidc_claims.specs.Seen.{only_subject};
@@ -428,7 +428,8 @@ impl<GC: GenderClaim> StandardClaims<GC> {
 
     /// Changes `updated_at` alone.
     pub fn set_updated_at(mut self, updated_at: Option<Timestamp>) -> Self
-        ensures { result ≡ record self { updated_at = option_map (λ moment. moment.nanosecond) updated_at } }
+        ensures { let moment : Option ℤ = option_map (λ moment. moment.nanosecond) updated_at in
+            result ≡ record self { updated_at = moment } }
     {
         self.updated_at = updated_at;
         self

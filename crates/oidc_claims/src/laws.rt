@@ -17,13 +17,14 @@ use crate::gender::GenderClaim;
 /// written texts are UTF-8. That they are is a clause of [`write_standard`](crate::write_standard),
 /// which carries the whole round trip too (`reads_back`).
 pub fn written_claims_read_back<GC: GenderClaim>()
-    ensures { (claims : SeenClaims GC) → IsInRange claims → All IsUtf8Member (written GC.write_of claims)
-        → GivesClaims GC.read_of (written GC.write_of claims) claims }
+    ensures { (claims : SeenClaims GC) → let members = written GC.write_of claims in
+        IsInRange claims → All IsUtf8Member members → GivesClaims GC.read_of members claims }
 {}
 
 /// [`AllOtherClaims`](crate::AllOtherClaims) refuses no additional members, and keeps exactly their
 /// names and values, in their order.
 pub fn others_keep_all()
     ensures { (members : List SeenMember) → IsTrue (are_additional members)
-        → (claims : Others) × (read_others members ≡ Ok claims) × (list_of claims ≡ map out_of members) }
+        → (claims : Others) × (read_others members ≡ Ok claims)
+        × (list_of claims ≡ map out_of members) }
 {}

@@ -6,8 +6,7 @@ use Rattle.std.specs.Borrow.{Bor}
 use Rattle.std.specs.Option.{option_map_or}
 use Rattle.std.proofs.lemmas.Bool.Decides.{nat_tests}
 use Rattle.oidc_types.specs.declared.core_algorithms.CoreJwsSigningAlgorithm.{CoreJwsSigningAlgorithm}
-use Rattle.oidc_types.specs.{signing_text, signing_algorithms}
-use Rattle.oidc_types.specs.{find_word}
+use Rattle.oidc_types.specs.{find_word, signing_text, signing_algorithms}
 use Rattle.oidc_cli.specs.Values.{all_algorithms, algorithms_of}
 
 abbrev pub spaced_parts : List ℕ → List (List ℕ)

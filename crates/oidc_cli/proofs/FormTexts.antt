@@ -6,8 +6,8 @@ use Rattle.http_header.specs.HeaderMap.{get}
 use Rattle.oidc_pairs.specs.Form.{form}
 use Rattle.oidc_members.specs.Write.{object_text}
 use Rattle.oidc_login.specs.Transport.{SeenRequest}
-use Rattle.oidc_login.specs.SignedIns.{SeenSignedIn}
-use Rattle.oidc_login.specs.WrittenClaims.{written}
+use Rattle.oidc_login.specs.SignedIn.{SeenSignedIn}
+use Rattle.oidc_login.specs.Claims.{written}
 use Rattle.oidc_cli.specs.ReportLines.{behind}
 use Rattle.oidc_cli.specs.ReportLines.{header_pair, body_pair, request_list, request_line, verdict_line}
 

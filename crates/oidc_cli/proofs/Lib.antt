@@ -8,7 +8,6 @@ pub mod Algorithms
 pub mod Numbers
 pub mod ContentTypes
 pub mod FormTexts
-pub mod WrittenText
 pub mod Callbacks
 pub mod Steps
 pub mod Statuses

@@ -9,7 +9,7 @@ use Rattle.std.proofs.lemmas.Bool.{false≢true, ne_eqb}
 use Rattle.std.proofs.lemmas.Bool.Decides.{nat_tests}
 use Rattle.std.proofs.lemmas.Str.Parse.{IsNumeralModel, numerals_by_value, tells_all_ascii_digits, parse_signed_minus, parse_signed_plain, parse_plain, digits_value_short}
 use Rattle.http.specs.StatusCode.{IsStatusCode}
-use Rattle.oidc_login.specs.IdTokens.{moment_at}
+use Rattle.oidc_readers.specs.Moments.{moment_at}
 use Rattle.oidc_cli.specs.Values.{decimal_of, whole_of, moment_of_text, status_code_of}
 
 numerals : IsNumeralModel (λ ds. all_ascii_digits ds ≡ true) (digits_value 10)

@@ -5,8 +5,8 @@ use Rattle.std.specs.FinMap as finite
 use Rattle.std.proofs.lemmas.Bool.{false≢true}
 use Rattle.std.proofs.lemmas.Bool.Decides.{nat_tests}
 use Rattle.std.proofs.lemmas.Grind.{common_steps}
-use Rattle.oidc_login.specs.Clients.{SeenClient}
-use Rattle.oidc_login.specs.Pending.{Pending}
+use Rattle.oidc_login.specs.Client.{SeenClient}
+use Rattle.oidc_login.specs.Logins.{Pending}
 use Rattle.oidc_cli.specs.Events.{SeenClientLine}
 use Rattle.oidc_cli.specs.Script.{limit, lines, event_of, is_client, is_step, fault_from, fault_in, fault_of}
 use Rattle.oidc_cli.specs.ReportLines.{pending_line, fault_line}

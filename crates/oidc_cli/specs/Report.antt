@@ -5,9 +5,9 @@ use Rattle.url.specs.Parts.{Parts}
 use Rattle.oidc_pairs.specs.Pairs.{pairs}
 use Rattle.oidc_login.specs.declared.errors.BeginError.{BeginError}
 use Rattle.oidc_login.specs.Transport.{SeenAnswer}
-use Rattle.oidc_login.specs.Clients.{SeenClient}
+use Rattle.oidc_login.specs.Client.{SeenClient}
 use Rattle.oidc_login.specs.Authorization.{SeenAuthorization}
-use Rattle.oidc_login.specs.Pending.{Pending}
+use Rattle.oidc_login.specs.Logins.{Pending}
 use Rattle.oidc_login.specs.Outcome.{Run, begin_reply, begin_store, callback_store, outcome}
 use Rattle.oidc_cli.specs.Events.{SeenClientLine, SeenBeginLine, SeenCallbackLine}
 use Rattle.oidc_cli.specs.Script.{lines, event_of, fault_of}
@@ -46,7 +46,13 @@ abbrev pub reply_of_begin : SeenClient → Pending → SeenBeginLine → Result 
 reply_of_begin client pending line = begin_reply client pending (request_of line) line.verifier
 
 abbrev pub run_of_callback : SeenClient → Pending → SeenCallbackLine → Run
-run_of_callback client pending line = outcome client pending line.query line.now (answer_of line)
+run_of_callback client pending line = outcome (record {
+  client = client;
+  pending = pending;
+  query = line.query;
+  now = line.now;
+  answer = answer_of line;
+})
 
 -- the lines of a begin or a callback
 abbrev pub step_lines : SeenClient → Pending → Option Event → List ℕ

@@ -6,7 +6,7 @@ use Rattle.http_header.specs.HeaderMap.{get}
 use Rattle.http_header.specs.FieldValue.{FieldValue}
 use Rattle.form_urlencoded.specs.Form.{ampersand, serialize_pair}
 use Rattle.oidc_pairs.specs.Form.{form}
-use Rattle.oidc_members.specs.Written.{object_text}
+use Rattle.oidc_members.specs.Write.{object_text}
 use Rattle.oidc_keys.specs.declared.refusals.SignatureVerificationError.{SignatureVerificationError}
 use Rattle.oidc_keys.specs.declared.refusals.SignatureVerificationError.TheVariants as signature
 use Rattle.oidc_login.specs.declared.tokens.verification.ClaimsVerificationError.{ClaimsVerificationError}
@@ -16,9 +16,9 @@ use Rattle.oidc_login.specs.declared.errors.BeginError.TheVariants as begin
 use Rattle.oidc_login.specs.declared.errors.LoginError.{LoginError}
 use Rattle.oidc_login.specs.declared.errors.LoginError.TheVariants as login
 use Rattle.oidc_login.specs.Transport.{SeenRequest}
-use Rattle.oidc_login.specs.Pending.{Pending}
-use Rattle.oidc_login.specs.SignedIns.{SeenSignedIn}
-use Rattle.oidc_login.specs.WrittenClaims.{written}
+use Rattle.oidc_login.specs.Logins.{Pending}
+use Rattle.oidc_login.specs.SignedIn.{SeenSignedIn}
+use Rattle.oidc_login.specs.Claims.{written}
 use Rattle.oidc_login.specs.Outcome.{Run}
 
 -- each line ends in a line feed

@@ -3,8 +3,7 @@ use Rattle.std.specs.Prelude.{ℕ, ◌==◌, ◌+◌, nat_lt, Bool, true, false,
 use Rattle.std.specs.Str.{bytes_eq}
 use Rattle.std.specs.List.{slice_split}
 use Rattle.oidc_pairs.specs.Pairs.{pairs}
-use Rattle.oidc_login.specs.IdTokens.{url_of_text}
-use Rattle.oidc_cli.specs.Values.{◌>>=◌, pair_text, pair_value, algorithms_of, moment_of_text, status_code_of, content_type_of}
+use Rattle.oidc_cli.specs.Values.{◌>>=◌, url_of_text, pair_text, pair_value, algorithms_of, moment_of_text, status_code_of, content_type_of}
 use Rattle.oidc_cli.specs.Events.{SeenClientLine, SeenBeginLine, SeenCallbackLine}
 use Rattle.oidc_cli.specs.declared.events.Event.{Event}
 use Rattle.oidc_cli.specs.declared.events.Event.TheVariants.{Client, Begin, Callback}

@@ -3,11 +3,11 @@ use Rattle.std.specs.Prelude.{◌≡◌, ℕ, ◌==◌, nat_lt, nat_le, ℤ, pos
 use Rattle.std.specs.List.{list_all, slice_split}
 use Rattle.std.specs.Str.{all_ascii_digits}
 use Rattle.std.specs.Str.Parse.{digits_value}
+use Rattle.url.specs.Parser.{parse_url}
 use Rattle.http_header.specs.Token.{is_visible_or_blank}
 use Rattle.oidc_types.specs.declared.core_algorithms.CoreJwsSigningAlgorithm.{CoreJwsSigningAlgorithm}
-use Rattle.oidc_types.specs.{signing_text, signing_algorithms}
-use Rattle.oidc_types.specs.{find_word}
-use Rattle.oidc_login.specs.IdTokens.{moment_at}
+use Rattle.oidc_types.specs.{TextAndUrl, find_word, signing_text, signing_algorithms}
+use Rattle.oidc_readers.specs.Moments.{moment_at}
 use Rattle.oidc_pairs.specs.Pairs.{values_in, only_of}
 use Rattle.oidc_cli.specs.declared.events.LineError.{LineError}
 use Rattle.oidc_cli.specs.declared.events.LineError.TheVariants.{NoEvent, Memory}
@@ -33,6 +33,13 @@ pair_text line name = only_of (values_in line name)
 -- that value, where it is of a kind
 abbrev pub pair_value : {A : Type 0} → (List ℕ → Option A) → List (List ℕ × List ℕ) → List ℕ → Option A
 pair_value kind line name = pair_text line name >>= kind
+
+-- ---- URLs
+
+-- a text that the URL Standard takes, and the URL that it reads
+abbrev pub url_of_text : List ℕ → Option TextAndUrl
+url_of_text text =
+    elim (parse_url None text) [ Ok url ↦ Some (record { text = text; url = url }) | Err error ↦ None ]
 
 -- ---- signing algorithms
 

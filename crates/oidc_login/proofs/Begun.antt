@@ -3,9 +3,9 @@ use Rattle.std.proofs.Common.{◌≡◌, ℕ, List, Bool, true, false, Ok, refl}
 use Rattle.std.specs.Prelude.{not, IsTrue}
 use Rattle.std.specs.FinMap as finite
 use Rattle.url.specs.Parts.{Parts}
-use Rattle.oidc_login.specs.Clients.{SeenClient}
+use Rattle.oidc_login.specs.Client.{SeenClient}
 use Rattle.oidc_login.specs.Pkce.{is_verifier}
-use Rattle.oidc_login.specs.Pending.{Pending}
+use Rattle.oidc_login.specs.Logins.{Pending}
 use Rattle.oidc_login.specs.Authorization.{SeenAuthorization, auth_url}
 use Rattle.oidc_login.specs.Outcome.{begin_reply}
 

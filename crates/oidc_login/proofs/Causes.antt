@@ -7,14 +7,15 @@ use Rattle.oidc_types.specs.declared.core_algorithms.CoreJwsSigningAlgorithm.{Co
 use Rattle.oidc_keys.specs.CoreJwk.{symmetric_verdict, compared}
 use Rattle.oidc_keys.specs.declared.refusals.SignatureVerificationError.{SignatureVerificationError}
 use Rattle.oidc_keys.specs.declared.refusals.SignatureVerificationError.TheVariants as signature
-use Rattle.oidc_login.specs.Transport.{SeenRequest, SeenAnswer}
-use Rattle.oidc_login.specs.Clients.{SeenClient}
-use Rattle.oidc_login.specs.Pending.{SeenLogin, Pending}
+use Rattle.oidc_login.specs.Transport.{SeenRequest}
+use Rattle.oidc_login.specs.Client.{SeenClient}
+use Rattle.oidc_login.specs.Logins.{SeenLogin}
 use Rattle.oidc_login.specs.CodeRequest.{code_request}
-use Rattle.oidc_login.specs.IdTokens.{SeenClaims, SeenToken}
-use Rattle.oidc_login.specs.SignedIns.{SeenSignedIn}
+use Rattle.oidc_login.specs.Claims.{SeenIdTokenClaims}
+use Rattle.oidc_login.specs.IdToken.{SeenIdToken}
+use Rattle.oidc_login.specs.SignedIn.{SeenSignedIn}
 use Rattle.oidc_login.specs.Verification.{is_alone_in, is_nonce, is_allowed, late_failure, signature_failure, signature_verdict, first_failure}
-use Rattle.oidc_login.specs.Outcome.{named, opening, unless_error, outcome}
+use Rattle.oidc_login.specs.Outcome.{Attempt, login_named_by, token_request_for, unless_error, outcome}
 use Rattle.oidc_login.specs.Callbacks.{Replies, LacksCode, HasError, HasNoRequest, IsNotPlain, IsUnbuilt, FailsCheck}
 use Rattle.oidc_login.specs.declared.tokens.verification.ClaimsVerificationError.{ClaimsVerificationError}
 use Rattle.oidc_login.specs.declared.tokens.verification.ClaimsVerificationError.TheVariants.{InvalidIssuer, InvalidAudience, SignatureVerification, Expired, InvalidNonce}
@@ -29,69 +30,69 @@ unless-some [] next some = absurd (some refl)
 unless-some (error ∷ others) next some = refl
 
 module _ (client : SeenClient) (login : SeenLogin) (query : List (List ℕ × List ℕ)) where
-  opening-error : values_in query (codes "error") ≢ [] → opening client login query ≡ Err Unbuilt
-  unfolding opening
+  opening-error : values_in query (codes "error") ≢ [] → token_request_for client login query ≡ Err Unbuilt
+  unfolding token_request_for
   opening-error some = unless-some (values_in query (codes "error")) _ some
 
-  opening-lacks : values_in query (codes "error") ≡ [] → only_of (values_in query (codes "code")) ≡ None → opening client login query ≡ Err Callback
-  unfolding opening
+  opening-lacks : values_in query (codes "error") ≡ [] → only_of (values_in query (codes "code")) ≡ None → token_request_for client login query ≡ Err Callback
+  unfolding token_request_for
   opening-lacks no_error lacks = rw (no_error, lacks) refl
 
   opening-no_request : (code : List ℕ) → values_in query (codes "error") ≡ [] → only_of (values_in query (codes "code")) ≡ Some code
-      → code_request client login.verifier code ≡ None → opening client login query ≡ Err Unbuilt
-  unfolding opening
+      → code_request client login.verifier code ≡ None → token_request_for client login query ≡ Err Unbuilt
+  unfolding token_request_for
   opening-no_request code no_error one none = rw (no_error, one, none) refl
 
 -- ---- the reply where a cause holds
 
-module _ (client : SeenClient) (pending : Pending) (query : List ℕ) (now : ℤ) (answer : SeenAnswer) where
+module _ (a : Attempt) where
   -- a login that is named and opens nothing is refused for that reason
-  reply-refused : (login : SeenLogin) (error : LoginError) → named pending (pairs query) ≡ Some login → opening client login (pairs query) ≡ Err error
-      → (outcome client pending query now answer).reply ≡ Err error
-  reply-refused login error is refused = rw (outcome-named client pending query now answer login is, refused) refl
+  reply-refused : (login : SeenLogin) (error : LoginError) → login_named_by a.pending (pairs a.query) ≡ Some login → token_request_for a.client login (pairs a.query) ≡ Err error
+      → (outcome a).reply ≡ Err error
+  reply-refused login error is refused = rw (outcome-named a login is, refused) refl
 
-  lacking : (found : Option SeenLogin) → named pending (pairs query) ≡ found → IsSome found → values query (codes "error") ≡ []
-      → only_of (values query (codes "code")) ≡ None → (outcome client pending query now answer).reply ≡ Err Callback
+  lacking : (found : Option SeenLogin) → login_named_by a.pending (pairs a.query) ≡ found → IsSome found → values a.query (codes "error") ≡ []
+      → only_of (values a.query (codes "code")) ≡ None → (outcome a).reply ≡ Err Callback
   lacking None is some no_error lacks = cc
-  lacking (Some login) is some no_error lacks = reply-refused login Callback is (opening-lacks client login (pairs query) no_error lacks)
+  lacking (Some login) is some no_error lacks = reply-refused login Callback is (opening-lacks a.client login (pairs a.query) no_error lacks)
 
-  reply-lacks_code : LacksCode pending query → (outcome client pending query now answer).reply ≡ Err Callback
-  reply-lacks_code cause = lacking (named pending (pairs query)) refl cause.login_named cause.no_error cause.not_one_code
+  reply-lacks_code : LacksCode a → (outcome a).reply ≡ Err Callback
+  reply-lacks_code cause = lacking (login_named_by a.pending (pairs a.query)) refl cause.login_named cause.no_error cause.not_one_code
 
-  told : (found : Option SeenLogin) → named pending (pairs query) ≡ found → IsSome found → values query (codes "error") ≢ [] → (outcome client pending query now answer).reply ≡ Err Unbuilt
-  told None is some errors = cc
-  told (Some login) is some errors = reply-refused login Unbuilt is (opening-error client login (pairs query) errors)
+  with_error : (found : Option SeenLogin) → login_named_by a.pending (pairs a.query) ≡ found → IsSome found → values a.query (codes "error") ≢ [] → (outcome a).reply ≡ Err Unbuilt
+  with_error None is some errors = cc
+  with_error (Some login) is some errors = reply-refused login Unbuilt is (opening-error a.client login (pairs a.query) errors)
 
-  reply-has_error : HasError pending query → (outcome client pending query now answer).reply ≡ Err Unbuilt
-  reply-has_error cause = told (named pending (pairs query)) refl cause.login_named cause.some_error
+  reply-has_error : HasError a → (outcome a).reply ≡ Err Unbuilt
+  reply-has_error cause = with_error (login_named_by a.pending (pairs a.query)) refl cause.login_named cause.some_error
 
-  reply-no_request : HasNoRequest client pending query → (outcome client pending query now answer).reply ≡ Err Unbuilt
+  reply-no_request : HasNoRequest a → (outcome a).reply ≡ Err Unbuilt
   reply-no_request cause =
       reply-refused cause.login Unbuilt cause.login_named
-      (opening-no_request client cause.login (pairs query) cause.code cause.no_error cause.one_code cause.no_request)
+      (opening-no_request a.client cause.login (pairs a.query) cause.code cause.no_error cause.one_code cause.no_request)
 
-  reply-not_plain : IsNotPlain client pending query answer → (outcome client pending query now answer).reply ≡ Err Unbuilt
+  reply-not_plain : IsNotPlain a → (outcome a).reply ≡ Err Unbuilt
   reply-not_plain cause =
-      let named_outcome = outcome-named client pending query now answer cause.login cause.asked.login_named in
-      rw (named_outcome, opening-asks client cause.login pending query cause.asked, cause.not_plain) refl
+      let named_outcome = outcome-named a cause.login cause.asked.login_named in
+      rw (named_outcome, opening-asks a cause.login cause.asked, cause.not_plain) refl
 
-  reply-unbuilt : IsUnbuilt client pending query answer → (outcome client pending query now answer).reply ≡ Err Unbuilt
+  reply-unbuilt : IsUnbuilt a → (outcome a).reply ≡ Err Unbuilt
   reply-unbuilt cause = ⊎_elim reply-has_error (λ other. ⊎_elim reply-no_request reply-not_plain other) cause
 
-  reply-fails : (kind : ClaimsVerificationError) → FailsCheck client pending query now answer kind → (outcome client pending query now answer).reply ≡ Err (Claims kind)
+  reply-fails : (kind : ClaimsVerificationError) → FailsCheck a kind → (outcome a).reply ≡ Err (Claims kind)
   reply-fails kind cause =
-      let named_outcome = outcome-named client pending query now answer cause.login cause.asked.login_named in
-      rw (named_outcome, opening-asks client cause.login pending query cause.asked, cause.answer_read, cause.check_failed) refl
+      let named_outcome = outcome-named a cause.login cause.asked.login_named in
+      rw (named_outcome, opening-asks a cause.login cause.asked, cause.answer_read, cause.check_failed) refl
 
   -- a reply that is meant is that one
-  module _ (result : Result SeenSignedIn LoginError) (replies : Replies result (outcome client pending query now answer).reply) where
-    pub replies_callback : LacksCode pending query → Replies result (Err Callback)
+  module _ (result : Result SeenSignedIn LoginError) (replies : Replies result (outcome a).reply) where
+    pub replies_callback : LacksCode a → Replies result (Err Callback)
     replies_callback cause = subst (Replies result) (reply-lacks_code cause) replies
 
-    pub replies_unbuilt : IsUnbuilt client pending query answer → Replies result (Err Unbuilt)
+    pub replies_unbuilt : IsUnbuilt a → Replies result (Err Unbuilt)
     replies_unbuilt cause = subst (Replies result) (reply-unbuilt cause) replies
 
-    pub replies_claims : (kind : ClaimsVerificationError) → FailsCheck client pending query now answer kind → Replies result (Err (Claims kind))
+    pub replies_claims : (kind : ClaimsVerificationError) → FailsCheck a kind → Replies result (Err (Claims kind))
     replies_claims kind cause = subst (Replies result) (reply-fails kind cause) replies
 
 -- ---- no check of a signature wants memory
@@ -110,7 +111,7 @@ unless-memory : (test : Bool) (failure : ClaimsVerificationError) (later : Optio
 unless-memory true failure later here there e = there e
 unless-memory false failure later here there e = let same : failure ≡ memory = cc in here same
 
-late-memory : (nonce : List ℕ) (now : ℤ) (claims : SeenClaims) → late_failure nonce now claims ≢ Some memory
+late-memory : (nonce : List ℕ) (now : ℤ) (claims : SeenIdTokenClaims) → late_failure nonce now claims ≢ Some memory
 late-memory nonce now claims =
     unless-memory (int_lt now claims.expiration) Expired _ (λ e. cc)
     (unless-memory (is_nonce claims.nonce nonce) InvalidNonce None (λ e. cc) (λ e. cc))
@@ -120,7 +121,7 @@ signature-memory : (verdict : Result (Unit {0}) SignatureVerificationError) (lat
 signature-memory (Ok verified) later here there e = there e
 signature-memory (Err refusal) later here there e = let same : refusal ≡ signature.Memory = cc in here (ap Err same)
 
-pub never_memory : (client : SeenClient) (nonce : List ℕ) (now : ℤ) (token : SeenToken) → first_failure client nonce now token ≢ Some memory
+pub never_memory : (client : SeenClient) (nonce : List ℕ) (now : ℤ) (token : SeenIdToken) → first_failure client nonce now token ≢ Some memory
 unfolding first_failure signature_verdict
 never_memory client nonce now token =
     unless-memory (bytes_eq token.claims.issuer.text client.issuer.text) InvalidIssuer _ (λ e. cc)

@@ -13,8 +13,8 @@ use Rattle.std.proofs.lemmas.Cmp.{nat_list_cmp_total}
 use Rattle.std.proofs.lemmas.List.{map-append, length-map}
 use Rattle.std.proofs.lemmas.Map.Text.{is_eq-slice_cmp}
 use Rattle.oidc_login.specs.Pkce.{is_verifier}
-use Rattle.oidc_login.specs.Pending.{SeenLogin, Pending, HasVerifiers}
-use Rattle.oidc_login.specs.Entries.{by_state, kept, AreDistinctPairs, IsStored}
+use Rattle.oidc_login.specs.Logins.{SeenLogin, Pending, HasVerifiers}
+use Rattle.oidc_login.specs.Store.{by_state, kept, AreDistinctPairs, IsStored}
 use Rattle.oidc_login.specs.declared.store.Entry.{Entry}
 
 -- whether an entry's state is q

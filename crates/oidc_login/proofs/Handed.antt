@@ -1,12 +1,11 @@
 -- The one request that a callback hands over.
-use Rattle.std.proofs.Common.{◌≡◌, ℕ, zero, suc, ℤ, List, [], ◌∷◌, take, true, false, Some, Result, Ok, Err, refl, ap, ◌∙◌, inl, inr, ⊎_elim}
+use Rattle.std.proofs.Common.{◌≡◌, ℕ, zero, suc, List, [], ◌∷◌, take, true, false, Some, Result, Ok, Err, refl, ap, ◌∙◌, inl, inr, ⊎_elim}
 use Rattle.std.specs.Prelude.{◌⊎◌, OnOk}
 use Rattle.oidc_pairs.specs.Pairs.{pairs}
-use Rattle.oidc_login.specs.Transport.{SeenRequest, SeenAnswer, Wire}
-use Rattle.oidc_login.specs.Clients.{SeenClient}
-use Rattle.oidc_login.specs.Pending.{SeenLogin, Pending}
-use Rattle.oidc_login.specs.SignedIns.{SeenSignedIn}
-use Rattle.oidc_login.specs.Outcome.{Run, named, opening, run_of_request}
+use Rattle.oidc_login.specs.Transport.{SeenRequest, Wire}
+use Rattle.oidc_login.specs.Logins.{SeenLogin}
+use Rattle.oidc_login.specs.SignedIn.{SeenSignedIn}
+use Rattle.oidc_login.specs.Outcome.{Attempt, Run, login_named_by, token_request_for, run_of_request}
 use Rattle.oidc_login.specs.Callbacks.{Replies, HandsOver, SendsItsRequest, after}
 use Rattle.oidc_login.specs.declared.errors.LoginError.{LoginError}
 use Rattle.oidc_login.specs.declared.errors.LoginError.TheVariants.{State, Callback, Unbuilt, Claims, Memory}
@@ -44,27 +43,27 @@ one_or_none old new request (Err (Claims kind)) h = inr h
 one_or_none old new request (Err (Memory true)) h = counted old new request h.0 h.1
 one_or_none old new request (Err (Memory false)) h = inl h
 
-module _ (client : SeenClient) (pending : Pending) (query : List ℕ) (now : ℤ) (answer : SeenAnswer) (login : SeenLogin) (is_named : named pending (pairs query) ≡ Some login) where
+module _ (a : Attempt) (login : SeenLogin) (is_named : login_named_by a.pending (pairs a.query) ≡ Some login) where
   abbrev Sends : Wire → Wire → Type 0
-  Sends old new = SendsItsRequest client pending query old new
+  Sends old new = SendsItsRequest a old new
 
-  sent_run : (opened : Result SeenRequest LoginError) (result : Result SeenSignedIn LoginError) (old new : Wire) → opening client login (pairs query) ≡ opened
-      → HandsOver old new result (run_of_request client login.nonce now answer opened).sent → (new ≡ old) ⊎ Sends old new
+  sent_run : (opened : Result SeenRequest LoginError) (result : Result SeenSignedIn LoginError) (old new : Wire) → token_request_for a.client login (pairs a.query) ≡ opened
+      → HandsOver old new result (run_of_request a.client login.nonce a.now a.answer opened).sent → (new ≡ old) ⊎ Sends old new
   sent_run (Err error) result old new is h = inl (none_handed old new result h)
-  sent_run (Ok request) result old new is h = ⊎_elim inl (λ handed. inr (sends client pending query now answer login is_named request old new is handed)) (one_or_none old new request result h)
+  sent_run (Ok request) result old new is h = ⊎_elim inl (λ handed. inr (sends a login is_named request old new is handed)) (one_or_none old new request result h)
 
-  answered_run : (opened : Result SeenRequest LoginError) (signed : SeenSignedIn) (old new : Wire) → opening client login (pairs query) ≡ opened
-      → Ok signed ≡ (run_of_request client login.nonce now answer opened).reply
-      → new ≡ after old (run_of_request client login.nonce now answer opened).sent → Sends old new
+  answered_run : (opened : Result SeenRequest LoginError) (signed : SeenSignedIn) (old new : Wire) → token_request_for a.client login (pairs a.query) ≡ opened
+      → Ok signed ≡ (run_of_request a.client login.nonce a.now a.answer opened).reply
+      → new ≡ after old (run_of_request a.client login.nonce a.now a.answer opened).sent → Sends old new
   answered_run (Err error) signed old new is replies h = cc
-  answered_run (Ok request) signed old new is replies h = sends client pending query now answer login is_named request old new is h
+  answered_run (Ok request) signed old new is replies h = sends a login is_named request old new is h
 
   abbrev run : Run
-  run = run_of_request client login.nonce now answer (opening client login (pairs query))
+  run = run_of_request a.client login.nonce a.now a.answer (token_request_for a.client login (pairs a.query))
 
   pub sent_own : (result : Result SeenSignedIn LoginError) (old new : Wire) → HandsOver old new result run.sent → (new ≡ old) ⊎ Sends old new
-  sent_own result old new h = sent_run (opening client login (pairs query)) result old new refl h
+  sent_own result old new h = sent_run (token_request_for a.client login (pairs a.query)) result old new refl h
 
   pub answered_own : (result : Result SeenSignedIn LoginError) (old new : Wire) → Replies result run.reply → HandsOver old new result run.sent → OnOk result (Sends old new)
-  answered_own (Ok signed) old new replies h = answered_run (opening client login (pairs query)) signed old new refl replies h
+  answered_own (Ok signed) old new replies h = answered_run (token_request_for a.client login (pairs a.query)) signed old new refl replies h
   answered_own (Err error) old new replies h = tt

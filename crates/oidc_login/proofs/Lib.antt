@@ -6,6 +6,7 @@ pub mod Begun
 pub mod Called
 pub mod Causes
 pub mod Handed
-pub mod Members
+pub mod Refused
+pub mod NoFloat
 pub mod Verification
 pub mod TokenParts

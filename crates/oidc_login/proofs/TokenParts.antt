@@ -1,16 +1,16 @@
 -- The token of a text of three parts.
 use Rattle.std.proofs.Common.{◌≡◌, ℕ, ◌+◌, ◌==◌, ◌≤◌, List, [], ◌∷◌, ◌++◌, Option, None, Some, take, length, codes, refl, sym, ap, ◌∙◌, arith, length-append}
-use Rattle.std.specs.Prelude.{option_and_then, option_map, is_some, true}
+use Rattle.std.specs.Prelude.{is_some, true, Err}
 use Rattle.std.specs.Borrow.{Bor}
 use Rattle.std.specs.Option.{option_map_or}
 use Rattle.std.proofs.lemmas.Bool.{false≢true}
 use Rattle.std.specs.List.{slice_split, join_with_byte}
 use Rattle.std.proofs.lemmas.List.{take_at, append_assoc}
 use Rattle.std.proofs.lemmas.List.Splits.{length-slice_split, join_with_byte-slice_split}
-use Rattle.base64.specs.GeneralPurpose.{decoded_of}
-use Rattle.base64.specs.Engines.{url_safe_no_pad}
-use Rattle.oidc_types.specs.declared.core_algorithms.CoreJwsSigningAlgorithm.{CoreJwsSigningAlgorithm}
-use Rattle.oidc_login.specs.IdTokens.{SeenToken, SeenClaims, token_of, token_of_split, token_of_parts, algorithm_in, claims_in, members_of_part}
+use Rattle.oidc_login.specs.Reading.{◌>>=◌, Reads}
+use Rattle.oidc_login.specs.IdToken.{SeenIdToken, SeenContents, contents_of, token_of, token_of_split, token_of_parts}
+use Rattle.oidc_login.specs.declared.tokens.reading.Unread.{Unread}
+use Rattle.oidc_login.specs.declared.tokens.reading.Unread.TheVariants.{Form, Memory}
 
 abbrev pub parts : List ℕ → List (List ℕ)
 parts text = slice_split (λ b. b == 46) text
@@ -52,21 +52,13 @@ length_of_three text a b c e =
     let joined : text ≡ a ++ 46 ∷ (b ++ 46 ∷ c) = sym (join_with_byte-slice_split 46 text) ∙ ap (join_with_byte 46) e in
     omega (arith, ap length joined, length-append {A = ℕ})
 
--- the token of an algorithm, claims and a signature, where all are there
-abbrev pub token_from : List ℕ → List ℕ → Option CoreJwsSigningAlgorithm → Option SeenClaims → Option (List ℕ) → Option SeenToken
-token_from text message algorithm claims signature =
-    option_and_then (λ a. option_and_then (λ c. option_map (λ s. record {
-      text = text;
-      algorithm = a;
-      claims = c;
-      message = message;
-      signature = s;
-    }) signature) claims) algorithm
+-- what is read of the three parts is read of the text
+pub unread_of_parts : (text a b c : List ℕ) (e : Unread) → parts text ≡ a ∷ b ∷ c ∷ [] → Reads {A = SeenContents} (contents_of a b c) (Err e)
+    → Reads {A = SeenIdToken} (token_of text) (Err e)
+unread_of_parts text a b c Form is none =
+    token_of_three text a b c is ∙ ap (λ o. o >>= λ x. Some (record { text = text; algorithm = x.algorithm; claims = x.claims; message = a ++ codes "." ++ b; signature = x.signature })) none
+unread_of_parts text a b c Memory is none = tt
 
-pub token_of_read : (text a b c : List ℕ) (algorithm : Option CoreJwsSigningAlgorithm) (claims : Option SeenClaims) (signature : Option (List ℕ))
-    → parts text ≡ a ∷ b ∷ c ∷ []
-    → algorithm ≡ option_and_then algorithm_in (members_of_part a)
-    → claims ≡ option_and_then claims_in (members_of_part b)
-    → signature ≡ decoded_of url_safe_no_pad c
-    → token_of text ≡ token_from text (a ++ codes "." ++ b) algorithm claims signature
-token_of_read text a b c algorithm claims signature e e1 e2 e3 = rw (e1, e2, e3) (token_of_three text a b c e)
+pub token_of_contents : (text a b c : List ℕ) (x : SeenContents) → parts text ≡ a ∷ b ∷ c ∷ [] → contents_of a b c ≡ Some x
+    → token_of text ≡ Some (record { text = text; algorithm = x.algorithm; claims = x.claims; message = take (length a + 1 + length b) text; signature = x.signature })
+token_of_contents text a b c x is some = rw (message_of_three text a b c is) (token_of_three text a b c is ∙ ap (λ o. o >>= λ x. Some (record { text = text; algorithm = x.algorithm; claims = x.claims; message = a ++ codes "." ++ b; signature = x.signature })) some)

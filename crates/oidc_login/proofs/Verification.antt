@@ -9,14 +9,13 @@ use Rattle.std.proofs.lemmas.List.Sums.{AllPass-from_list_all, list_all-from_All
 use Rattle.std.proofs.lemmas.List.Folds.{list_any_at}
 use Rattle.std.proofs.lemmas.Slice.Eq.{bytes_eq-Decides}
 use Rattle.std.proofs.lemmas.Int.{ints}
-use Rattle.oidc_types.specs.{find_word}
-use Rattle.oidc_types.specs.{signing_text, signing_algorithms}
+use Rattle.oidc_types.specs.{find_word, signing_text, signing_algorithms}
 use Rattle.oidc_types.specs.declared.core_algorithms.CoreJwsSigningAlgorithm.{CoreJwsSigningAlgorithm}
 use Rattle.oidc_types.specs.declared.core_algorithms.CoreJwsSigningAlgorithm.TheVariants as alg
 use Rattle.oidc_keys.specs.declared.refusals.SignatureVerificationError.{SignatureVerificationError}
 use Rattle.oidc_keys.specs.declared.refusals.SignatureVerificationError.TheVariants.{DisallowedAlg}
-use Rattle.oidc_login.specs.Clients.{SeenClient}
-use Rattle.oidc_login.specs.IdTokens.{SeenToken}
+use Rattle.oidc_login.specs.Client.{SeenClient}
+use Rattle.oidc_login.specs.IdToken.{SeenIdToken}
 use Rattle.oidc_login.specs.Verification.{Accepts, is_alone_in, is_nonce, is_allowed, signature_failure, signature_verdict, first_failure}
 use Rattle.oidc_login.specs.declared.tokens.verification.ClaimsVerificationError.{ClaimsVerificationError}
 use Rattle.oidc_login.specs.declared.tokens.verification.ClaimsVerificationError.TheVariants.{InvalidIssuer, InvalidAudience, SignatureVerification, Expired, InvalidNonce}
@@ -117,7 +116,7 @@ signed_back : (verdict : Result (Unit {0}) SignatureVerificationError) (later : 
 signed_back verdict later h k = rw h k
 
 -- where no check fails, the token is accepted
-pub accepts : (client : SeenClient) (nonce : List ℕ) (now : ℤ) (token : SeenToken) → first_failure client nonce now token ≡ None → Accepts client nonce now token
+pub accepts : (client : SeenClient) (nonce : List ℕ) (now : ℤ) (token : SeenIdToken) → first_failure client nonce now token ≡ None → Accepts client nonce now token
 unfolding first_failure
 accepts client nonce now token h =
     let a = passes (bytes_eq token.claims.issuer.text client.issuer.text) InvalidIssuer _ h in
@@ -138,7 +137,7 @@ accepts client nonce now token h =
     }
 
 -- no check fails for a token that is accepted
-pub accepted : (client : SeenClient) (nonce : List ℕ) (now : ℤ) (token : SeenToken) → Accepts client nonce now token → first_failure client nonce now token ≡ None
+pub accepted : (client : SeenClient) (nonce : List ℕ) (now : ℤ) (token : SeenIdToken) → Accepts client nonce now token → first_failure client nonce now token ≡ None
 unfolding first_failure
 accepted client nonce now token h =
     passes_back _ InvalidIssuer _ (bytes_same token.claims.issuer.text client.issuer.text h.issuer)

@@ -1,10 +1,10 @@
--- The authorization URL of a code flow: RFC 6749 section 4.1.1, RFC 7636 section 4.3, OpenID Connect
--- Core 1.0 section 3.1.2.1.
+-- The authorization URL of a code flow: RFC 6749 section 4.1.1, RFC 7636 section 4.3, OpenID
+-- Connect Core 1.0 section 3.1.2.1.
 use Rattle.std.specs.Prelude.{ℕ, List, [], ◌∷◌, ◌++◌, Some, unwrap_or, codes, refl}
 use Rattle.std.specs.Coded.{Coded, code_by, coded_ℕ, coded_list, coded×}
 use Rattle.url.specs.Parts.{Parts}
 use Rattle.oidc_pairs.specs.Form.{form}
-use Rattle.oidc_login.specs.Clients.{SeenClient}
+use Rattle.oidc_login.specs.Client.{SeenClient}
 use Rattle.oidc_login.specs.Pkce.{s256}
 
 -- the state and the nonce of a request for a login
@@ -40,8 +40,11 @@ joined (b ∷ query) text = b ∷ query ++ codes "&" ++ text
 
 -- an endpoint with pairs after those of its query: all else of it stays (RFC 6749 section 3.1)
 abbrev pub extended : Parts → List (List ℕ × List ℕ) → Parts
-extended endpoint list = record endpoint { query = Some (joined (unwrap_or endpoint.query []) (form list)) }
+extended endpoint list =
+    record endpoint { query = Some (joined (unwrap_or endpoint.query []) (form list)) }
 
--- where a user is sent to sign in: the endpoint with the pairs, whose challenge is that of the verifier
+-- where a user is sent to sign in: the endpoint with the pairs, whose challenge is that of the
+-- verifier
 unfoldable pub auth_url : SeenClient → SeenAuthorization → List ℕ → Parts
-auth_url client request verifier = extended client.auth_uri.url (auth_list client request (s256 verifier))
+auth_url client request verifier =
+    extended client.auth_uri.url (auth_list client request (s256 verifier))

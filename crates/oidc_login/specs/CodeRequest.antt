@@ -1,5 +1,5 @@
 -- The request that exchanges a code: RFC 6749 sections 2.3.1, 3.2 and 4.1.3, RFC 7636 section 4.5.
-use Rattle.std.specs.Prelude.{ℕ, List, [], ◌∷◌, ◌++◌, Option, None, Some, option_and_then, length, Bool, ◌&&◌, nat_le, if◌then◌else◌, codes}
+use Rattle.std.specs.Prelude.{ℕ, List, [], ◌∷◌, ◌++◌, ◌≡◌, Option, None, Some, option_and_then, Result, Ok, Err, length, Bool, ◌&&◌, nat_le, if◌then◌else◌, codes}
 use Rattle.std.specs.List.{list_all}
 use Rattle.base64.specs.GeneralPurpose.{encode_of}
 use Rattle.base64.specs.Engines.{standard}
@@ -8,7 +8,9 @@ use Rattle.http_header.specs.FieldValue.{FieldValue, plain_value}
 use Rattle.url.specs.Parts.{serialize}
 use Rattle.oidc_pairs.specs.Form.{form, escaped}
 use Rattle.oidc_login.specs.Transport.{SeenRequest}
-use Rattle.oidc_login.specs.Clients.{SeenClient}
+use Rattle.oidc_login.specs.Client.{SeenClient}
+use Rattle.oidc_login.specs.declared.oauth2.code_request.PrepareError.{PrepareError}
+use Rattle.oidc_login.specs.declared.oauth2.code_request.PrepareError.TheVariants.{Uri, Memory}
 
 -- visible ASCII
 abbrev pub is_visible_byte : ℕ → Bool
@@ -20,7 +22,8 @@ is_address address = nat_le (length address) 65_534 && list_all is_visible_byte 
 
 -- client ID and secret, each form-coded, as Basic credentials (RFC 6749 section 2.3.1, RFC 7617)
 abbrev pub basic_credentials : List ℕ → List ℕ → List ℕ
-basic_credentials id secret = codes "Basic " ++ encode_of standard (escaped id ++ codes ":" ++ escaped secret)
+basic_credentials id secret =
+    codes "Basic " ++ encode_of standard (escaped id ++ codes ":" ++ escaped secret)
 
 -- what is asked for, what is sent, and by whom
 abbrev pub headers_of : FieldValue → Entries FieldValue
@@ -31,7 +34,8 @@ headers_of authorization =
     ∷ []
 
 abbrev pub request_headers : SeenClient → Entries FieldValue
-request_headers client = headers_of (plain_value (basic_credentials client.client_id client.client_secret))
+request_headers client =
+    headers_of (plain_value (basic_credentials client.client_id client.client_secret))
 
 abbrev pub code_list : List ℕ → List ℕ → List (List ℕ × List ℕ)
 code_list code verifier =
@@ -55,4 +59,11 @@ code_post client verifier code address =
 -- the request for a code and a login's verifier, to the text of the token endpoint's URL
 unfoldable pub code_request : SeenClient → List ℕ → List ℕ → Option SeenRequest
 code_request client verifier code =
-    option_and_then (λ endpoint. code_post client verifier code (serialize endpoint.url)) client.token_endpoint
+    option_and_then (λ endpoint. code_post client verifier code (serialize endpoint.url))
+    client.token_endpoint
+
+-- the result is the request that is meant, `Uri` where none is, or `Memory`
+abbrev pub Prepares : Result SeenRequest PrepareError → Option SeenRequest → Type 0
+Prepares (Ok request) meant = meant ≡ Some request
+Prepares (Err Uri) meant = meant ≡ None
+Prepares (Err Memory) meant = Unit {0}

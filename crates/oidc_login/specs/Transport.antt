@@ -56,19 +56,28 @@ GivesNext answer (Err Memory) = Unit {0}
 
 -- ---- how the logic stores them
 
+abbrev pub text_code : Coded (List ℕ)
+text_code = coded_list coded_ℕ
+
+abbrev pub entries_code : Coded (Entries FieldValue)
+entries_code = coded_list (coded× text_code (coded_list field_value_code))
+
 abbrev pub seen_request_code : Coded SeenRequest
 seen_request_code =
     code_by (List ℕ × (List ℕ × (Entries FieldValue × List ℕ)))
-    (coded× (coded_list coded_ℕ) (coded× (coded_list coded_ℕ) (coded× (coded_list (coded× (coded_list coded_ℕ) (coded_list field_value_code))) (coded_list coded_ℕ))))
+    (coded× text_code (coded× text_code (coded× entries_code text_code)))
     (λ r. (r.method, (r.address, (r.headers, r.body))))
     (λ p. record { method = p.0; address = p.1.0; headers = p.1.1.0; body = p.1.1.1 }) (λ _. refl)
 
 abbrev pub seen_response_code : Coded SeenResponse
 seen_response_code =
-    code_by (ℕ × (Option (List ℕ) × List ℕ)) (coded× coded_ℕ (coded× (coded_option (coded_list coded_ℕ)) (coded_list coded_ℕ)))
-    (λ r. (r.status, (r.content_type, r.body))) (λ p. record { status = p.0; content_type = p.1.0; body = p.1.1 }) (λ _. refl)
+    code_by (ℕ × (Option (List ℕ) × List ℕ))
+    (coded× coded_ℕ (coded× (coded_option text_code) text_code))
+    (λ r. (r.status, (r.content_type, r.body)))
+    (λ p. record { status = p.0; content_type = p.1.0; body = p.1.1 }) (λ _. refl)
 
 abbrev pub wire_code : Coded Wire
 wire_code =
-    code_by (List SeenRequest × List SeenAnswer) (coded× (coded_list seen_request_code) (coded_list (coded_option seen_response_code)))
+    code_by (List SeenRequest × List SeenAnswer)
+    (coded× (coded_list seen_request_code) (coded_list (coded_option seen_response_code)))
     (λ w. (w.requests, w.left)) (λ p. record { requests = p.0; left = p.1 }) (λ _. refl)

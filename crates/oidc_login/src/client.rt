@@ -20,7 +20,7 @@ pub struct Client {
 }
 
 impl Model for Client {
-    ghost use Rattle.oidc_login.specs.Clients.{SeenClient};
+    ghost use Rattle.oidc_login.specs.Client.{SeenClient};
 
     ghost Value = { SeenClient };
 
@@ -80,8 +80,8 @@ impl Client {
         &self.client_id
     }
 
-    /// The client's secret.
-    pub fn client_secret(&self) -> &ClientSecret
+    // The client's secret.
+    pub(crate) fn client_secret(&self) -> &ClientSecret
         ensures { result.now ≡ self.now.client_secret }
     {
         &self.client_secret

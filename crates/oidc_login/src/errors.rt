@@ -1,7 +1,7 @@
 //! Why a store isn't made, a login doesn't begin, or a callback signs nobody in.
 
 ghost use Rattle.std.specs.Prelude.{◌≡◌};
-ghost use Rattle.oidc_login.specs.Spent.{spent_of};
+ghost use Rattle.oidc_login.specs.Errors.{spent_of};
 
 use crate::tokens::verification::ClaimsVerificationError;
 use std::alloc::AllocError;
@@ -25,7 +25,7 @@ pub enum BeginError {
     #[error("the state is pending")]
     Pending,
     /// There was no memory.
-    #[error("no memory")]
+    #[error("out of memory")]
     Memory,
 }
 
@@ -57,7 +57,7 @@ pub enum LoginError {
     #[error("the ID token isn't accepted: {0}")]
     Claims(ClaimsVerificationError),
     /// There was no memory.
-    #[error("no memory")]
+    #[error("out of memory")]
     Memory {
         /// Whether the login was removed. Where it wasn't, nothing was sent either.
         spent: bool,

@@ -5,8 +5,8 @@
 //! - [`logins::Logins`] is the store. [`logins::Logins::begin`] gives the authorization URL of a
 //!   login and keeps its nonce and its PKCE verifier; [`logins::Logins::callback`] takes the login
 //!   that a callback names, exchanges its code, and signs the user in.
-//! - [`oauth2::transport::Recorded`] is the transport: it gives the answers that it was made of, and
-//!   keeps the requests.
+//! - [`oauth2::transport::Recorded`] is the transport: it gives the answers that it was made of,
+//!   and keeps the requests.
 //!
 //! What is promised: a callback signs in only with the claims of the ID token in the answer to its
 //! own token request, accepted at the given moment with the named login's nonce. It sends at most
@@ -16,7 +16,8 @@
 //! `specs/Outcome.antt`.
 //!
 //! No contract says in which order things are done. That the login is removed before anything is
-//! sent, the body of `callback` shows: it takes the login out first, and hands the request over then.
+//! sent, the body of `callback` shows: it takes the login out first, and hands the request over
+//! then.
 //!
 //! The standards: RFC 6749 (sections 2.3.1, 4.1 and 5.1), RFC 7636, RFC 7515 section 7.1, and
 //! OpenID Connect Core 1.0 (sections 2, 3.1.2.1 and 3.1.3.7). The modules `client`, `oauth2` and
@@ -28,9 +29,8 @@ pub mod errors;
 pub mod logins;
 pub mod oauth2;
 pub mod signed_in;
+mod steps;
 mod store;
-#[cfg(test)]
-mod tests;
 pub mod tokens;
 
 pub use client::Client;

@@ -15,7 +15,7 @@ pub struct SignedIn {
 }
 
 impl Model for SignedIn {
-    ghost use Rattle.oidc_login.specs.SignedIns.{SeenSignedIn};
+    ghost use Rattle.oidc_login.specs.SignedIn.{SeenSignedIn};
 
     ghost Value = { SeenSignedIn };
 

@@ -4,7 +4,7 @@ ghost use Rattle.std.specs.Prelude.{◌≡◌, OnOk, OnErr, IfSome, IsTrue, posi
 ghost use Rattle.std.specs.String.{string_bytes};
 ghost use Rattle.std.specs.FinMap as finite;
 ghost use Rattle.oidc_login.specs.Pkce.{is_verifier};
-ghost use Rattle.oidc_login.specs.Pending.{HasVerifiers};
+ghost use Rattle.oidc_login.specs.Logins.{HasVerifiers};
 
 use oidc_types::{Nonce, PkceCodeVerifier};
 use std::alloc::{AllocError, Global};
@@ -18,7 +18,7 @@ pub(crate) struct Login {
 }
 
 impl Model for Login {
-    ghost use Rattle.oidc_login.specs.Pending.{SeenLogin, seen_login_code};
+    ghost use Rattle.oidc_login.specs.Logins.{SeenLogin, seen_login_code};
 
     ghost Value = { SeenLogin };
 
@@ -41,13 +41,13 @@ pub(crate) struct Store {
 }
 
 impl Model for Store {
-    ghost use Rattle.oidc_login.specs.Pending.{Pending, pending_code};
+    ghost use Rattle.oidc_login.specs.Logins.{Pending, pending_code};
 
     ghost Value = { Pending };
 
     ghost coded = { pending_code };
 
-    ghost use Rattle.oidc_login.specs.Entries.{kept, IsStored};
+    ghost use Rattle.oidc_login.specs.Store.{kept, IsStored};
 
     ghost view = { λ s. kept s.entries.items };
 
@@ -57,7 +57,8 @@ impl Model for Store {
 impl Store {
     // The store without logins.
     pub(crate) fn new(alloc: Global) -> Self
-        ensures { result ≡ finite.empty }
+        ensures empty { result ≡ finite.empty }
+        ensures verifiers { HasVerifiers result }
     {
         Store {
             entries: Vec::new(alloc),
@@ -67,7 +68,7 @@ impl Store {
     // How many logins are pending.
     pub(crate) fn len(&self) -> usize
         ensures count { result ≡ finite.len self.now }
-        ensures valid { HasVerifiers self.now }
+        ensures verifiers { HasVerifiers self.now }
     {
         self.entries.len()
     }
@@ -82,7 +83,7 @@ impl Store {
     // Whether a login of this state is pending.
     pub(crate) fn contains(&self, state: &str) -> bool
         ensures found { result ≡ finite.contains_key self.now state.now }
-        ensures valid { HasVerifiers self.now }
+        ensures verifiers { HasVerifiers self.now }
     {
         Store::place_of(&self.entries, state).is_some()
     }
@@ -93,6 +94,7 @@ impl Store {
         requires verifier { IsTrue (is_verifier login.verifier) }
         ensures ok { OnOk result (self.new ≡ finite.insert self.old (string_bytes state) login) }
         ensures err { OnErr result (self.new ≡ self.old) }
+        ensures verifiers { HasVerifiers self.new }
     {
         self.entries.push(Entry { state, login })?;
         Ok(())
@@ -103,6 +105,7 @@ impl Store {
         ensures login { result ≡ finite.get self.old state.now }
         ensures verifier { IfSome result (λ l. IsTrue (is_verifier l.verifier)) }
         ensures rest { self.new ≡ finite.remove self.old state.now }
+        ensures verifiers { HasVerifiers self.new }
     {
         let at = Store::place_of(&self.entries, state)?;
         Some(self.entries.remove(at).login)

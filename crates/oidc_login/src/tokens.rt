@@ -1,9 +1,8 @@
 //! What a login needs of ID tokens: how they are read, and how they are judged.
 
-pub(crate) mod answer;
 pub mod claims;
+mod header;
 pub mod id_token;
-mod members;
-#[cfg(test)]
-mod tests;
+pub(crate) mod reading;
+pub(crate) mod token_answer;
 pub mod verification;

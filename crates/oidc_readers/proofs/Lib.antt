@@ -1,8 +1,8 @@
-pub mod Chains
-pub mod First
-pub mod JsonValues
-pub mod Parts
-pub mod ReadBack
-pub mod Scans
-pub mod Values
-pub mod WrittenBack
+mod First
+mod JsonValues
+mod Parts
+mod ReadBack
+mod Scans
+pub mod Theorems
+mod Values
+mod WrittenBack

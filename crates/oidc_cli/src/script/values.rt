@@ -4,10 +4,9 @@ ghost use Rattle.std.specs.List.{list_all, slice_split};
 ghost use Rattle.std.specs.Option.{option_map_or};
 ghost use Rattle.std.specs.String.{string_bytes};
 ghost use Rattle.http_header.specs.Token.{is_visible_or_blank};
-ghost use Rattle.oidc_types.specs.{signing_text, signing_algorithms};
-ghost use Rattle.oidc_types.specs.{find_word};
-ghost use Rattle.oidc_login.specs.IdTokens.{url_of_text, moment_at};
-ghost use Rattle.oidc_cli.specs.Values.{Reads, pair_text as text_of_pair, pair_value, algorithms_of as algorithms_in, moment_of_text as moment_in, status_code_of as status_code_in, content_type_of as content_type_in};
+ghost use Rattle.oidc_types.specs.{find_word, signing_text, signing_algorithms};
+ghost use Rattle.oidc_readers.specs.Moments.{moment_at};
+ghost use Rattle.oidc_cli.specs.Values.{Reads, pair_text as text_of_pair, pair_value, url_of_text, algorithms_of as algorithms_in, moment_of_text as moment_in, status_code_of as status_code_in, content_type_of as content_type_in};
 
 use crate::events::LineError;
 use http::StatusCode;

@@ -68,8 +68,8 @@ pub(crate) fn authorize_url(
     request: &AuthorizationRequest,
     challenge: &PkceCodeChallenge,
 ) -> Result<Url, AllocError>
-    ensures { IfOk result
-        (λ url. url ≡ extended client.now.auth_uri.url (auth_list client.now request.now challenge.now)) }
+    ensures { let list = auth_list client.now request.now challenge.now in
+        IfOk result (λ url. url ≡ extended client.now.auth_uri.url list) }
 {
     let mut url = client.auth_uri().url().clone()?;
     append_list(
@@ -90,7 +90,8 @@ fn append_list<'a>(
     challenge: &'a str,
     nonce: &'a str,
 ) -> Result<(), AllocError>
-    ensures { OnOk result (url.new ≡ append_query_pairs url.old (list_of client_id.now state.now challenge.now nonce.now)) }
+    ensures { let list = list_of client_id.now state.now challenge.now nonce.now in
+        OnOk result (url.new ≡ append_query_pairs url.old list) }
 {
     let list = [
         ("response_type", "code"),

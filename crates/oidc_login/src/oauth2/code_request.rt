@@ -5,7 +5,7 @@ ghost use Rattle.std.specs.List.{list_all};
 ghost use Rattle.std.specs.String.{string_bytes};
 ghost use Rattle.http_header.specs.FieldValue.{plain_value, IsFieldValue};
 ghost use Rattle.oidc_login.specs.CodeRequest.{is_address as address_test, is_visible_byte, basic_credentials, request_headers, headers_of, code_list, code_request as request_for};
-ghost use Rattle.oidc_login.specs.Prepared.{Prepares};
+ghost use Rattle.oidc_login.specs.CodeRequest.{Prepares};
 ghost use Rattle.oidc_pairs.specs.Form.{form, escaped};
 
 use crate::client::Client;
@@ -61,8 +61,8 @@ fn is_visible_one(byte: u8) -> bool
 
 // The Basic credentials of a client (RFC 6749 section 2.3.1).
 fn basic_authorization(alloc: Global, client: &Client) -> Result<HeaderValue, AllocError>
-    ensures { IfOk result
-        (λ value. value ≡ plain_value (basic_credentials client.now.client_id client.now.client_secret)) }
+    ensures { let credentials = basic_credentials client.now.client_id client.now.client_secret in
+        IfOk result (λ value. value ≡ plain_value credentials) }
 {
     let text = credentials_text(alloc, client)?;
     match HeaderValue::from_string(text) {
@@ -74,8 +74,8 @@ fn basic_authorization(alloc: Global, client: &Client) -> Result<HeaderValue, Al
 
 // The text of these credentials, which is a header's value.
 fn credentials_text(alloc: Global, client: &Client) -> Result<String, AllocError>
-    ensures text { IfOk result
-        (λ text. string_bytes text ≡ basic_credentials client.now.client_id client.now.client_secret) }
+    ensures text { IfOk result (λ text. string_bytes text
+        ≡ basic_credentials client.now.client_id client.now.client_secret) }
     ensures valid { IfOk result (λ text. IsFieldValue (string_bytes text)) }
 {
     let plain = plain_credentials(alloc, client)?;
@@ -86,8 +86,8 @@ fn credentials_text(alloc: Global, client: &Client) -> Result<String, AllocError
 
 // Client ID and secret, form-coded, with a colon between them.
 fn plain_credentials(alloc: Global, client: &Client) -> Result<String, AllocError>
-    ensures { IfOk result
-        (λ plain. string_bytes plain ≡ escaped client.now.client_id ++ codes ":" ++ escaped client.now.client_secret) }
+    ensures { IfOk result (λ plain. string_bytes plain
+        ≡ escaped client.now.client_id ++ codes ":" ++ escaped client.now.client_secret) }
 {
     let mut plain = escaped_text(alloc, client.client_id().as_str())?;
     plain.push_str(":")?;

@@ -59,12 +59,17 @@ impl Model for HttpRequest {
 
     ghost coded = { seen_request_code };
 
-    ghost view = { λ r. record { method = r.method; address = string_bytes r.address; headers = r.headers; body = r.body } };
+    ghost view = { λ r. record {
+      method = r.method;
+      address = string_bytes r.address;
+      headers = r.headers;
+      body = r.body;
+    } };
 }
 
 impl HttpRequest {
-    /// A request of these four parts.
-    pub fn new(method: Method, address: String, headers: HeaderMap, body: Body) -> Self
+    // A request of these four parts.
+    pub(crate) fn new(method: Method, address: String, headers: HeaderMap, body: Body) -> Self
         ensures method { result.method ≡ method }
         ensures address { result.address ≡ string_bytes address }
         ensures headers { result.headers ≡ headers }
@@ -130,7 +135,8 @@ pub enum CallError {
 
 /// A transport in memory: it gives its answers in their order, and keeps the requests.
 ///
-/// Contracts see the requests that were handed over, faulted ones too, and the answers that are left.
+/// Contracts see the requests that were handed over, faulted ones too, and the answers that are
+/// left.
 #[derive(Drop)]
 pub struct Recorded {
     answers: IntoIter<Answer>,
@@ -146,7 +152,10 @@ impl Model for Recorded {
 
     ghost coded = { wire_code };
 
-    ghost view = { λ r. record { requests = r.requests.items; left = map seen_answer (into_iter_items r.answers) } };
+    ghost view = { λ r. record {
+      requests = r.requests.items;
+      left = map seen_answer (into_iter_items r.answers);
+    } };
 }
 
 impl Recorded {
@@ -165,7 +174,8 @@ impl Recorded {
     /// fault or none is left. On `Memory` nothing is handed over.
     pub fn call(&mut self, _alloc: Global, request: HttpRequest) -> Result<HttpResponse, CallError>
         ensures gives { GivesNext (next_of self.old.left) result }
-        ensures sent { result ≢ Err CallError.Memory → self.new.requests ≡ self.old.requests ++ request ∷ [] }
+        ensures sent { result ≢ Err CallError.Memory
+            → self.new.requests ≡ self.old.requests ++ request ∷ [] }
         ensures left { result ≢ Err CallError.Memory → self.new.left ≡ drop 1 self.old.left }
         ensures memory { result ≡ Err CallError.Memory → self.new ≡ self.old }
     {

@@ -1,17 +1,23 @@
 //! The claims of an ID token (OpenID Connect Core 1.0 section 2).
 
-ghost use Rattle.std.specs.Prelude.{◌≡◌, IfOk, option_map, codes};
+ghost use Rattle.std.specs.Prelude.{◌≡◌, [], IfOk, false};
 ghost use Rattle.std.specs.Option.{option_copied};
-ghost use Rattle.serde_json.specs.View.{view, items_view};
-ghost use Rattle.serde_json.specs.Find.{as_str};
-ghost use Rattle.oidc_login.specs.IdTokens.{url_of, texts_in, texts_of, moment_of, optional_text, read_named, claims_in};
-ghost use Rattle.serde_json.specs.Data.{string};
-ghost use Rattle.oidc_login.specs.WrittenClaims.{written, texts_data, seconds_data};
+ghost use Rattle.serde_json.specs.View.{view};
+ghost use Rattle.oidc_members.specs.Answers.{Answers};
+ghost use Rattle.oidc_members.specs.Write.{any_float};
+ghost use Rattle.oidc_login.specs.Claims as spec;
+ghost use Rattle.oidc_login.specs.Claims.{written, texts_data};
+ghost use Rattle.oidc_login.specs.Fields.{claim_fields};
+ghost use Rattle.oidc_login.specs.Reading.{Reads};
 
-use crate::tokens::members::{text_named, value_named};
+use crate::tokens::reading::Unread;
 use jiff::Timestamp;
-use oidc_members::{FieldName, Members, OutMember};
-use oidc_types::{Audience, IssuerUrl, Nonce, SubjectIdentifier, UrlTextError};
+use oidc_members::{Member, Members, OutMember, ParseError};
+use oidc_readers::{
+    MemberReader, Moment, Once, Texts, put, put_optional_text, put_text, read_fields, seconds_value,
+};
+use oidc_types::texts::AudienceMarker;
+use oidc_types::{Audience, IssuerUrl, Nonce, SubjectIdentifier};
 use serde_json::Value;
 use std::alloc::{AllocError, Global};
 use std::marker::Model;
@@ -29,9 +35,9 @@ pub struct IdTokenClaims {
 }
 
 impl Model for IdTokenClaims {
-    ghost use Rattle.oidc_login.specs.IdTokens.{SeenClaims};
+    ghost use Rattle.oidc_login.specs.Claims.{SeenIdTokenClaims};
 
-    ghost Value = { SeenClaims };
+    ghost Value = { SeenIdTokenClaims };
 
     ghost view = { λ c. record {
       issuer = c.issuer;
@@ -87,34 +93,43 @@ impl IdTokenClaims {
     }
 
     /// The claims as members, in the order `iss`, `aud`, `exp`, `iat`, `nonce`, `sub`: `aud` as an
-    /// array, moments as whole seconds rounded down, and no `nonce` where there is none.
+    /// array, moments as whole seconds rounded down, and no `nonce` where there is none. No value
+    /// holds a float.
     pub fn write(&self, alloc: Global) -> Result<Vec<OutMember>, AllocError>
+        ensures members { IfOk result (λ members. members.items ≡ written self.now) }
+        ensures no_float { IfOk result (λ members. any_float members.items ≡ false) }
+    {
+        let members = self.members(alloc)?;
+        Ok(members)
+    }
+
+    fn members(&self, alloc: Global) -> Result<Vec<OutMember>, AllocError>
         ensures { IfOk result (λ members. members.items ≡ written self.now) }
     {
         let mut members = Vec::new(alloc);
-        members.push(text_member(alloc, "iss", self.issuer.as_str())?)?;
-        members.push(member(alloc, "aud", texts_value(alloc, &self.audiences)?)?)?;
-        members.push(member(alloc, "exp", seconds_value(self.expiration))?)?;
-        members.push(member(alloc, "iat", seconds_value(self.issue_time))?)?;
-        if let Some(nonce) = &self.nonce {
-            members.push(text_member(alloc, "nonce", nonce.secret())?)?;
-        }
-        members.push(text_member(alloc, "sub", self.subject.as_str())?)?;
+        put_text(alloc, &mut members, "iss", self.issuer.as_str())?;
+        put(
+            alloc,
+            &mut members,
+            "aud",
+            texts_value(alloc, &self.audiences)?,
+        )?;
+        put(alloc, &mut members, "exp", seconds_value(self.expiration))?;
+        put(alloc, &mut members, "iat", seconds_value(self.issue_time))?;
+        put_optional_text(alloc, &mut members, "nonce", text_of(self.nonce.as_ref()))?;
+        put_text(alloc, &mut members, "sub", self.subject.as_str())?;
         Ok(members)
     }
 }
 
-fn member(alloc: Global, name: &str, value: Value) -> Result<OutMember, AllocError>
-    ensures { IfOk result (λ m. m ≡ record { name = name.now; value = view value }) }
+// The text of a nonce, where there is one.
+fn text_of(nonce: Option<&Nonce>) -> Option<&str>
+    ensures { option_copied result ≡ option_copied nonce.entry }
 {
-    let name = FieldName::new(String::from_str(alloc, name)?);
-    Ok(OutMember { name, value })
-}
-
-fn text_member(alloc: Global, name: &str, text: &str) -> Result<OutMember, AllocError>
-    ensures { IfOk result (λ m. m ≡ record { name = name.now; value = string text.now }) }
-{
-    member(alloc, name, Value::String(String::from_str(alloc, text)?))
+    match nonce {
+        Some(nonce) => Some(nonce.secret()),
+        None => None,
+    }
 }
 
 fn texts_value(alloc: Global, texts: &[Audience]) -> Result<Value, AllocError>
@@ -127,114 +142,81 @@ fn texts_value(alloc: Global, texts: &[Audience]) -> Result<Value, AllocError>
     Ok(Value::Array(values))
 }
 
-fn seconds_value(moment: Timestamp) -> Value
-    ensures { view result ≡ seconds_data moment.nanosecond }
-{
-    Value::from(moment.as_nanosecond().div_euclid(1_000_000_000) as i64)
-}
-
 // ---- reading
 
-fn issuer_in(alloc: Global, members: &Members) -> Result<Option<IssuerUrl>, AllocError>
-    ensures { IfOk result (λ found. found ≡ read_named url_of (codes "iss") members.now) }
-{
-    let Some(text) = text_named(members, "iss") else {
-        return Ok(None);
-    };
-    match IssuerUrl::new(alloc, String::from_str(alloc, text)?) {
-        Ok(issuer) => Ok(Some(issuer)),
-        Err(UrlTextError::Refused(_)) => Ok(None),
-        Err(UrlTextError::Memory) => Err(AllocError),
-    }
+// The fields, as they are read.
+#[derive(Drop)]
+pub(crate) struct ClaimFields {
+    iss: Once<IssuerUrl>,
+    aud: Once<Texts<AudienceMarker>>,
+    exp: Once<Moment>,
+    iat: Once<Moment>,
+    nonce: Once<Option<Nonce>>,
+    sub: Once<SubjectIdentifier>,
 }
 
-// The texts that these values are, where each is one.
-fn audiences_of(alloc: Global, values: &[Value]) -> Result<Option<Vec<Audience>>, AllocError>
-    ensures { IfOk result (λ found. option_map (λ a. a.items) found ≡ texts_in (items_view values.now)) }
-{
-    let mut audiences = Vec::new(alloc);
-    for value in values {
-        let Some(text) = value.as_str() else {
-            return Ok(None);
-        };
-        audiences.push(Audience::new(String::from_str(alloc, text)?))?;
-    }
-    Ok(Some(audiences))
-}
-
-fn audiences_in(alloc: Global, members: &Members) -> Result<Option<Vec<Audience>>, AllocError>
-    ensures { IfOk result (λ found. option_map (λ a. a.items) found ≡ read_named texts_of (codes "aud") members.now) }
-{
-    match value_named(members, "aud") {
-        Some(Value::Array(values)) => audiences_of(alloc, values),
-        _ => Ok(None),
-    }
-}
-
-fn moment_in(members: &Members, name: &str) -> Option<Timestamp>
-    ensures { option_map (λ t. t.nanosecond) result ≡ read_named moment_of name.now members.now }
-{
-    let second = value_named(members, name)?.as_i64()?;
-    Timestamp::from_second(second).ok()
-}
-
-fn nonce_in(alloc: Global, members: &Members) -> Result<Option<Option<Nonce>>, AllocError>
-    ensures { IfOk result (λ found. found ≡ read_named optional_text (codes "nonce") members.now) }
-{
-    match value_named(members, "nonce") {
-        Some(Value::Null) => Ok(Some(None)),
-        Some(Value::String(text)) => {
-            let nonce = Nonce::new(String::from_str(alloc, text.as_str())?);
-            Ok(Some(Some(nonce)))
+impl ClaimFields {
+    #[tactic(auto, unfolding(oidc_readers::specs::Slots::slot))]
+    fn new() -> Self
+        ensures { result ≡ claim_fields [] }
+    {
+        ClaimFields {
+            iss: Once::new(),
+            aud: Once::new(),
+            exp: Once::new(),
+            iat: Once::new(),
+            nonce: Once::new(),
+            sub: Once::new(),
         }
-        _ => Ok(None),
     }
 }
 
-fn subject_in(alloc: Global, members: &Members) -> Result<Option<SubjectIdentifier>, AllocError>
-    ensures { IfOk result (λ found. found ≡ read_named as_str (codes "sub") members.now) }
-{
-    match text_named(members, "sub") {
-        Some(text) => Ok(Some(SubjectIdentifier::new(String::from_str(alloc, text)?))),
-        None => Ok(None),
+impl MemberReader for ClaimFields {
+    ghost fault = { spec.claims_rule };
+
+    ghost state = { claim_fields };
+
+    fn take(&mut self, alloc: Global, member: &Member) -> Result<(), ParseError> {
+        self.iss
+            .take(alloc, "iss", member)
+            .and(self.aud.take(alloc, "aud", member))
+            .and(self.exp.take(alloc, "exp", member))
+            .and(self.iat.take(alloc, "iat", member))
+            .and(self.nonce.take(alloc, "nonce", member))
+            .and(self.sub.take(alloc, "sub", member))
     }
 }
 
-// The claims of these members, where they are exactly the six, each once and of its kind.
-#[tactic(auto, unfolding(crate::specs::IdTokens::claims_in))]
-pub(crate) fn claims_of(
-    alloc: Global,
-    members: &Members,
-) -> Result<Option<IdTokenClaims>, AllocError>
-    ensures { IfOk result (λ found. found ≡ claims_in members.now) }
+// The claims of these members, each once and of its kind.
+#[tactic(auto, unfolding(crate::specs::Claims::claim_set_of, oidc_readers::specs::Slots::slot))]
+fn claim_set_of(alloc: Global, members: &Members) -> Result<IdTokenClaims, ParseError>
+    ensures { Answers (spec.claim_set_of members.now) result }
 {
-    if members.len() != 6 {
-        return Ok(None);
-    }
-    let Some(issuer) = issuer_in(alloc, members)? else {
-        return Ok(None);
-    };
-    let Some(audiences) = audiences_in(alloc, members)? else {
-        return Ok(None);
-    };
-    let Some(expiration) = moment_in(members, "exp") else {
-        return Ok(None);
-    };
-    let Some(issue_time) = moment_in(members, "iat") else {
-        return Ok(None);
-    };
-    let Some(nonce) = nonce_in(alloc, members)? else {
-        return Ok(None);
-    };
-    let Some(subject) = subject_in(alloc, members)? else {
-        return Ok(None);
-    };
-    Ok(Some(IdTokenClaims {
+    let fields = read_fields(alloc, ClaimFields::new(), members)?;
+    let issuer = fields.iss.required(alloc, "iss")?;
+    let audiences = fields.aud.required(alloc, "aud")?;
+    let expiration = fields.exp.required(alloc, "exp")?;
+    let issue_time = fields.iat.required(alloc, "iat")?;
+    let nonce = fields.nonce.required(alloc, "nonce")?;
+    let subject = fields.sub.required(alloc, "sub")?;
+    Ok(IdTokenClaims {
         issuer,
-        audiences,
-        expiration,
-        issue_time,
+        audiences: audiences.into_vec(),
+        expiration: expiration.timestamp(),
+        issue_time: issue_time.timestamp(),
         nonce,
         subject,
-    }))
+    })
+}
+
+// The claims of these members, where they are exactly the six.
+#[tactic(auto, unfolding(crate::specs::Claims::claims_in))]
+pub(crate) fn claims_in(alloc: Global, members: &Members) -> Result<IdTokenClaims, Unread>
+    ensures { Reads (spec.claims_in members.now) result }
+{
+    if members.len() != 6 {
+        return Err(Unread::Form);
+    }
+    let claims = claim_set_of(alloc, members)?;
+    Ok(claims)
 }

@@ -1,20 +1,24 @@
 //! ID tokens, in the compact form of RFC 7515 section 7.1.
 
-ghost use Rattle.std.specs.Prelude.{◌≡◌, ◌==◌, ◌∷◌, [], IfOk, IfSome, IsNone, option_map, option_and_then};
+ghost use Rattle.std.specs.Prelude.{◌≡◌, ◌==◌, ◌∷◌, [], IfSome, IsNone, None};
 ghost use Rattle.std.specs.List.{slice_split};
 ghost use Rattle.std.specs.Option.{option_map_or};
 ghost use Rattle.std.specs.String.{string_bytes};
 ghost use Rattle.base64.specs.GeneralPurpose.{decoded_of};
 ghost use Rattle.base64.specs.Engines.{url_safe_no_pad};
-ghost use Rattle.oidc_login.specs.IdTokens.{token_of, algorithm_in, claims_in, members_of_part};
+ghost use Rattle.oidc_login.specs.IdToken as spec;
+ghost use Rattle.oidc_login.specs.IdToken.{token_of};
+ghost use Rattle.oidc_login.specs.Reading.{Reads};
 
-use crate::tokens::claims::{IdTokenClaims, claims_of};
-use crate::tokens::members::{members_of, text_named};
+use crate::oauth2::transport::Body;
+use crate::tokens::claims::{IdTokenClaims, claims_in};
+use crate::tokens::header::algorithm_in;
+use crate::tokens::reading::{Unread, members_in};
 use base64::DecodeAllocError;
 use base64::engine::general_purpose::URL_SAFE_NO_PAD;
 use oidc_members::Members;
-use oidc_types::{ClosedVocabulary, CoreJwsSigningAlgorithm, JwsSigningAlgorithm};
-use std::alloc::{AllocError, Global};
+use oidc_types::CoreJwsSigningAlgorithm;
+use std::alloc::Global;
 use std::marker::Model;
 
 /// An ID token: its text, and what the text says. Contracts see the text, the algorithm of its
@@ -25,22 +29,22 @@ pub struct IdToken {
     algorithm: CoreJwsSigningAlgorithm,
     claims: IdTokenClaims,
     message_len: usize,
-    signature: Vec<u8>,
+    signature: Body,
 }
 
 impl Model for IdToken {
     ghost use Rattle.std.specs.Prelude.{◌≤◌, take, length};
     ghost use Rattle.std.specs.String.{string_bytes};
-    ghost use Rattle.oidc_login.specs.IdTokens.{SeenToken};
+    ghost use Rattle.oidc_login.specs.IdToken.{SeenIdToken};
 
-    ghost Value = { SeenToken };
+    ghost Value = { SeenIdToken };
 
     ghost view = { λ t. record {
       text = string_bytes t.text;
       algorithm = t.algorithm;
       claims = t.claims;
       message = take t.message_len (string_bytes t.text);
-      signature = t.signature.items;
+      signature = t.signature;
     } };
 
     ghost invariant = { λ t. t.message_len ≤ length (string_bytes t.text) };
@@ -105,8 +109,8 @@ fn cut(text: &str) -> (&str, Option<&str>)
 // The parts between the dots of a text, where there are three.
 fn parts_of(text: &str) -> Option<Parts<'_>>
     ensures none { IsNone result → token_of text.now ≡ None }
-    ensures parts { IfSome result
-        (λ p. slice_split (λ b. b == 46) text.now ≡ p.header.now ∷ p.payload.now ∷ p.signature.now ∷ []) }
+    ensures parts { IfSome result (λ p. slice_split (λ b. b == 46) text.now
+        ≡ p.header.now ∷ p.payload.now ∷ p.signature.now ∷ []) }
 {
     let (header, rest) = cut(text);
     let Some(rest) = rest else {
@@ -129,89 +133,102 @@ fn parts_of(text: &str) -> Option<Parts<'_>>
 
 // The bytes of a part, where it is strict base64url without padding.
 #[tactic(auto, unfolding(base64::specs::GeneralPurpose::decoded_of))]
-fn decoded(alloc: Global, part: &str) -> Result<Option<Vec<u8>>, AllocError>
-    ensures { IfOk result (λ found. option_map (λ b. b.items) found ≡ decoded_of url_safe_no_pad part.now) }
+fn decoded(alloc: Global, part: &str) -> Result<Body, Unread>
+    ensures { Reads (decoded_of url_safe_no_pad part.now) result }
 {
     match URL_SAFE_NO_PAD.decode(alloc, part.as_bytes()) {
-        Ok(bytes) => Ok(Some(bytes)),
-        Err(DecodeAllocError::DecodeError(_)) => Ok(None),
-        Err(DecodeAllocError::OutOfMemory) => Err(AllocError),
+        Ok(bytes) => Ok(Body::new(bytes)),
+        Err(DecodeAllocError::DecodeError(_)) => Err(Unread::Form),
+        Err(DecodeAllocError::OutOfMemory) => Err(Unread::Memory),
     }
 }
 
 // The members of a part, where it is the encoding of an object.
-fn members_in_part(alloc: Global, part: &str) -> Result<Option<Members>, AllocError>
-    ensures { IfOk result (λ found. found ≡ members_of_part part.now) }
+fn members_of_part(alloc: Global, part: &str) -> Result<Members, Unread>
+    ensures { Reads (spec.members_of_part part.now) result }
 {
-    match decoded(alloc, part)? {
-        Some(bytes) => members_of(alloc, bytes.as_slice()),
-        None => Ok(None),
-    }
-}
-
-// The HMAC algorithm that a header names, where that is its one member.
-#[tactic(auto, unfolding(crate::specs::IdTokens::algorithm_in))]
-fn algorithm_of(members: &Members) -> Option<CoreJwsSigningAlgorithm>
-    ensures { result ≡ algorithm_in members.now }
-{
-    if members.len() != 1 {
-        return None;
-    }
-    let algorithm = CoreJwsSigningAlgorithm::from_str(text_named(members, "alg")?)?;
-    if algorithm.uses_shared_secret() {
-        Some(algorithm)
-    } else {
-        None
-    }
+    let bytes = decoded(alloc, part)?;
+    members_in(alloc, bytes.as_slice())
 }
 
 // The algorithm that a header names.
-fn algorithm_in_part(
-    alloc: Global,
-    header: &str,
-) -> Result<Option<CoreJwsSigningAlgorithm>, AllocError>
-    ensures { IfOk result (λ found. found ≡ option_and_then algorithm_in (members_of_part header.now)) }
+fn algorithm_of_part(alloc: Global, header: &str) -> Result<CoreJwsSigningAlgorithm, Unread>
+    ensures { Reads (spec.algorithm_of_part header.now) result }
 {
-    match members_in_part(alloc, header)? {
-        Some(members) => Ok(algorithm_of(&members)),
-        None => Ok(None),
-    }
+    let members = members_of_part(alloc, header)?;
+    algorithm_in(alloc, &members)
 }
 
 // The claims of a payload.
-fn claims_in_part(alloc: Global, payload: &str) -> Result<Option<IdTokenClaims>, AllocError>
-    ensures { IfOk result (λ found. found ≡ option_and_then claims_in (members_of_part payload.now)) }
+fn claims_of_part(alloc: Global, payload: &str) -> Result<IdTokenClaims, Unread>
+    ensures { Reads (spec.claims_of_part payload.now) result }
 {
-    match members_in_part(alloc, payload)? {
-        Some(members) => claims_of(alloc, &members),
-        None => Ok(None),
-    }
+    let members = members_of_part(alloc, payload)?;
+    claims_in(alloc, &members)
+}
+
+// What the three parts of a token say.
+#[derive(Drop)]
+struct Contents {
+    algorithm: CoreJwsSigningAlgorithm,
+    claims: IdTokenClaims,
+    signature: Body,
+}
+
+impl Model for Contents {
+    ghost use Rattle.oidc_login.specs.IdToken.{SeenContents};
+
+    ghost Value = { SeenContents };
+
+    ghost view = { λ c. record {
+      algorithm = c.algorithm;
+      claims = c.claims;
+      signature = c.signature;
+    } };
+}
+
+fn contents_of(
+    alloc: Global,
+    header: &str,
+    payload: &str,
+    signature: &str,
+) -> Result<Contents, Unread>
+    ensures { Reads (spec.contents_of header.now payload.now signature.now) result }
+{
+    let algorithm = algorithm_of_part(alloc, header)?;
+    let claims = claims_of_part(alloc, payload)?;
+    let signature = decoded(alloc, signature)?;
+    Ok(Contents {
+        algorithm,
+        claims,
+        signature,
+    })
 }
 
 impl IdToken {
     // The token that a text is.
-    pub(crate) fn read(alloc: Global, text: String) -> Result<Option<IdToken>, AllocError>
-        ensures { IfOk result (λ found. found ≡ token_of (string_bytes text)) }
+    pub(crate) fn read(alloc: Global, text: String) -> Result<IdToken, Unread>
+        ensures { Reads (token_of (string_bytes text)) result }
     {
         let Some(parts) = parts_of(text.as_str()) else {
-            return Ok(None);
+            return Err(Unread::Form);
         };
-        let Some(algorithm) = algorithm_in_part(alloc, parts.header)? else {
-            return Ok(None);
-        };
-        let Some(claims) = claims_in_part(alloc, parts.payload)? else {
-            return Ok(None);
-        };
-        let Some(signature) = decoded(alloc, parts.signature)? else {
-            return Ok(None);
+        let contents = match contents_of(alloc, parts.header, parts.payload, parts.signature) {
+            Ok(contents) => contents,
+            Err(unread) => return Err(unread),
         };
         let message_len = parts.header.len() + 1 + parts.payload.len();
-        Ok(Some(IdToken {
+        let Contents {
+            algorithm,
+            claims,
+            signature,
+        } = contents;
+        Ok(IdToken {
             text,
             algorithm,
             claims,
             message_len,
             signature,
-        }))
+        })
     }
 }

@@ -8,5 +8,5 @@ returns-clause-found c =
     let place : c.place_of.result ≡ position (has_state c.args.state.now) c.self.inside.entries.items = rw (← c.deref.ensures.value) c.place_of.ensures in
     rw (← c.self.view_is) (c.is_some.ensures ∙ ap is_some place ∙ contains_kept c.args.state.now c.self.inside.entries.items)
 
-pub returns-clause-valid : goal.returns-clause-valid
-returns-clause-valid c = rw (← c.self.view_is) c.self.invariant.verifiers
+pub returns-clause-verifiers : goal.returns-clause-verifiers
+returns-clause-verifiers c = rw (← c.self.view_is) c.self.invariant.verifiers

@@ -13,3 +13,8 @@ pub returns-clause-ok : goal.returns-clause-ok
 returns-clause-ok c =
     let absent = ap (λ m. finite.get m (string_bytes c.args.state)) c.self.view_is ∙ c.requires.state in
     rw (c.in_ok-push.ensures.items, ← c.self.view_is) (kept_push _ _ absent)
+
+pub returns-clause-verifiers : goal.returns-clause-verifiers
+returns-clause-verifiers c =
+    let absent = ap (λ m. finite.get m (string_bytes c.args.state)) c.self.view_is ∙ c.requires.state in
+    rw c.in_ok-push.ensures.items (push_stored _ _ c.self.invariant absent c.requires.verifier).verifiers

@@ -7,5 +7,5 @@ returns-clause-count c =
     let len : c.len.result ≡ length c.self.inside.entries.items = omega (arith, c.len.ensures, c.self.inside.entries.ok.0) in
     rw (← c.self.view_is) (len ∙ len_kept c.self.inside.entries.items c.self.invariant)
 
-pub returns-clause-valid : goal.returns-clause-valid
-returns-clause-valid c = rw (← c.self.view_is) c.self.invariant.verifiers
+pub returns-clause-verifiers : goal.returns-clause-verifiers
+returns-clause-verifiers c = rw (← c.self.view_is) c.self.invariant.verifiers

@@ -33,3 +33,8 @@ pub returns-clause-rest : goal.returns-clause-rest
 returns-clause-rest c =
     let place : position (has_state c.args.state.now) c.self.inside.entries.items ≡ Some c.in_ok-at.at = rw (← c.deref.ensures.value) (sym c.place_of.ensures ∙ c.in_ok-at.was) in
     rw (c.remove.ensures.items, ← c.self.view_is) (kept_remove c.args.state.now _ _ c.self.invariant place)
+
+pub returns-clause-verifiers : goal.returns-clause-verifiers
+returns-clause-verifiers c =
+    let place : position (has_state c.args.state.now) c.self.inside.entries.items ≡ Some c.in_ok-at.at = rw (← c.deref.ensures.value) (sym c.place_of.ensures ∙ c.in_ok-at.was) in
+    rw c.remove.ensures.items (remove_stored c.args.state.now _ _ c.self.invariant place).verifiers

@@ -1,5 +1,5 @@
 use Rattle.std.proofs.Common.{ap}
-use Rattle.oidc_readers.proofs.Chains.{both_took, kept_by}
+use Rattle.oidc_readers.proofs.Theorems.{both_took, kept_by}
 use Rattle.oidc_oauth2.proofs.token.TokenFieldsMemberReader.take.Goals as goal
 
 pub returns : goal.returns

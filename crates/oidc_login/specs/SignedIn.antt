@@ -1,0 +1,8 @@
+-- What contracts see of a user who is signed in.
+use Rattle.std.specs.Prelude.{ℕ, List}
+use Rattle.oidc_login.specs.IdToken.{SeenIdToken}
+
+-- the ID token with its claims, and the access token that came beside it
+pub record SeenSignedIn : Type 0 where
+  pub id_token : SeenIdToken
+  pub access_token : List ℕ
