@@ -11,12 +11,6 @@ Answers meant (Ok value) = meant ≡ Ok value
 Answers meant (Err (Refused refusal)) = meant ≡ Err refusal
 Answers meant (Err Memory) = Unit {0}
 
--- The same for an answer that is seen by a view.
-abbrev pub AnswersSeen : {A B : Type 0} → (B → A) → Result A Refusal → Result B ParseError → Type 0
-AnswersSeen view meant (Ok value) = meant ≡ Ok (view value)
-AnswersSeen view meant (Err (Refused refusal)) = meant ≡ Err refusal
-AnswersSeen view meant (Err Memory) = Unit {0}
-
 -- The error is that refusal, or `Memory`.
 abbrev pub Refuses : Refusal → ParseError → Type 0
 Refuses meant (Refused refusal) = meant ≡ refusal
