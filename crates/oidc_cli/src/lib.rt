@@ -21,7 +21,8 @@
 //!   signing algorithms with one space between them.
 //! - `op=begin`: `state`, `nonce` and `verifier`.
 //! - `op=callback`: `now`, whole seconds since the Unix epoch; `query`; and the answer to the token
-//!   request: `token_status`, three digits; `token_type`, a content type; and `token_body`.
+//!   request, where there is one: `token_fault`, which is `1`, or `token_status`, three digits from
+//!   100 on, and with it `token_type`, a content type, and `token_body`, empty where it isn't given.
 //!
 //! # Reports
 //!

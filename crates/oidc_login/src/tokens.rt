@@ -3,6 +3,6 @@
 pub mod claims;
 mod header;
 pub mod id_token;
+pub(crate) mod id_token_field;
 pub(crate) mod reading;
-pub(crate) mod token_answer;
 pub mod verification;

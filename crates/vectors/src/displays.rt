@@ -5,8 +5,9 @@ use crate::case::{Case, CaseError};
 use crate::vocabularies::variant_name;
 use oidc_claims::PlacedError;
 use oidc_keys::{HashError, SignatureVerificationError};
-use oidc_login::{BeginError, ClaimsVerificationError, LoginError, NewLoginsError};
+use oidc_login::{BeginError, ClaimsVerificationError, LoginError, NewLoginsError, TooLong};
 use oidc_members::{FieldName, ParseError, ParseKind, Refusal};
+use oidc_oauth2::{Fault, RequestTokenError};
 use oidc_types::{SigningError, UrlTextError};
 use std::alloc::Global;
 use std::fmt::{Debug, Display};
@@ -54,14 +55,6 @@ const BEGINS: [BeginError; 3] = [
     BeginError::Memory,
 ];
 
-const LOGINS: [LoginError; 5] = [
-    LoginError::State,
-    LoginError::Callback,
-    LoginError::Unbuilt,
-    LoginError::Claims(ClaimsVerificationError::Expired),
-    LoginError::Memory { spent: false },
-];
-
 const URLS: [UrlTextError; 2] = [
     UrlTextError::Refused(url::ParseError::RelativeUrlWithoutBase),
     UrlTextError::Memory,
@@ -76,7 +69,7 @@ pub(crate) fn display(alloc: Global, case: &Case) -> Result<String, CaseError> {
         "BeginError" => one_of(alloc, &BEGINS, variant),
         "ClaimsVerificationError" => one_of(alloc, &CLAIMS, variant),
         "HashError" => one_of(alloc, &HASHES, variant),
-        "LoginError" => one_of(alloc, &LOGINS, variant),
+        "LoginError" => login_error(alloc, variant),
         "NewLoginsError" => one_of(alloc, &STORES, variant),
         "ParseError" => parse_error(alloc, variant),
         "ParseKind" => one_of(alloc, &KINDS, variant),
@@ -86,6 +79,20 @@ pub(crate) fn display(alloc: Global, case: &Case) -> Result<String, CaseError> {
         "UrlTextError" => one_of(alloc, &URLS, variant),
         _ => Err(CaseError::NoCase),
     }
+}
+
+fn login_error(alloc: Global, variant: &str) -> Result<String, CaseError> {
+    let all: [LoginError<Fault>; 8] = [
+        LoginError::TooLong(TooLong::TokenAnswer),
+        LoginError::State,
+        LoginError::Unbuilt,
+        LoginError::Callback,
+        LoginError::Token(RequestTokenError::Request(Fault)),
+        LoginError::NoIdToken,
+        LoginError::Claims(ClaimsVerificationError::Expired),
+        LoginError::Memory { spent: false },
+    ];
+    one_of(alloc, &all, variant)
 }
 
 fn parse_error(alloc: Global, variant: &str) -> Result<String, CaseError> {

@@ -2,7 +2,7 @@
 
 use crate::answers::{ok_form, refused_word};
 use crate::case::{Case, CaseError};
-use oidc_login::oauth2::pkce::{PkceCodeChallenge, PkceError};
+use oidc_oauth2::{PkceCodeChallenge, PkceError};
 use oidc_pairs::FormText;
 use oidc_types::PkceCodeVerifier;
 use std::alloc::Global;

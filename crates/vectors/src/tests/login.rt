@@ -1,12 +1,11 @@
 //! Tests of oidc_login that no line of text can say. The token is Python's (`hmac`, `hashlib`,
 //! `base64`); the verifier is that of RFC 7636, appendix B.
 
+use http::StatusCode;
 use http_header::{CONTENT_TYPE, HeaderValue};
 use jiff::Timestamp;
-use oidc_login::{
-    Answer, AuthorizationRequest, Body, Client, HttpResponse, LoginError, Logins, NewLoginsError,
-    Recorded,
-};
+use oidc_login::{AuthorizationRequest, Client, LoginError, Logins, NewLoginsError};
+use oidc_oauth2::{Answer, Body, Fault, HttpResponse, Recorded};
 use oidc_types::{
     AuthUrl, ClientId, ClientSecret, CoreJwsSigningAlgorithm, CsrfToken, IssuerUrl, Nonce,
     PkceCodeVerifier, TokenUrl,
@@ -66,10 +65,22 @@ fn plain(alloc: Global) -> Result<Answer, Fail> {
     Ok(Answer::Response(response))
 }
 
+// An answer of this status, whose body is so many bytes of white space.
+fn blank(alloc: Global, status: StatusCode, len: usize) -> Result<Answer, Fail> {
+    let mut body = Vec::new(alloc);
+    for _ in 0..len {
+        body.push(b' ')?;
+    }
+    let mut response: HttpResponse = http::Response::new(alloc, Body::new(body));
+    *response.status_mut() = status;
+    Ok(Answer::Response(response))
+}
+
 // What a transport gives.
 #[derive(Clone, Copy)]
 enum Given {
     Plain,
+    Blank(StatusCode, usize),
     Fault,
     Nothing,
 }
@@ -78,6 +89,7 @@ fn transport(alloc: Global, given: Given) -> Result<Recorded, Fail> {
     let mut answers = Vec::new(alloc);
     match given {
         Given::Plain => answers.push(plain(alloc)?)?,
+        Given::Blank(status, len) => answers.push(blank(alloc, status, len)?)?,
         Given::Fault => answers.push(Answer::Fault)?,
         Given::Nothing => {}
     }
@@ -99,7 +111,10 @@ fn login(alloc: Global, client: &Client, given: Given) -> Result<String, Fail> {
     Ok(format!(in alloc; "{before} {after} {sent} {answered}")?)
 }
 
-fn answer(alloc: Global, reply: Result<oidc_login::SignedIn, LoginError>) -> Result<String, Fail> {
+fn answer(
+    alloc: Global,
+    reply: Result<oidc_login::SignedIn, LoginError<Fault>>,
+) -> Result<String, Fail> {
     match reply {
         Ok(signed) => {
             let subject = signed.claims().subject().as_str();
@@ -107,7 +122,7 @@ fn answer(alloc: Global, reply: Result<oidc_login::SignedIn, LoginError>) -> Res
             let access = signed.access_token().secret();
             Ok(format!(in alloc; "{subject} {access} {own}")?)
         }
-        Err(error) => Ok(format!(in alloc; "{error:?}")?),
+        Err(error) => Ok(format!(in alloc; "{error}")?),
     }
 }
 
@@ -116,14 +131,45 @@ fn login_at(alloc: Global, len: usize, given: Given) -> Result<String, Fail> {
     login(alloc, &client, given)
 }
 
-// A fault, no answer at all, and the longest address that is sent to, of 65,534 bytes. After each
-// the login is gone.
-const CASES: [(usize, Given, &str); 5] = [
+// A fault, no answer at all, the longest address that is sent to, of 65,534 bytes, and the longest body
+// that is judged, of 1,048,576. After each the login is gone.
+const CASES: [(usize, Given, &str); 8] = [
     (5, Given::Plain, "true false 1 u1 abc true"),
-    (5, Given::Fault, "true false 1 Unbuilt"),
-    (5, Given::Nothing, "true false 1 Unbuilt"),
-    (65_518, Given::Nothing, "true false 1 Unbuilt"),
-    (65_519, Given::Nothing, "true false 0 Unbuilt"),
+    (
+        5,
+        Given::Fault,
+        "true false 1 no tokens: the request failed",
+    ),
+    (
+        5,
+        Given::Nothing,
+        "true false 1 no tokens: the request failed",
+    ),
+    (
+        65_518,
+        Given::Nothing,
+        "true false 1 no tokens: the request failed",
+    ),
+    (
+        65_519,
+        Given::Nothing,
+        "true false 0 no tokens: an address that is not sent to",
+    ),
+    (
+        5,
+        Given::Blank(StatusCode::OK, 1_048_576),
+        "true false 1 no tokens: the response does not read: no JSON object",
+    ),
+    (
+        5,
+        Given::Blank(StatusCode::OK, 1_048_577),
+        "true false 1 too long: the answer to the token request",
+    ),
+    (
+        5,
+        Given::Blank(StatusCode::BAD_REQUEST, 1_048_577),
+        "true false 1 too long: the answer to the token request",
+    ),
 ];
 
 #[test]
