@@ -12,10 +12,13 @@ mod answers;
 mod case;
 mod claims;
 mod displays;
+mod exchanges;
+mod headers;
 mod keys;
 mod members;
 mod operations;
 mod pkce;
+mod records;
 mod scripts;
 #[cfg(test)]
 mod tests;
