@@ -21,6 +21,6 @@ pub(crate) fn challenge(alloc: Global, case: &Case) -> Result<String, CaseError>
 fn challenge_line(alloc: Global, challenge: &PkceCodeChallenge) -> Result<String, CaseError> {
     let mut form = FormText::new(alloc);
     form.push("challenge", challenge.as_str())?;
-    form.push("method", "S256")?;
+    form.push("method", challenge.method().as_str())?;
     ok_form(alloc, form)
 }
