@@ -53,34 +53,24 @@ impl Case {
 
     /// Whether each of these names stands once behind `op`, and no other name does.
     pub(crate) fn check(&self, names: &[&str]) -> Result<(), CaseError> {
-        if self.pairs().len() != names.len() {
-            return Err(CaseError::NoCase);
-        }
-        for name in names {
-            if self.pairs.only(name).is_none() {
-                return Err(CaseError::NoCase);
-            }
-        }
-        Ok(())
+        self.check_with(names, &[])
     }
 
-    /// Whether each of `names` stands once behind `op`, each of `optional` at most once, and no other
-    /// name does.
+    /// The same, where each of `optional` may stand once too.
     pub(crate) fn check_with(&self, names: &[&str], optional: &[&str]) -> Result<(), CaseError> {
-        self.check_all(names, optional, "")
+        self.check_all(names, optional, None)
     }
 
-    /// The same, where `repeated` may stand as often as it likes.
+    /// The same, where `repeated` may stand too, as often as it likes.
     pub(crate) fn check_all(
         &self,
         names: &[&str],
         optional: &[&str],
-        repeated: &str,
+        repeated: Option<&str>,
     ) -> Result<(), CaseError> {
         for pair in self.pairs() {
-            let name = pair.name();
-            if name != repeated {
-                self.check_name(name, names, optional)?;
+            if !is_name(pair.name(), repeated) {
+                self.check_name(pair.name(), names, optional)?;
             }
         }
         self.check_required(names)
@@ -121,6 +111,14 @@ impl Case {
             Some(value) => value,
             None => "",
         }
+    }
+}
+
+// Whether a name is this one, where there is one.
+fn is_name(name: &str, wanted: Option<&str>) -> bool {
+    match wanted {
+        Some(wanted) => name == wanted,
+        None => false,
     }
 }
 

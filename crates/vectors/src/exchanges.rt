@@ -31,7 +31,8 @@ type Request<'a> = CodeTokenRequest<'a, Refused, Tokens>;
 /// `code_request`: the request that exchanges a code.
 pub(crate) fn code_request(alloc: Global, case: &Case) -> Result<String, CaseError> {
     let required = ["endpoint", "id", "auth", "code"];
-    case.check_all(&required, &["secret", "verifier", "redirect"], "extra")?;
+    let optional = ["secret", "verifier", "redirect"];
+    case.check_all(&required, &optional, Some("extra"))?;
     let endpoint: TokenUrl = url_of(alloc, case.value("endpoint"))?;
     let id = ClientId::new(String::from_str(alloc, case.value("id"))?);
     let secret = secret_in(alloc, case)?;
