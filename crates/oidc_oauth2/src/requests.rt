@@ -1,6 +1,6 @@
 //! The request that exchanges a code for tokens (RFC 6749 section 4.1.3).
 
-ghost use Rattle.std.specs.Prelude.{◌≡◌, ◌≤◌, ◌++◌, ◌∷◌, ◌↔◌, [], None, Some, false, IfOk, IsErrOf, OnOk, map};
+ghost use Rattle.std.specs.Prelude.{◌≡◌, ◌≤◌, ◌++◌, ◌∷◌, [], None, Some, IfOk, OnOk, map};
 ghost use Rattle.std.specs.List.{list_all};
 ghost use Rattle.std.specs.Option.{option_copied};
 ghost use Rattle.std.specs.String.{string_bytes};
@@ -251,7 +251,6 @@ impl<'a, TE, TR> CodeTokenRequest<'a, TE, TR> {
     #[tactic(auto, unfolding(crate::specs::Requests::code_request))]
     pub fn prepare(&self, alloc: Global) -> Result<HttpRequest, PrepareError>
         ensures prepared { spec.Prepares result (spec.code_request self.now) }
-        ensures uri { IsErrOf result PrepareError.Uri ↔ (spec.is_address self.now.address ≡ false) }
     {
         let address = self.endpoint.url().as_str();
         if !is_address(address) {
