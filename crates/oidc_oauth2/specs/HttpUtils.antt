@@ -6,8 +6,8 @@ use Rattle.std.specs.Str.{str_eq_ignore_ascii_case}
 use Rattle.http_header.specs.HeaderMap.{Entries, get}
 use Rattle.http_header.specs.FieldValue.{FieldValue, is_visible_text}
 
--- the text without the white space at both its ends: in a text of visible ASCII, of spaces and tabs,
--- these are spaces and tabs
+-- the text without the white space at both its ends (`has_essence` admits no other white space than
+-- space and tab)
 abbrev pub trimmed : List ℕ → List ℕ
 trimmed text =
     let rest = drop (prefix_len is_ascii_whitespace text) text in
@@ -17,7 +17,7 @@ trimmed text =
 unfoldable pub essence : List ℕ → List ℕ
 essence value = trimmed (before_first (λ b. b == 59) value)
 
--- The value is visible ASCII, spaces and tabs alone, and has this essence in either case of its letters.
+-- The value is visible ASCII, spaces and tabs alone, and has this essence in upper or lower case.
 abbrev pub has_essence : List ℕ → List ℕ → Bool
 has_essence value expected = is_visible_text value && str_eq_ignore_ascii_case (essence value) expected
 

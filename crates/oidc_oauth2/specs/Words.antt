@@ -1,6 +1,6 @@
--- The errors that a token, a device authorization or a revocation endpoint answers, and the types of
--- tokens, each with its text.
-use Rattle.std.specs.Prelude.{ℕ, List, [], ◌∷◌, codes}
+-- The errors that a token endpoint, also while a device waits, and a revocation endpoint answer, and the
+-- types of tokens, each with its text.
+use Rattle.std.specs.Prelude.{◌≡◌, ◌⊎◌, ℕ, List, [], ◌∷◌, codes}
 use Rattle.std.specs.Str.{str_to_ascii_lowercase}
 use Rattle.oidc_types.specs.Vocabulary.{word_or}
 use Rattle.oidc_oauth2.specs.declared.error_types.CoreErrorResponseType.{CoreErrorResponseType}
@@ -43,6 +43,12 @@ device_errors = device_error.AuthorizationPending ∷ device_error.SlowDown ∷ 
 abbrev pub device_error_of : List ℕ → DeviceCodeErrorResponseType
 device_error_of = word_or device_error_text device_errors (λ text. device_error.Basic (error_of text))
 
+-- Each word of its own is read back from its text. (A word that `Basic` keeps may have the text of one.)
+abbrev pub DeviceErrorsReadBack : Type 0
+DeviceErrorsReadBack =
+    (word : DeviceCodeErrorResponseType)
+    → ((basic : CoreErrorResponseType) × (word ≡ device_error.Basic basic)) ⊎ (device_error_of (device_error_text word) ≡ word)
+
 -- errors of a revocation endpoint (RFC 7009 section 2.2.1); any other text is one of a token endpoint
 abbrev pub revocation_error_text : RevocationErrorResponseType → List ℕ
 revocation_error_text revocation_error.UnsupportedTokenType = codes "unsupported_token_type"
@@ -54,7 +60,13 @@ revocation_errors = revocation_error.UnsupportedTokenType ∷ []
 abbrev pub revocation_error_of : List ℕ → RevocationErrorResponseType
 revocation_error_of = word_or revocation_error_text revocation_errors (λ text. revocation_error.Basic (error_of text))
 
--- types of tokens, in either case of their letters (RFC 6749 sections 5.1 and 7.1)
+-- Each word of its own is read back from its text.
+abbrev pub RevocationErrorsReadBack : Type 0
+RevocationErrorsReadBack =
+    (word : RevocationErrorResponseType)
+    → ((basic : CoreErrorResponseType) × (word ≡ revocation_error.Basic basic)) ⊎ (revocation_error_of (revocation_error_text word) ≡ word)
+
+-- types of tokens, in upper or lower case (RFC 6749 sections 5.1 and 7.1)
 abbrev pub token_type_text : CoreTokenType → List ℕ
 token_type_text token_type.Bearer = codes "bearer"
 token_type_text token_type.Mac = codes "mac"

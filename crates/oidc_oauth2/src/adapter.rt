@@ -6,8 +6,8 @@ ghost use Rattle.oidc_oauth2.specs.Adapter.{closure_of, fault_count_of};
 use crate::transport::{CallError, HttpRequest, HttpResponse, SyncHttpClient};
 use std::alloc::Global;
 
-/// A transport that hands each request to a closure. Nothing is known of what went over it; it counts
-/// the closure's errors.
+/// A transport that hands each request to a closure, once, and gives the closure's answer. Nothing is
+/// known of what went over it; it counts the closure's errors.
 #[derive(Drop)]
 pub struct Adapter<F> {
     call: F,
@@ -32,8 +32,9 @@ impl<F> Adapter<F> {
 }
 
 impl<E, F: FnMut(HttpRequest) -> Result<HttpResponse, E>> SyncHttpClient for Adapter<F> {
-    ghost use Rattle.std.specs.Prelude.{Option};
-    ghost use Rattle.oidc_oauth2.specs.Adapter.{closure_of, fault_count_of};
+    ghost use Rattle.std.specs.Prelude.{◌≡◌, ◌≤◌, Option, OnOk, OnErr};
+    ghost use Rattle.oidc_oauth2.specs.Transport.{IsLogged, Plays, answers_in, IsBlamed};
+    ghost use Rattle.oidc_oauth2.specs.Adapter.{closure_of, fault_count_of, answered, risen};
 
     type Error = E;
 
@@ -43,7 +44,21 @@ impl<E, F: FnMut(HttpRequest) -> Result<HttpResponse, E>> SyncHttpClient for Ada
 
     ghost ready = { λ a. F.IsAlwaysCallable (closure_of a) };
 
-    fn call(&mut self, _alloc: Global, request: HttpRequest) -> Result<HttpResponse, CallError<E>> {
+    fn call(&mut self, _alloc: Global, request: HttpRequest) -> Result<HttpResponse, CallError<E>>
+        requires { F.IsAlwaysCallable (closure_of self.old) }
+        ensures again { F.IsAlwaysCallable (closure_of self.new) }
+        ensures logged { IsLogged Option.None Option.None request result }
+        ensures plays { Plays Option.None (answers_in result) Option.None }
+        ensures never_falls { fault_count_of self.old ≤ fault_count_of self.new }
+        ensures blamed { IsBlamed (fault_count_of self.old) (fault_count_of self.new) result }
+
+        // What it says of the closure: it is called once, with this request, and its answer is given.
+        ensures called { (answer : _)
+            × (F.step (closure_of self.old) request answer (closure_of self.new)
+            × (result ≡ answered answer)) }
+        ensures counted { OnErr result (fault_count_of self.new ≡ risen (fault_count_of self.old)) }
+        ensures uncounted { OnOk result (fault_count_of self.new ≡ fault_count_of self.old) }
+    {
         match (self.call)(request) {
             Ok(response) => Ok(response),
             Err(error) => {

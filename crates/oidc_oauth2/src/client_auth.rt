@@ -25,7 +25,7 @@ pub enum AuthType {
 }
 
 /// A client and how it authenticates. A public client has no secret: it sends no credentials, and its
-/// ID in the body, whatever its way.
+/// ID in the body, whatever `auth_type` is.
 #[derive(Clone, Copy)]
 pub struct ClientAuth<'a> {
     /// The client's ID.

@@ -20,22 +20,19 @@ use std::time::Duration;
 
 /// A device authorization response with these extra fields. It has no `Debug`, since it holds codes.
 #[derive(Drop)]
-pub struct StandardDeviceAuthorizationResponse<EF: ExtraDeviceAuthorizationFields> {
+pub struct DeviceAuthorizationResponse<EF: ExtraDeviceAuthorizationFields> {
     codes: DeviceCodes,
     verification_uri_complete: Option<VerificationUriComplete>,
     interval: Duration,
     extra_fields: EF,
 }
 
-/// A device authorization response, by its shorter name.
-pub type DeviceAuthorizationResponse<EF> = StandardDeviceAuthorizationResponse<EF>;
-
 /// A device authorization response without extra fields.
-pub type CoreDeviceAuthorizationResponse = StandardDeviceAuthorizationResponse<
+pub type CoreDeviceAuthorizationResponse = DeviceAuthorizationResponse<
     EmptyExtraDeviceAuthorizationFields,
 >;
 
-impl<EF: ExtraDeviceAuthorizationFields> Model for StandardDeviceAuthorizationResponse<EF> {
+impl<EF: ExtraDeviceAuthorizationFields> Model for DeviceAuthorizationResponse<EF> {
     ghost use Rattle.std.specs.Duration.{as_nanos};
     ghost use Rattle.oidc_oauth2.specs.DeviceResponse.{SeenDevice, seen_device_code};
 
@@ -162,7 +159,7 @@ fn interval_of(seconds: Option<u64>) -> Duration
     Duration::from_secs(seconds.unwrap_or(5))
 }
 
-impl<EF: ExtraDeviceAuthorizationFields> StandardDeviceAuthorizationResponse<EF> {
+impl<EF: ExtraDeviceAuthorizationFields> DeviceAuthorizationResponse<EF> {
     /// Reads a response of its members. Without `interval` it is five seconds. `verification_url` is
     /// read as `verification_uri`; where both are there, the later one is a duplicate.
     #[tactic(auto, unfolding(crate::specs::DeviceResponse::device_of, oidc_readers::specs::Slots::slot))]
@@ -178,7 +175,7 @@ impl<EF: ExtraDeviceAuthorizationFields> StandardDeviceAuthorizationResponse<EF>
             fields.expires_in,
         )?;
         let extra_fields = EF::read(alloc, members)?;
-        Ok(StandardDeviceAuthorizationResponse {
+        Ok(DeviceAuthorizationResponse {
             codes,
             verification_uri_complete: fields.verification_uri_complete.optional(),
             interval: interval_of(fields.interval.optional()),

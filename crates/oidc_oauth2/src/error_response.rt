@@ -48,7 +48,11 @@ impl<T: ErrorResponseType> Model for StandardErrorResponse<T> {
 
     ghost coded = { seen_error_code T.code };
 
-    ghost view = { λ e. record { error = e.error; error_description = e.error_description; error_uri = e.error_uri } };
+    ghost view = { λ e. record {
+      error = e.error;
+      error_description = e.error_description;
+      error_uri = e.error_uri;
+    } };
 }
 
 /// Prints `StandardErrorResponse([redacted])`.

@@ -1,4 +1,4 @@
-//! The errors that a token, a device authorization and a revocation endpoint answer.
+//! The errors that a token endpoint, also while a device waits, and a revocation endpoint answer.
 
 ghost use Rattle.std.specs.Prelude.{◌≡◌, IfOk};
 ghost use Rattle.oidc_types.specs.{find_word};
@@ -15,7 +15,7 @@ pub enum CoreErrorResponseType {
     InvalidClient,
     /// The code or token isn't valid, or is another client's.
     InvalidGrant,
-    /// The request isn't one.
+    /// The request is malformed.
     InvalidRequest,
     /// The scope isn't valid, or is more than was granted.
     InvalidScope,
@@ -191,7 +191,9 @@ impl Vocabulary for DeviceCodeErrorResponseType {
         }
     }
 
-    ghost keeps_text = { keeps device_error_text device_errors (λ text. own.Basic (error_of text)) (keeps error_text errors error.Extension (λ _. refl)) };
+    ghost keeps_text = { keeps device_error_text device_errors
+        (λ text. own.Basic (error_of text))
+        (keeps error_text errors error.Extension (λ _. refl)) };
 }
 
 impl ErrorResponseType for DeviceCodeErrorResponseType {}
@@ -269,7 +271,9 @@ impl Vocabulary for RevocationErrorResponseType {
         }
     }
 
-    ghost keeps_text = { keeps revocation_error_text revocation_errors (λ text. own.Basic (error_of text)) (keeps error_text errors error.Extension (λ _. refl)) };
+    ghost keeps_text = { keeps revocation_error_text revocation_errors
+        (λ text. own.Basic (error_of text))
+        (keeps error_text errors error.Extension (λ _. refl)) };
 }
 
 impl ErrorResponseType for RevocationErrorResponseType {}

@@ -14,7 +14,7 @@ use oidc_types::AccessToken;
 use std::alloc::{AllocError, Global};
 use thiserror::Error;
 
-/// The media type of JSON texts (RFC 8259 section 1.2).
+/// The media type of JSON texts (RFC 8259 section 11).
 pub const MIME_TYPE_JSON: &str = "application/json";
 
 /// The media type of key sets (RFC 7517 section 8.5).
@@ -92,8 +92,8 @@ fn essence(value: &[u8]) -> &[u8]
 }
 
 /// Whether a header's value is visible ASCII, spaces and tabs alone, and what stands before its
-/// first `;`, without spaces and tabs around it, is the expected media type in either case of its letters
-/// (RFC 9110 section 8.3.1).
+/// first `;`, without spaces and tabs around it, is the expected media type in upper or lower case (RFC
+/// 9110 section 8.3.1).
 pub fn content_type_has_essence(value: &HeaderValue, expected: &str) -> bool
     ensures essence { result ≡ spec.has_essence value.now.bytes expected.now }
 {

@@ -8,14 +8,15 @@
 //!   for a client that authenticates by [`ClientAuth`] (section 2.3.1).
 //! - [`token_answer`] is what a response to it is worth (RFC 6749 sections 5.1 and 5.2).
 //! - The records of answers are read by their tables: [`StandardTokenResponse`],
-//!   [`StandardErrorResponse`], [`StandardDeviceAuthorizationResponse`] (RFC 8628 section 3.2) and
+//!   [`StandardErrorResponse`], [`DeviceAuthorizationResponse`] (RFC 8628 section 3.2) and
 //!   [`StandardTokenIntrospectionResponse`] (RFC 7662 section 2.2).
 //! - [`PkceCodeChallenge`] is the challenge of a verifier (RFC 7636). [`auth_bearer`] and
 //!   [`check_content_type`] make and judge header fields (RFC 6750, RFC 9110).
 //!
-//! What it promises. A request hands over exactly the one request of its definition, or nothing, and its
-//! answer is that of the definition for the response that came; each refusal has its cause. This holds
-//! of every transport. Want of memory is a variant `Memory` of its own, or the one error of a call that
+//! What it promises. Over a transport that knows its log, a request hands over exactly the one request of
+//! its definition, or nothing, and its answer is that of the definition for the response that came. Over
+//! any other its answer is what some response is worth, or a fault of the transport; each refusal has its
+//! cause. Want of memory is a variant `Memory` of its own, or the one error of a call that
 //! answers an `AllocError`, and no clause says when it comes. What holds tokens has no `Debug`.
 #![tactic(auto)]
 
@@ -27,6 +28,7 @@ pub mod error_types;
 pub mod extra;
 pub mod http_utils;
 pub mod introspection;
+pub mod laws;
 pub mod pkce;
 pub mod recorded;
 pub mod requests;
@@ -39,10 +41,7 @@ pub mod transport;
 
 pub use crate::adapter::Adapter;
 pub use crate::client_auth::{AuthType, ClientAuth, ConfigurationError};
-pub use crate::device::{
-    CoreDeviceAuthorizationResponse, DeviceAuthorizationResponse,
-    StandardDeviceAuthorizationResponse,
-};
+pub use crate::device::{CoreDeviceAuthorizationResponse, DeviceAuthorizationResponse};
 pub use crate::error_response::{
     CoreRevocationErrorResponse, DeviceCodeErrorResponse, ErrorResponse, StandardErrorResponse,
 };

@@ -82,7 +82,7 @@ fn random_pair<R: Rng>(
 
 impl PkceCodeChallenge {
     /// The S256 challenge of a verifier (RFC 7636 section 4.2). `Length` exactly where the verifier
-    /// hasn't 43 to 128 bytes (section 4.1), else `Memory` where there is none.
+    /// hasn't 43 to 128 bytes (section 4.1), `Memory` where there was no memory.
     pub fn from_code_verifier_sha256(
         alloc: Global,
         verifier: &PkceCodeVerifier,

@@ -1,6 +1,6 @@
 //! A transport in memory.
 
-ghost use Rattle.std.specs.Prelude.{◌≡◌, [], ◌∷◌, ◌++◌, map, drop, option_map, IfOk, OnOk, OnErr};
+ghost use Rattle.std.specs.Prelude.{◌≡◌, [], ◌∷◌, ◌++◌, Some, map, drop, option_map, IfOk, OnOk, OnErr};
 ghost use Rattle.oidc_oauth2.specs.Messages.{seen_response};
 ghost use Rattle.oidc_oauth2.specs.Transport.{first_of};
 ghost use Rattle.oidc_oauth2.specs.Recorded.{seen_answer, left_of};
@@ -105,10 +105,18 @@ impl Model for Recorded {
 impl Recorded {
     /// A transport that will give these answers, to which nothing was handed over yet. It takes no
     /// memory.
+    #[tactic(auto, unfolding(crate::specs::Recorded::fault_count))]
     pub fn new(alloc: Global, answers: Vec<Answer>) -> Self
         ensures requests { result.requests ≡ [] }
         ensures given { result.given ≡ [] }
         ensures left { result.left ≡ map seen_answer answers.items }
+
+        // What goes over it is known, and it has no fault yet.
+        ensures log { ⟦<Recorded as SyncHttpClient>⟧.log result
+            ≡ Some (record { requests = []; answers = [] }) }
+        ensures script { ⟦<Recorded as SyncHttpClient>⟧.script result
+            ≡ Some (map seen_answer answers.items) }
+        ensures faults { ⟦<Recorded as SyncHttpClient>⟧.faults result ≡ 0 }
     {
         let mut later = answers.into_iter();
         let next = later.next();

@@ -30,7 +30,7 @@ const MAX_ADDRESS: usize = 65_534;
 /// Why a request isn't made.
 #[derive(Clone, Copy, Debug, Error, PartialEq, Eq)]
 pub enum PrepareError {
-    /// The endpoint's address isn't one that is sent to.
+    /// The endpoint's address is too long, or has other bytes than visible ASCII.
     #[error("an address that is not sent to")]
     Uri,
     /// There was no memory.
@@ -246,8 +246,8 @@ impl<'a, TE, TR> CodeTokenRequest<'a, TE, TR> {
         }
     }
 
-    /// The request as it is handed over: a POST to the endpoint. `Uri` exactly where its address
-    /// isn't one that is sent to: at most 65,534 bytes, each from 0x21 to 0x7E.
+    /// The request as it is handed over: a POST to the endpoint. `Uri` exactly where its address has
+    /// more than 65,534 bytes, or one that isn't from 0x21 to 0x7E.
     #[tactic(auto, unfolding(crate::specs::Requests::code_request))]
     pub fn prepare(&self, alloc: Global) -> Result<HttpRequest, PrepareError>
         ensures prepared { spec.Prepares result (spec.code_request self.now) }

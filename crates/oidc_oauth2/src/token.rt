@@ -24,7 +24,7 @@ use std::time::Duration;
 
 /// A response that holds an access token.
 pub trait OAuth2TokenResponse: Drop {
-    /// The type of its token's types.
+    /// How its types of tokens are read.
     type TokenType: TokenType;
 
     /// The fields beside those of the standard.

@@ -20,7 +20,8 @@ const MAX_BODY: usize = 1_048_576;
 /// Other causes for which there is no answer.
 #[derive(Clone, Copy, Debug, Error, PartialEq, Eq)]
 pub enum OtherCause {
-    /// The endpoint's address isn't one that is sent to. Nothing was handed over.
+    /// The endpoint's address is too long, or has other bytes than visible ASCII. Nothing was handed
+    /// over.
     #[error("an address that is not sent to")]
     Uri,
     /// The body is empty.

@@ -65,7 +65,12 @@ impl Model for HttpRequest {
 
     ghost coded = { seen_request_code };
 
-    ghost view = { λ r. record { method = r.method; address = string_bytes r.address; headers = r.headers; body = r.body } };
+    ghost view = { λ r. record {
+      method = r.method;
+      address = string_bytes r.address;
+      headers = r.headers;
+      body = r.body;
+    } };
 }
 
 impl HttpRequest {
@@ -147,8 +152,8 @@ pub trait SyncHttpClient {
     /// How often it has failed.
     ghost faults: { Self → ℕ };
 
-    /// It may be called: of a closure, that its calls ask nothing of the caller. Every other transport
-    /// may always be called.
+    /// Whether it may be called. By default it may. An `Adapter` may, where its closure has no
+    /// `requires`.
     ghost ready: { Self → Type 0 } = { λ _. Unit {0} };
 
     /// Hands the request over and gives the answer. `Transport` comes only where the count of faults
