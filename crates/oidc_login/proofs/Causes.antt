@@ -79,7 +79,7 @@ module _ (a : Attempt) (answers : List SeenAnswer) where
   token_row (token_error.ServerResponse error) c = refused_tokens _ c
   token_row (token_error.Parse refusal body) c = refused_tokens _ c
 
-  error_row : HasError a answers → reply ≡ Err login.Unbuilt
+  error_row : HasError a → reply ≡ Err login.Unbuilt
   unfolding opening
   error_row c = unopened _ (rw (c.names.login_named, found (values a.query (codes "error")) c.some_error) refl)
 

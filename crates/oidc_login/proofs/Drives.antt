@@ -7,11 +7,10 @@ use Rattle.oidc_oauth2.specs.Transport.{Log, log_after, Plays}
 use Rattle.oidc_oauth2.specs.Exchanges.{Known}
 use Rattle.oidc_login.specs.SignedIn.{SeenSignedIn}
 use Rattle.oidc_login.specs.Errors.{Error, seen, memory_of, Unless, OrMemory, Gives}
-use Rattle.oidc_login.specs.Rows.{Attempt, Meant, Run, opening, after_token, with_token, outcome}
-use Rattle.oidc_login.specs.Causes.{Asks, Cause, IsSignedIn}
+use Rattle.oidc_login.specs.Rows.{Attempt, Meant, SeenOpened, Run, opening, after_token, with_token, outcome}
+use Rattle.oidc_login.specs.Causes.{Asks, AsksNothing, Cause, IsSignedIn}
 use Rattle.oidc_login.specs.Runs.{IsItsRequest, handed_over, Ran}
 use Rattle.oidc_login.specs.Steps.{Exchanged, Untouched}
-use Rattle.oidc_login.specs.declared.steps.Opened.{Opened}
 use Rattle.oidc_login.specs.declared.errors.LoginError.{LoginError}
 use Rattle.oidc_login.specs.declared.errors.LoginError.TheVariants.{Memory}
 use Rattle.oidc_login.proofs.Walks.{Walk}
@@ -55,26 +54,30 @@ plays_none (Some script) = (refl, refl)
 
 module _ (a : Attempt) where
   -- what is handed over is nothing, or the token request of the named login
-  abbrev Own : Meant Opened → Type 0
+  abbrev Own : Meant SeenOpened → Type 0
   Own m = Walk (λ o. Asks a o.login o.request) (λ e. Unit {0}) m
 
-  own_of : (answers : List SeenAnswer) (m : Meant Opened) → Walk (λ o. Asks a o.login o.request) (Cause a answers) m → Own m
+  own_of : (answers : List SeenAnswer) (m : Meant SeenOpened) → Walk (λ o. Asks a o.login o.request) (Cause a answers) m → Own m
   own_of answers (Ok o) walk = walk
   own_of answers (Err e) walk = tt
 
-  abbrev sent_by : List SeenAnswer → Meant Opened → List SeenRequest
+  -- the query asks for the token request of what was opened
+  pub asks : (o : SeenOpened) → opening a.client a.pending (pairs a.query) ≡ Ok o → AsksNothing a → ⊥
+  asks o is nothing = nothing o.login o.request (subst (Walk (λ x. Asks a x.login x.request) (Cause a [])) is (opening-walk a []))
+
+  abbrev sent_by : List SeenAnswer → Meant SeenOpened → List SeenRequest
   sent_by answers m = (with_token a.client a.now answers m).sent
 
-  at_most_one : (n : ℕ) (answers : List SeenAnswer) (m : Meant Opened) → length (take n (sent_by answers m)) ≤ 1
+  at_most_one : (n : ℕ) (answers : List SeenAnswer) (m : Meant SeenOpened) → length (take n (sent_by answers m)) ≤ 1
   at_most_one zero answers m = lit≤ tt
   at_most_one (suc n) answers (Err e) = lit≤ tt
   at_most_one (suc zero) answers (Ok o) = lit≤ tt
   at_most_one (suc (suc n)) answers (Ok o) = lit≤ tt
 
-  its : (o : Opened) → Asks a o.login o.request → IsItsRequest a (o.request ∷ [])
+  its : (o : SeenOpened) → Asks a o.login o.request → IsItsRequest a (o.request ∷ [])
   its o asked = record { login = o.login; request = o.request; asked = asked; alone = refl }
 
-  only_its : (n : ℕ) (answers : List SeenAnswer) (m : Meant Opened) → Own m
+  only_its : (n : ℕ) (answers : List SeenAnswer) (m : Meant SeenOpened) → Own m
       → (take n (sent_by answers m) ≡ []) ⊎ IsItsRequest a (take n (sent_by answers m))
   only_its zero answers m own = inl refl
   only_its (suc n) answers (Err e) own = inl refl
@@ -82,7 +85,7 @@ module _ (a : Attempt) where
   only_its (suc (suc n)) answers (Ok o) own = inr (its o own)
 
   -- behind an Ok it was the request
-  own_sent : {E : Type 0} (answers : List SeenAnswer) (m : Meant Opened) (result : Result SeenSignedIn (LoginError E)) → Own m
+  own_sent : {E : Type 0} (answers : List SeenAnswer) (m : Meant SeenOpened) (result : Result SeenSignedIn (LoginError E)) → Own m
       → Gives result (with_token a.client a.now answers m).reply → OrMemory result (length answers ≡ length (sent_by answers m))
       → OnOk result (IsItsRequest a (take (length answers) (sent_by answers m)))
   own_sent answers (Err e) (Ok signed) own gives all = cc
@@ -92,7 +95,7 @@ module _ (a : Attempt) where
 -- ---- what was handed over and is meant makes the whole
 
 module _ {E : Type 0} (a : Attempt) (old new : Known) (result : Result SeenSignedIn (LoginError E)) (answers : List SeenAnswer) where
-  abbrev opens : Meant Opened
+  abbrev opens : Meant SeenOpened
   opens = opening a.client a.pending (pairs a.query)
 
   ran : new.log ≡ log_after old.log (handed_over a answers) answers → Plays old.script answers new.script
@@ -116,7 +119,7 @@ module _ {E : Type 0} (a : Attempt) (old new : Known) (result : Result SeenSigne
 
 module _ (a : Attempt) (old : Known) where
   -- nothing was sent
-  pub unopened : {E : Type 0} (e : LoginError E) → Gives {A = Opened} (Err e) (opening a.client a.pending (pairs a.query)) → Ran a old old (Err e)
+  pub unopened : {E : Type 0} (e : LoginError E) → Gives {A = SeenOpened} (Err e) (opening a.client a.pending (pairs a.query)) → Ran a old old (Err e)
   unopened e gives =
       ran a old old (Err e) [] (sym (log_kept old.log)) (plays_none old.script) (omega arith)
       (unless_map (memory_of e) (λ is. ap (λ m. length (with_token a.client a.now [] m).sent) (sym is)) gives)
@@ -126,7 +129,7 @@ module _ (a : Attempt) (old : Known) where
   memory_first new kept = ran a old new (Err (Memory true)) [] (kept.0 ∙ sym (log_kept old.log)) kept.1 (omega arith) tt tt
 
   -- the token request was sent
-  pub answered : {E : Type 0} (o : Opened) → opening a.client a.pending (pairs a.query) ≡ Ok o → (new : Known) (x : SeenAnswer) → Exchanged old new o.request x
+  pub answered : {E : Type 0} (o : SeenOpened) → opening a.client a.pending (pairs a.query) ≡ Ok o → (new : Known) (x : SeenAnswer) → Exchanged old new o.request x
       → (result : Result SeenSignedIn (LoginError E)) → Gives result (after_token a.client a.now o.login x) → Ran a old new result
   answered o is new x sent result gives =
       let whole : outcome a (x ∷ []) ≡ record { reply = after_token a.client a.now o.login x; sent = o.request ∷ [] } = ap (with_token a.client a.now (x ∷ [])) is in

@@ -13,9 +13,8 @@ use Rattle.oidc_login.specs.TokenResponse.{Tokens, TokenError, tokens_or_refusal
 use Rattle.oidc_login.specs.IdToken.{token_of}
 use Rattle.oidc_login.specs.Verification.{first_failure}
 use Rattle.oidc_login.specs.Errors.{Error}
-use Rattle.oidc_login.specs.Rows.{Attempt, Meant, login_named_by, error_in, code_in, opening, tokens_in, signing_in, after_token, with_token, outcome}
+use Rattle.oidc_login.specs.Rows.{Attempt, Meant, SeenOpened, login_named_by, error_in, code_in, opening, tokens_in, signing_in, after_token, with_token, outcome}
 use Rattle.oidc_login.specs.Causes.{Names, HasCode, Asks, Held, Answered, Reads, HasText, Holds, IsSignedIn, TokenCause, Cause}
-use Rattle.oidc_login.specs.declared.steps.Opened.{Opened}
 use Rattle.oidc_login.proofs.Walks.{Walk, at_or, at_meant, at_last, at_when, at_for, walked_err, walked_ok}
 use Rattle.oidc_oauth2.specs.ErrorResponse.{SeenError}
 use Rattle.oidc_oauth2.specs.declared.error_types.CoreErrorResponseType.{CoreErrorResponseType}
@@ -37,7 +36,7 @@ module _ (a : Attempt) (answers : List SeenAnswer) where
 
   -- ---- before the token request
 
-  abbrev pub IsOpened : Opened → Type 0
+  abbrev pub IsOpened : SeenOpened → Type 0
   IsOpened o = Asks a o.login o.request
 
   pub opening-walk : Walk IsOpened Q (opening a.client a.pending (pairs a.query))
@@ -107,7 +106,7 @@ module _ (a : Attempt) (answers : List SeenAnswer) where
 
   -- ---- the whole
 
-  with_token-walk : (opened : Meant Opened) → Walk IsOpened Q opened → Walk (IsSignedIn a answers) Q (with_token a.client a.now answers opened).reply
+  with_token-walk : (opened : Meant SeenOpened) → Walk IsOpened Q opened → Walk (IsSignedIn a answers) Q (with_token a.client a.now answers opened).reply
   with_token-walk (Err e) walk = walk
   with_token-walk (Ok opened) walk = after_token-walk opened.login opened.request walk
 

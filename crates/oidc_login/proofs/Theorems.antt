@@ -4,11 +4,10 @@ use Rattle.oidc_pairs.specs.Pairs.{pairs}
 use Rattle.oidc_oauth2.specs.Messages.{SeenAnswer}
 use Rattle.oidc_oauth2.specs.Transport.{played, first_of}
 use Rattle.oidc_login.specs.Client.{SeenClient}
-use Rattle.oidc_login.specs.Rows.{Attempt, Meant, opening, after_token, with_token, outcome}
-use Rattle.oidc_login.specs.declared.steps.Opened.{Opened}
+use Rattle.oidc_login.specs.Rows.{Attempt, Meant, SeenOpened, opening, after_token, with_token, outcome}
 
 module _ (client : SeenClient) (now : ℤ) where
-  same_by : (m : Meant Opened) (answers script : List SeenAnswer) → answers ≡ played script (length answers)
+  same_by : (m : Meant SeenOpened) (answers script : List SeenAnswer) → answers ≡ played script (length answers)
       → length answers ≡ length (with_token client now answers m).sent → with_token client now answers m ≡ with_token client now script m
   same_by (Err e) answers script plays all = refl
   same_by (Ok o) answers script plays all =

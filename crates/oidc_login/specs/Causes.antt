@@ -38,6 +38,32 @@ module _ (a : Attempt) where
     pub has_code : HasCode login code
     pub request_made : token_request a.client login code ≡ Some request
 
+  -- no pending login asks for a request by the query
+  abbrev pub AsksNothing : Type 0
+  AsksNothing = (login : SeenLogin) (request : SeenRequest) → Asks login request → ⊥
+
+  -- ---- refusals that rest on client, store and query alone
+
+  -- the query has an `error`
+  pub record HasError : Type 0 where
+    pub login : SeenLogin
+    pub names : Names login
+    pub some_error : values a.query (codes "error") ≢ []
+
+  -- it has no `error`, and not one `code`
+  pub record LacksCode : Type 0 where
+    pub login : SeenLogin
+    pub names : Names login
+    pub no_error : values a.query (codes "error") ≡ []
+    pub not_one_code : only_of (values a.query (codes "code")) ≡ None
+
+  -- no token request is made, since its address isn't one that is sent to
+  pub record HasNoRequest : Type 0 where
+    pub login : SeenLogin
+    pub code : List ℕ
+    pub has_code : HasCode login code
+    pub no_request : token_request a.client login code ≡ None
+
 -- a login, the tokens that came for it, and the ID token among them
 pub record Held : Type 0 where
   pub login : SeenLogin
@@ -71,8 +97,8 @@ module _ (a : Attempt) (answers : List SeenAnswer) where
 
   -- ---- an Ok
 
-  -- A user who is signed in: the ID token came in the answer to the token request of the named login, and
-  -- is accepted with that login's nonce at this moment.
+  -- A user who is signed in: the ID token came in the answer to the token request of the named
+  -- login, and is accepted with that login's nonce at this moment.
   pub record IsSignedIn (signed : SeenSignedIn) : Type 0 where
     pub held : Held
     pub holds : Holds held
@@ -81,27 +107,7 @@ module _ (a : Attempt) (answers : List SeenAnswer) where
     pub own_access_token : signed.access_token ≡ held.tokens.access_token
     pub own_refresh_token : signed.refresh_token ≡ held.tokens.refresh_token
 
-  -- ---- each refusal
-
-  -- the query has an `error`
-  pub record HasError : Type 0 where
-    pub login : SeenLogin
-    pub names : Names a login
-    pub some_error : values a.query (codes "error") ≢ []
-
-  -- it has no `error`, and not one `code`
-  pub record LacksCode : Type 0 where
-    pub login : SeenLogin
-    pub names : Names a login
-    pub no_error : values a.query (codes "error") ≡ []
-    pub not_one_code : only_of (values a.query (codes "code")) ≡ None
-
-  -- no token request is made, since its address isn't one that is sent to
-  pub record HasNoRequest : Type 0 where
-    pub login : SeenLogin
-    pub code : List ℕ
-    pub has_code : HasCode a login code
-    pub no_request : token_request a.client login code ≡ None
+  -- ---- refusals by what came
 
   -- the transport failed on the token request
   pub record HasNoResponse : Type 0 where
@@ -147,11 +153,13 @@ module _ (a : Attempt) (answers : List SeenAnswer) where
     pub holds : Holds held
     pub check_failed : first_failure a.client held.login.nonce a.now held.token ≡ Some kind
 
+  -- ---- the cause of each refusal
+
   abbrev pub TooLongCause : TooLong → Type 0
   TooLongCause place.TokenAnswer = HasLongResponse
 
   abbrev pub TokenCause : TokenError → Type 0
-  TokenCause (token_error.Other other.Uri) = HasNoRequest
+  TokenCause (token_error.Other other.Uri) = HasNoRequest a
   TokenCause (token_error.Request cause) = HasNoResponse
   TokenCause (token_error.TooLong body) = ⊥
   TokenCause token_error.Memory = ⊥
@@ -160,8 +168,8 @@ module _ (a : Attempt) (answers : List SeenAnswer) where
   abbrev pub Cause : Error → Type 0
   Cause (login.TooLong at) = TooLongCause at
   Cause login.State = login_named_by a.pending (pairs a.query) ≡ None
-  Cause login.Unbuilt = HasError ⊎ HasOtherText
-  Cause login.Callback = LacksCode
+  Cause login.Unbuilt = HasError a ⊎ HasOtherText
+  Cause login.Callback = LacksCode a
   Cause (login.Token e) = TokenCause e
   Cause login.NoIdToken = LacksIdToken
   Cause (login.Claims kind) = FailsCheck kind

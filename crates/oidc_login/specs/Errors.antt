@@ -1,4 +1,5 @@
--- Refusals of a callback without what the transport's error carries, and want of memory, once for all.
+-- Refusals of a callback without what the transport's error carries, and want of memory, once for
+-- all.
 use Rattle.std.specs.Prelude.{◌≡◌, Bool, true, false, Option, None, Some, Result, Ok, Err}
 use Rattle.oidc_oauth2.specs.TokenAnswers.{seen_refusal}
 use Rattle.oidc_oauth2.specs.declared.token_answers.RequestTokenError.{RequestTokenError}

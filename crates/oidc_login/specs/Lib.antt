@@ -1,6 +1,6 @@
--- In reading order: the client and its authorization URL; ID tokens and their checks; pending logins and
--- what a begin leaves; the token request and its answer; the table of a callback, what each reply rests
--- on, and what a callback leaves of a transport and of the store.
+-- In reading order: the client and its authorization URL; ID tokens and their checks; pending logins
+-- and what a begin leaves; the token request and its answer; the table of a callback, what each
+-- reply rests on, and what a callback leaves of a transport and of the store.
 pub mod Client
 pub mod Authorization
 pub mod Header

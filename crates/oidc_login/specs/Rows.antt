@@ -1,5 +1,5 @@
--- The table of a callback: what it answers and sends, row by row, in the order of the rows: RFC 6749
--- sections 4.1.2 to 4.1.4, OpenID Connect Core 1.0 section 3.1.3.
+-- The table of a callback: what it answers and sends, row by row, in the order of the rows: RFC
+-- 6749 sections 4.1.2 to 4.1.4, OpenID Connect Core 1.0 section 3.1.3.
 use Rattle.std.specs.Prelude.{ℕ, ℤ, List, [], ◌∷◌, Option, None, Some, is_some, option_and_then, Result, Ok, Err, codes}
 use Rattle.std.specs.FinMap as finite
 use Rattle.oidc_pairs.specs.Pairs.{pairs, values_in, only_of, first_of as first_value}
@@ -16,7 +16,6 @@ use Rattle.oidc_login.specs.IdToken.{SeenIdToken, token_of}
 use Rattle.oidc_login.specs.Verification.{first_failure}
 use Rattle.oidc_login.specs.SignedIn.{SeenSignedIn}
 use Rattle.oidc_login.specs.Errors.{Error}
-use Rattle.oidc_login.specs.declared.steps.Opened.{Opened}
 use Rattle.oidc_login.specs.declared.errors.TooLong.TheVariants as place
 use Rattle.oidc_login.specs.declared.errors.LoginError.TheVariants.{TooLong, State, Unbuilt, Callback, Token, NoIdToken, Claims}
 
@@ -39,7 +38,8 @@ row for (Some x) = Err (row x)
 
 -- ---- what a callback starts from
 
--- a client's pending logins, and the query of a callback at a moment (nanoseconds since the Unix epoch)
+-- a client's pending logins, and the query of a callback at a moment (nanoseconds since the Unix
+-- epoch)
 pub record Attempt : Type 0 where
   pub client : SeenClient
   pub pending : Pending
@@ -62,8 +62,13 @@ login_named_by pending query = option_and_then (finite.get pending) (state_in qu
 
 -- ---- the rows
 
+-- a login that was taken out, and its token request
+pub record SeenOpened : Type 0 where
+  pub login : SeenLogin
+  pub request : SeenRequest
+
 -- those before the token request
-unfoldable pub opening : SeenClient → Pending → List (List ℕ × List ℕ) → Meant Opened
+unfoldable pub opening : SeenClient → Pending → List (List ℕ × List ℕ) → Meant SeenOpened
 opening client pending query = do
   login ← login_named_by pending query or State
   Unbuilt when is_some (error_in query)
@@ -93,7 +98,7 @@ signing_in client now login tokens = do
   Claims for first_failure client login.nonce now token
   Ok (signed_by token tokens)
 
--- those behind the token request
+-- those after the token request
 unfoldable pub after_token : SeenClient → ℤ → SeenLogin → SeenAnswer → Meant SeenSignedIn
 after_token client now login answer = do
   response ← answer or Token (token_error.Request tt)
@@ -107,7 +112,7 @@ pub record Run : Type 0 where
   pub reply : Meant SeenSignedIn
   pub sent : List SeenRequest
 
-abbrev pub with_token : SeenClient → ℤ → List SeenAnswer → Meant Opened → Run
+abbrev pub with_token : SeenClient → ℤ → List SeenAnswer → Meant SeenOpened → Run
 with_token client now answers (Err e) = record { reply = Err e; sent = [] }
 with_token client now answers (Ok opened) = record {
   reply = after_token client now opened.login (first_of answers);

@@ -23,17 +23,18 @@ pub record IsItsRequest (a : Attempt) (sent : List SeenRequest) : Type 0 where
 abbrev pub handed_over : Attempt → List SeenAnswer → List SeenRequest
 handed_over a answers = take (length answers) (outcome a answers).sent
 
--- For some answers that came: each took one of the requests of the outcome, in their order, and the reply is
--- that of the outcome, or want of memory.
-pub record Ran {E : Type 0} (a : Attempt) (old new : Known) (result : Result SeenSignedIn (LoginError E)) : Type 0 where
+-- For some answers: each took one of the requests of the outcome, in their order, and the reply is
+-- that of the outcome, or want of memory. Where the transport keeps a log, they are those that came.
+pub record Ran {E : Type 0} (a : Attempt) (old new : Known) (result : Result SeenSignedIn (LoginError E))
+    : Type 0 where
   pub answers : List SeenAnswer
   pub logged : new.log ≡ log_after old.log (handed_over a answers) answers
   pub plays : Plays old.script answers new.script
   pub answered : length answers ≤ length (outcome a answers).sent
   pub all_sent : OrMemory result (length answers ≡ length (outcome a answers).sent)
   pub reply : Gives result (outcome a answers).reply
-  -- at most one request was handed over: the one that the named login and the query ask for. Behind an Ok
-  -- it was.
+  -- at most one request was handed over: the one that the named login and the query ask for. For an
+  -- Ok it was.
   pub at_most_one_request : length (handed_over a answers) ≤ 1
   pub only_its_request : (handed_over a answers ≡ []) ⊎ IsItsRequest a (handed_over a answers)
   pub own_request : OnOk result (IsItsRequest a (handed_over a answers))

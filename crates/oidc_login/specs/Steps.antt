@@ -21,7 +21,8 @@ answer_of (Err e) = None
 -- one request was handed over and took this answer
 abbrev pub Exchanged : Known → Known → SeenRequest → SeenAnswer → Type 0
 Exchanged old new request answer =
-    (new.log ≡ log_after old.log (request ∷ []) (answer ∷ [])) × Plays old.script (answer ∷ []) new.script
+    (new.log ≡ log_after old.log (request ∷ []) (answer ∷ []))
+    × Plays old.script (answer ∷ []) new.script
 
 -- nothing was handed over
 abbrev pub Untouched : Known → Known → Type 0
@@ -32,7 +33,8 @@ abbrev pub Faults : {A E : Type 0} → SeenAnswer → Result A (LoginError E) �
 Faults answer result = IfErr result (λ e. faulted e ≡ true → answer ≡ None)
 
 -- the refusal of a login by that of its token request
-abbrev pub of_token : {E : Type 0} → RequestTokenError E (SeenError CoreErrorResponseType) → LoginError E
+abbrev pub of_token : {E : Type 0} → RequestTokenError E (SeenError CoreErrorResponseType)
+    → LoginError E
 of_token (token.TooLong body) = login.TooLong place.TokenAnswer
 of_token token.Memory = login.Memory true
 of_token e = login.Token e

@@ -9,19 +9,25 @@ use Rattle.oidc_oauth2.specs.declared.client_auth.AuthType.TheVariants.{BasicAut
 use Rattle.oidc_login.specs.Client.{SeenClient}
 use Rattle.oidc_login.specs.Logins.{SeenLogin}
 
--- the code with the verifier of its login, to the text of an endpoint's URL. A login keeps no redirect, and
--- none is sent.
+-- the code with the verifier of its login, to the text of an endpoint's URL. A login keeps no
+-- redirect, and none is sent.
 abbrev pub request_to : TextAndUrl → SeenClient → SeenLogin → List ℕ → SeenCodeRequest
 request_to endpoint client login code = record {
   address = serialize endpoint.url;
-  client = record { client_id = client.client_id; client_secret = Some client.client_secret; auth_type = BasicAuth };
+  client = record {
+    client_id = client.client_id;
+    client_secret = Some client.client_secret;
+    auth_type = BasicAuth;
+  };
   code = code;
   verifier = Some login.verifier;
   redirect_uri = None;
   extra = [];
 }
 
--- the request to the client's token endpoint, where its address is one that is sent to
+-- The request to the client's token endpoint, where its address is one that is sent to. A client
+-- without an endpoint has none, and no store either: `Logins::new` refuses it.
 unfoldable pub token_request : SeenClient → SeenLogin → List ℕ → Option SeenRequest
 token_request client login code =
-    option_and_then (λ endpoint. code_request (request_to endpoint client login code)) client.token_endpoint
+    option_and_then (λ endpoint. code_request (request_to endpoint client login code))
+    client.token_endpoint

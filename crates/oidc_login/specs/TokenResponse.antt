@@ -1,5 +1,5 @@
--- The token response of a login, and what an answer to its token request is worth: RFC 6749 sections 5.1
--- and 5.2, OpenID Connect Core 1.0 section 3.1.3.3.
+-- The token response of a login, and what an answer to its token request is worth: RFC 6749
+-- sections 5.1 and 5.2, OpenID Connect Core 1.0 section 3.1.3.3.
 use Rattle.std.specs.Prelude.{ℕ, List, Option, Result, Ok, codes, refl}
 use Rattle.std.specs.Coded.{Coded, code_by, coded_option, coded_list, coded_ℕ}
 use Rattle.oidc_members.specs.Seen.{SeenMember}
@@ -41,10 +41,12 @@ TokenError = TokenRefusal (SeenError CoreErrorResponseType)
 
 -- the tokens that a response holds whose body isn't too long, or why it is refused
 unfoldable pub tokens_or_refusal : SeenResponse → Result Tokens TokenError
-tokens_or_refusal = status_answer (error_response_of error_of) (tokens_of token_type_of id_token_field_of)
+tokens_or_refusal =
+    status_answer (error_response_of error_of) (tokens_of token_type_of id_token_field_of)
 
 -- ---- how the logic stores it
 
 abbrev pub seen_id_token_field_code : Coded SeenIdTokenField
 seen_id_token_field_code =
-    code_by (Option (List ℕ)) (coded_option (coded_list coded_ℕ)) (λ f. f.id_token) (λ t. record { id_token = t }) (λ _. refl)
+    code_by (Option (List ℕ)) (coded_option (coded_list coded_ℕ)) (λ f. f.id_token)
+    (λ t. record { id_token = t }) (λ _. refl)

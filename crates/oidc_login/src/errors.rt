@@ -50,8 +50,8 @@ pub enum TooLong {
     TokenAnswer,
 }
 
-/// Why a callback signs nobody in. `E` is the transport's error. `Debug` shows neither a body nor an
-/// error response.
+/// Why a callback signs nobody in. `E` is the transport's error. `Debug` shows neither a body nor
+/// an error response.
 #[derive(Debug, Drop, Error)]
 pub enum LoginError<E> {
     /// An answer is too long.
@@ -66,7 +66,8 @@ pub enum LoginError<E> {
     /// The query hasn't one `code`.
     #[error("the query hasn't one code")]
     Callback,
-    /// The token request has no answer that holds tokens. It is never `TooLong` or `Memory` inside.
+    /// The token request has no answer that holds tokens. `TooLong` and `Memory` never stand inside
+    /// it.
     #[error("no tokens: {0}")]
     Token(CoreRequestTokenError<E>),
     /// The answer has no ID token.

@@ -14,16 +14,20 @@
 //! that one request, and where it sends one the named login is gone afterwards. A callback leaves
 //! every other login as it was. Every refusal but want of memory has its cause. The contracts of
 //! `begin` and `callback` say so by the definitions in `specs/`: the table of a callback in
-//! `specs/Rows.antt`, what each reply rests on in `specs/Causes.antt`, and both together, over any
-//! transport, as `Ran` in `specs/Runs.antt`.
+//! `specs/Rows.antt`, what each reply rests on in `specs/Causes.antt`, and both together as `Ran` in
+//! `specs/Runs.antt`.
+//!
+//! `Ran` says all this for some answers. Where the transport keeps a log, they are those that came.
+//! Of one that keeps none, as over a network, a contract can't say what came; `callback` is one
+//! function for every transport, and can't tell the two apart.
 //!
 //! No contract says in which order things are done. That the login is removed before anything is
 //! sent, the body of `callback` shows: it takes the login out first, and hands the request over
 //! then.
 //!
-//! The standards: RFC 6749 (section 4.1), RFC 7636, RFC 7515 section 7.1, and OpenID Connect Core 1.0
-//! (sections 2, 3.1.2.1, 3.1.3.3 and 3.1.3.7). The modules `client` and `tokens` hold what this path
-//! needs of the layers that will stand below it.
+//! The standards: RFC 6749 (section 4.1), RFC 7636, RFC 7515 section 7.1, and OpenID Connect Core
+//! 1.0 (sections 2, 3.1.2.1, 3.1.3.3 and 3.1.3.7). The modules `client` and `tokens` hold what this
+//! path needs of the layers that will stand below it.
 #![tactic(auto)]
 
 pub mod client;

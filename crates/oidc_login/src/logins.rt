@@ -1,6 +1,6 @@
 //! The pending logins of one client.
 
-ghost use Rattle.std.specs.Prelude.{◌≡◌, ◌≢◌, ◌↔◌, ◌≤◌, IfOk, OnOk, OnErr, IsErrOf, IsTrue, IsNone, IsSome, not, false, None};
+ghost use Rattle.std.specs.Prelude.{◌≡◌, ◌≢◌, ◌↔◌, ◌≤◌, IfOk, OnOk, OnErr, IsErrOf, IsTrue, IsNone, IsSome, not, true, false, None};
 ghost use Rattle.std.specs.FinMap as finite;
 ghost use Rattle.oidc_pairs.specs.Pairs.{pairs};
 ghost use Rattle.oidc_oauth2.specs.Pkce.{is_verifier, s256};
@@ -9,6 +9,7 @@ ghost use Rattle.oidc_login.specs.Errors.{is_spent_by, OrMemory};
 ghost use Rattle.oidc_login.specs.Logins.{HasVerifiers};
 ghost use Rattle.oidc_login.specs.Begins.{begin_reply, Begins, with_login};
 ghost use Rattle.oidc_login.specs.Rows.{login_named_by, callback_store};
+ghost use Rattle.oidc_login.specs.Causes.{AsksNothing};
 ghost use Rattle.oidc_login.specs.Runs.{Ran, IsBlamed, Leaves, attempt};
 ghost use Rattle.oidc_keys.specs.declared.refusals.SignatureVerificationError.TheVariants as signature;
 ghost use Rattle.oidc_login.specs.declared.tokens.verification.ClaimsVerificationError.TheVariants.{SignatureVerification};
@@ -121,12 +122,13 @@ impl<'c> Logins<'c> {
     ///
     /// The login is removed before anything is sent. `LoginError::spent` says whether it was. The
     /// errors are, in this order: `State`, where the query hasn't one `state` of a pending login;
-    /// `Unbuilt`, where it has an `error`; `Callback`, where it hasn't one `code`; `Token(Other(Uri))`,
-    /// where the address isn't one that is sent to; `Token(Request)`, where the transport fails;
-    /// `TooLong`, where the answer has more than 1,048,576 bytes; the other `Token`, where it holds no
-    /// tokens; `NoIdToken`, where these have no ID token among them; `Unbuilt`, where its text isn't
-    /// plain; `Claims`, where a check of it fails; `Memory` may come at any point (RFC 6749 sections
-    /// 4.1.2 to 4.1.4, OpenID Connect Core 1.0 section 3.1.3).
+    /// `Unbuilt`, where it has an `error`; `Callback`, where it hasn't one `code`;
+    /// `Token(Other(Uri))`, where the address isn't one that is sent to; `Token(Request)`, where the
+    /// transport fails; `TooLong`, where the answer has more than 1,048,576 bytes; the other `Token`,
+    /// where it holds no tokens; `NoIdToken`, where these have no ID token among them; `Unbuilt`,
+    /// where its text isn't plain (the page of `tokens` says what that is); `Claims`, where a check
+    /// of it fails; `Memory` may come at any point (RFC 6749 sections 4.1.2 to 4.1.4, OpenID Connect
+    /// Core 1.0 section 3.1.3).
     pub fn callback<H: SyncHttpClient>(
         &mut self,
         query: &[u8],
@@ -136,23 +138,26 @@ impl<'c> Logins<'c> {
         requires { H.ready http.old }
         ensures again { H.ready http.new }
 
-        // For some answers that came: reply and requests are those of the table, or there was no memory.
-        // Each refusal has its cause, and each cause its refusal; an Ok is a user who is signed in.
+        // For some answers, which are those that came where the transport keeps a log: reply and
+        // requests are those of the table, or there was no memory. Each refusal has its cause, and
+        // each cause its refusal; an Ok is a user who is signed in.
         ensures ran { let a = attempt self.old query.now now.nanosecond in
             let before = known (H.log http.old) (H.script http.old) in
             let after = known (H.log http.new) (H.script http.new) in
             Ran a before after result }
 
-        // The login that the query names is removed where `spent` says so, and no other. Where none was
-        // removed, nothing was sent either.
+        // The login that the query names is removed where `spent` says so, and no other. Where none
+        // was removed, or the query asks for no request, the transport isn't touched.
         ensures store { let a = attempt self.old query.now now.nanosecond in
             Leaves a self.new.pending result }
         ensures left { let meant = callback_store self.old.pending (pairs query.now) in
             OrMemory result (self.new.pending ≡ meant) }
-        ensures removed { IsTrue (is_spent_by result)
+        ensures removed { is_spent_by result ≡ true
             → IsSome (login_named_by self.old.pending (pairs query.now)) }
         ensures unspent { is_spent_by result ≡ false
             → (http.new ≡ http.old) × (self.new.pending ≡ self.old.pending) }
+        ensures idle { let a = attempt self.old query.now now.nanosecond in
+            AsksNothing a → http.new ≡ http.old }
         ensures client { self.new.client ≡ self.old.client }
         ensures verifiers { HasVerifiers self.new.pending }
 
@@ -162,12 +167,14 @@ impl<'c> Logins<'c> {
         ensures no_state { login_named_by self.old.pending (pairs query.now) ≡ None
             → OrMemory result (result ≡ Err LoginError.State) }
 
-        // A fault of the transport comes only where its count has risen, or stands at its last value.
+        // A fault of the transport comes only where its count has risen, or stands at its last
+        // value.
         ensures blamed { IsBlamed (H.faults http.old) (H.faults http.new) result }
         ensures never_falls { H.faults http.old ≤ H.faults http.new }
 
         // Want of memory is `Memory`, and never a failed check of a signature.
-        ensures no_inner_memory { result ≢ Err (LoginError.Claims (SignatureVerification signature.Memory)) }
+        ensures no_inner_memory { let wanting = SignatureVerification signature.Memory in
+            result ≢ Err (LoginError.Claims wanting) }
     {
         drive(self.alloc, self.client, &mut self.pending, query, http, now)
     }

@@ -15,6 +15,7 @@ ghost use Rattle.oidc_login.specs.IdToken.{token_of};
 ghost use Rattle.oidc_login.specs.TokenRequest as request;
 ghost use Rattle.oidc_login.specs.Rows as rows;
 ghost use Rattle.oidc_login.specs.Rows.{login_named_by, callback_store};
+ghost use Rattle.oidc_login.specs.Causes.{AsksNothing};
 ghost use Rattle.oidc_login.specs.Runs.{Ran, IsBlamed, Leaves, start};
 ghost use Rattle.oidc_login.specs.Steps.{answer_of, Exchanged, Untouched, Faults};
 
@@ -34,12 +35,21 @@ use oidc_oauth2::{
 use oidc_pairs::Pairs;
 use oidc_types::AuthorizationCode;
 use std::alloc::{AllocError, Global};
+use std::marker::Model;
 
 // A login that was taken out, and its token request.
 #[derive(Drop)]
 pub(crate) struct Opened {
     pub(crate) login: Login,
     pub(crate) request: HttpRequest,
+}
+
+impl Model for Opened {
+    ghost use Rattle.oidc_login.specs.Rows.{SeenOpened};
+
+    ghost Value = { SeenOpened };
+
+    ghost view = { λ o. record { login = o.login; request = o.request } };
 }
 
 // Takes the login that a query names by its one state.
@@ -184,7 +194,7 @@ fn signing_in<E>(
     }
 }
 
-// The rows behind the token request.
+// The rows after the token request.
 #[tactic(auto, unfolding(crate::specs::Rows::after_token))]
 fn after_token<E>(
     alloc: Global,
@@ -256,14 +266,17 @@ pub(crate) fn drive<H: SyncHttpClient>(
         → IsSome (login_named_by pending.old (pairs query.now)) }
     ensures unspent { is_spent_by result ≡ false
         → (http.new ≡ http.old) × (pending.new ≡ pending.old) }
+    ensures idle { let a = start client.now pending.old query.now now.nanosecond in
+        AsksNothing a → http.new ≡ http.old }
     ensures blamed { IsBlamed (H.faults http.old) (H.faults http.new) result }
     ensures never_falls { H.faults http.old ≤ H.faults http.new }
     ensures verifiers { HasVerifiers pending.old → HasVerifiers pending.new }
 {
-    let Opened { login, request } = match opening(alloc, client, pending, query) {
+    let opened = match opening(alloc, client, pending, query) {
         Ok(opened) => opened,
         Err(error) => return Err(error),
     };
+    let Opened { login, request } = opened;
     let Ok(answer) = exchange(alloc, http, request) else {
         return Err(LoginError::Memory { spent: true });
     };

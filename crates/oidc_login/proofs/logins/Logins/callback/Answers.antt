@@ -3,3 +3,6 @@ use Rattle.oidc_login.proofs.logins.Logins.callback.Goals as goal
 
 pub returns-clause-no_inner_memory : goal.returns-clause-no_inner_memory
 returns-clause-no_inner_memory g c = no_inner_memory _ _ _ _ c.drive.ensures.ran
+
+pub returns-clause-idle : goal.returns-clause-idle
+returns-clause-idle g c = rw (← c.self.view_is) c.drive.ensures.idle
