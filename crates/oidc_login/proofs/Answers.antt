@@ -9,7 +9,7 @@ use Rattle.oidc_oauth2.specs.TokenAnswers.{◌>>◌, ◌when◌, ◌or_as◌, is
 use Rattle.oidc_oauth2.specs.declared.error_types.CoreErrorResponseType.{CoreErrorResponseType}
 use Rattle.oidc_oauth2.specs.declared.token_answers.RequestTokenError.{RequestTokenError}
 use Rattle.oidc_oauth2.specs.declared.token_answers.RequestTokenError.TheVariants as token
-use Rattle.oidc_oauth2.proofs.Theorems.{IsJudged, status_answer-judged}
+use Rattle.oidc_oauth2.proofs.Theorems.{IsJudged, status_worth-judged}
 use Rattle.oidc_login.specs.TokenResponse.{Tokens, TokenError, id_token_field_of, tokens_or_refusal}
 use Rattle.oidc_login.specs.Errors.{Gives, faulted, spent_of}
 use Rattle.oidc_login.specs.Steps.{of_token}
@@ -22,7 +22,7 @@ CoreError = SeenError CoreErrorResponseType
 
 pub judged : (r : SeenResponse) → IsJudged Tokens CoreError (tokens_or_refusal r)
 unfolding tokens_or_refusal
-judged r = status_answer-judged Tokens CoreError (error_response_of error_of) (tokens_of token_type_of id_token_field_of) r
+judged r = status_worth-judged Tokens CoreError (error_response_of error_of) (tokens_of token_type_of id_token_field_of) r
 
 -- ---- the step on a response
 

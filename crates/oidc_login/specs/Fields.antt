@@ -1,7 +1,7 @@
 -- What the readers of a token response, a header and a claim set keep. No public clause cites this.
 use Rattle.std.specs.Prelude.{List}
 use Rattle.oidc_members.specs.Seen.{SeenMember}
-use Rattle.oidc_readers.specs.Slots.{slot}
+pub use Rattle.oidc_readers.specs.Slots.{slot}
 use Rattle.oidc_login.specs.declared.tokens.id_token_field.IdTokenFields.{IdTokenFields}
 use Rattle.oidc_login.specs.declared.tokens.header.HeaderFields.{HeaderFields}
 use Rattle.oidc_login.specs.declared.tokens.claims.ClaimFields.{ClaimFields}

@@ -11,7 +11,7 @@ use Rattle.oidc_oauth2.specs.Messages.{SeenResponse}
 use Rattle.oidc_oauth2.specs.Words.{error_of, token_type_of}
 use Rattle.oidc_oauth2.specs.ErrorResponse.{SeenError, error_response_of}
 use Rattle.oidc_oauth2.specs.TokenResponse.{SeenTokens, tokens_of}
-use Rattle.oidc_oauth2.specs.TokenAnswers.{TokenRefusal, status_answer}
+use Rattle.oidc_oauth2.specs.TokenAnswers.{TokenRefusal, status_worth}
 use Rattle.oidc_oauth2.specs.declared.error_types.CoreErrorResponseType.{CoreErrorResponseType}
 use Rattle.oidc_oauth2.specs.declared.token_type.CoreTokenType.{CoreTokenType}
 
@@ -42,7 +42,7 @@ TokenError = TokenRefusal (SeenError CoreErrorResponseType)
 -- the tokens that a response holds whose body isn't too long, or why it is refused
 unfoldable pub tokens_or_refusal : SeenResponse → Result Tokens TokenError
 tokens_or_refusal =
-    status_answer (error_response_of error_of) (tokens_of token_type_of id_token_field_of)
+    status_worth (error_response_of error_of) (tokens_of token_type_of id_token_field_of)
 
 -- ---- how the logic stores it
 

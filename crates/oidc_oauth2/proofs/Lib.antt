@@ -1,7 +1,7 @@
 pub mod Theorems
 mod Bearers
 mod Credentials
-mod Essences
+mod Cuts
 mod Exchanged
 mod FaultCounts
 mod PairLists

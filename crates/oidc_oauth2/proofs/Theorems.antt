@@ -4,7 +4,7 @@ use Rattle.std.specs.Prelude.{not}
 use Rattle.oidc_members.specs.Seen.{SeenMember}
 use Rattle.oidc_members.specs.declared.refusal.Refusal.{Refusal}
 use Rattle.oidc_oauth2.specs.Messages.{SeenResponse}
-use Rattle.oidc_oauth2.specs.TokenAnswers.{TokenRefusal, ◌>>◌, ◌when◌, ◌or_as◌, Gives, record_in, refused_by, refusal_in, tokens_in, status_answer, token_answer, is_over_long, is_empty, may_be_json}
+use Rattle.oidc_oauth2.specs.TokenAnswers.{TokenRefusal, ◌>>◌, ◌when◌, ◌or_as◌, Gives, record_in, refused_by, refusal_in, tokens_in, status_worth, token_answer, is_over_long, is_empty, may_be_json}
 use Rattle.oidc_oauth2.specs.Exchanges.{IsRequestBlamed}
 use Rattle.oidc_oauth2.specs.declared.token_answers.OtherCause.TheVariants.{Uri, EmptyBody, MediaType}
 use Rattle.oidc_oauth2.specs.declared.token_answers.RequestTokenError.{RequestTokenError}
@@ -51,18 +51,18 @@ module _ (A TE : Type 0) where
 
   module _ (error_of : List SeenMember → Result TE Refusal) (token_of : List SeenMember → Result A Refusal) (r : SeenResponse) where
     -- by its status, a response is worth tokens or one of the refusals by status, media type and body
-    pub status_answer-judged : IsJudged (status_answer error_of token_of r)
-    unfolding status_answer
-    status_answer-judged =
+    pub status_worth-judged : IsJudged (status_worth error_of token_of r)
+    unfolding status_worth
+    status_worth-judged =
         either (r.status == 200) (tokens_in token_of (may_be_json r) r.body) (Err (refusal_in error_of r.body))
         (tokens_judged token_of (may_be_json r) r.body) (refusal_judged error_of r.body)
 
     unblamed : {RE : Type 0} (before now : ℕ) (result : Result A (RequestTokenError RE TE)) (long : Bool)
-        → Gives result ((TooLong r.body when long) >> status_answer error_of token_of r) → IsRequestBlamed before now result
+        → Gives result ((TooLong r.body when long) >> status_worth error_of token_of r) → IsRequestBlamed before now result
     unblamed before now (Ok value) long gives = tt
     unblamed before now (Err (ServerResponse error)) long gives = tt
     unblamed before now (Err (Request e)) true gives = absurd (cc)
-    unblamed before now (Err (Request e)) false gives = absurd (subst IsJudged gives status_answer-judged)
+    unblamed before now (Err (Request e)) false gives = absurd (subst IsJudged gives status_worth-judged)
     unblamed before now (Err (Parse refusal body)) long gives = tt
     unblamed before now (Err (Other cause)) long gives = tt
     unblamed before now (Err (TooLong body)) long gives = tt

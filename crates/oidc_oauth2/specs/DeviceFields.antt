@@ -1,7 +1,7 @@
 -- What the reader of a device authorization response keeps. No public clause cites this.
 use Rattle.std.specs.Prelude.{List}
 use Rattle.oidc_members.specs.Seen.{SeenMember}
-use Rattle.oidc_readers.specs.Slots.{slot}
+use Rattle.oidc_oauth2.specs.Slots.{slot}
 use Rattle.oidc_oauth2.specs.declared.device.DeviceFields.{DeviceFields}
 use Rattle.oidc_oauth2.specs.DeviceResponse.{device_code, user_code, verification_uri, expires_in, verification_uri_complete, interval}
 

@@ -1,7 +1,7 @@
 -- What the reader of an introspection response keeps. No public clause cites this.
 use Rattle.std.specs.Prelude.{List}
 use Rattle.oidc_members.specs.Seen.{SeenMember}
-use Rattle.oidc_readers.specs.Slots.{slot}
+use Rattle.oidc_oauth2.specs.Slots.{slot}
 use Rattle.oidc_oauth2.specs.declared.introspection.IntrospectionFields.{IntrospectionFields}
 use Rattle.oidc_oauth2.specs.Introspection.{active, scope, client_id, username, token_type, sub, iss, jti, exp, nbf, iat, aud}
 

@@ -19,6 +19,7 @@ pub mod TokenAnswers
 pub mod Exchanges
 -- what no public clause cites
 mod KeepsText
+pub mod Slots
 pub mod TokenFields
 pub mod ErrorFields
 pub mod DeviceFields

@@ -69,14 +69,14 @@ may_be_json r = may_be r.content_type (codes "application/json")
 
 module _ {TE TR : Type 0} (error_of : List SeenMember → Result TE Refusal) (token_of : List SeenMember → Result TR Refusal) where
   -- an answer by its status: the media type is looked at on status 200 alone
-  unfoldable pub status_answer : SeenResponse → Result TR (TokenRefusal TE)
-  status_answer r = if r.status == 200 then tokens_in token_of (may_be_json r) r.body else Err (refusal_in error_of r.body)
+  unfoldable pub status_worth : SeenResponse → Result TR (TokenRefusal TE)
+  status_worth r = if r.status == 200 then tokens_in token_of (may_be_json r) r.body else Err (refusal_in error_of r.body)
 
   -- The size is looked at before the status.
   unfoldable pub token_answer : SeenResponse → Result TR (TokenRefusal TE)
   token_answer r = do
     TooLong r.body when is_over_long r.body
-    status_answer r
+    status_worth r
 
 -- ---- results
 

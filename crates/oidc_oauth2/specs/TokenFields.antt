@@ -1,7 +1,7 @@
 -- What the reader of a token response keeps. No public clause cites this.
 use Rattle.std.specs.Prelude.{List}
 use Rattle.oidc_members.specs.Seen.{SeenMember}
-use Rattle.oidc_readers.specs.Slots.{slot}
+use Rattle.oidc_oauth2.specs.Slots.{slot}
 use Rattle.oidc_oauth2.specs.declared.token.TokenFields.{TokenFields}
 use Rattle.oidc_oauth2.specs.TokenResponse.{access_token, token_type, expires_in, refresh_token, scope}
 

@@ -88,7 +88,7 @@ pub(crate) struct DeviceFields {
 }
 
 impl DeviceFields {
-    #[tactic(auto, unfolding(oidc_readers::specs::Slots::slot))]
+    #[tactic(auto, unfolding(crate::specs::Slots::slot))]
     fn new() -> Self
         ensures { result ≡ device_fields [] }
     {
@@ -126,7 +126,7 @@ impl MemberReader for DeviceFields {
 }
 
 // The fields that have to be there, in the order of the table.
-#[tactic(auto, unfolding(crate::specs::DeviceResponse::codes_of, oidc_readers::specs::Slots::slot))]
+#[tactic(auto, unfolding(crate::specs::DeviceResponse::codes_of, crate::specs::Slots::slot))]
 fn codes_in(
     alloc: Global,
     device_code: Once<DeviceCode>,
@@ -162,7 +162,7 @@ fn interval_of(seconds: Option<u64>) -> Duration
 impl<EF: ExtraDeviceAuthorizationFields> DeviceAuthorizationResponse<EF> {
     /// Reads a response of its members. Without `interval` it is five seconds. `verification_url` is
     /// read as `verification_uri`; where both are there, the later one is a duplicate.
-    #[tactic(auto, unfolding(crate::specs::DeviceResponse::device_of, oidc_readers::specs::Slots::slot))]
+    #[tactic(auto, unfolding(crate::specs::DeviceResponse::device_of, crate::specs::Slots::slot))]
     pub fn read(alloc: Global, members: &Members) -> Result<Self, ParseError>
         ensures response { Answers (spec.device_of EF.read_of members.now) result }
     {

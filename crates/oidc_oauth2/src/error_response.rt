@@ -71,7 +71,7 @@ pub(crate) struct ErrorFields {
 }
 
 impl ErrorFields {
-    #[tactic(auto, unfolding(oidc_readers::specs::Slots::slot))]
+    #[tactic(auto, unfolding(crate::specs::Slots::slot))]
     fn new() -> Self
         ensures { result ≡ error_fields [] }
     {
@@ -160,7 +160,7 @@ impl<T: ErrorResponseType> StandardErrorResponse<T> {
 impl<T: ErrorResponseType> ErrorResponse for StandardErrorResponse<T> {
     ghost read_of = { spec.error_response_of T.from_str };
 
-    #[tactic(auto, unfolding(crate::specs::ErrorResponse::error_response_of, oidc_readers::specs::Slots::slot))]
+    #[tactic(auto, unfolding(crate::specs::ErrorResponse::error_response_of, crate::specs::Slots::slot))]
     fn read(alloc: Global, members: &Members) -> Result<Self, ParseError> {
         let fields = read_fields(alloc, ErrorFields::new(), members)?;
         let error = fields.error.required(alloc, "error")?;

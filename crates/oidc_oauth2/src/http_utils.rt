@@ -74,7 +74,7 @@ fn semicolon_in(value: &[u8]) -> Option<usize>
 }
 
 // What stands before the first `;`.
-#[tactic(auto, using(crate::proofs::Essences::before_place, crate::proofs::Essences::before_none, crate::proofs::Essences::place_fits))]
+#[tactic(auto, using(crate::proofs::Cuts::cut_at, crate::proofs::Cuts::uncut, crate::proofs::Cuts::within))]
 fn before_parameters(value: &[u8]) -> &[u8]
     ensures { result.now ≡ before_first (λ b. b == 59) value.now }
 {

@@ -105,7 +105,7 @@ pub(crate) struct IntrospectionFields {
 }
 
 impl IntrospectionFields {
-    #[tactic(auto, unfolding(oidc_readers::specs::Slots::slot))]
+    #[tactic(auto, unfolding(crate::specs::Slots::slot))]
     fn new() -> Self
         ensures { result ≡ introspection_fields [] }
     {
@@ -188,7 +188,7 @@ impl<EF: ExtraTokenFields, TT: TokenType> TokenIntrospectionResponse
 
     ghost active = { λ i. i.active };
 
-    #[tactic(auto, unfolding(crate::specs::Introspection::introspection_of, oidc_readers::specs::Slots::slot))]
+    #[tactic(auto, unfolding(crate::specs::Introspection::introspection_of, crate::specs::Slots::slot))]
     fn read(alloc: Global, members: &Members) -> Result<Self, ParseError> {
         let fields = read_fields(alloc, IntrospectionFields::new(), members)?;
         let active = fields.active.required(alloc, "active")?;

@@ -189,7 +189,7 @@ impl SyncHttpClient for Recorded {
 
     ghost faults = { λ r. fault_count r.given };
 
-    #[tactic(auto, using(crate::proofs::FaultCounts::one_fault_more, crate::proofs::FaultCounts::one_response_more))]
+    #[tactic(auto, using(crate::proofs::FaultCounts::fault_more, crate::proofs::FaultCounts::answer_more))]
     fn call(
         &mut self,
         alloc: Global,

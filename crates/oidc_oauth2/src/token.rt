@@ -122,7 +122,7 @@ pub(crate) struct TokenFields {
 }
 
 impl TokenFields {
-    #[tactic(auto, unfolding(oidc_readers::specs::Slots::slot))]
+    #[tactic(auto, unfolding(crate::specs::Slots::slot))]
     fn new() -> Self
         ensures { result ≡ token_fields [] }
     {
@@ -301,7 +301,7 @@ impl<EF: ExtraTokenFields, TT: TokenType> OAuth2TokenResponse for StandardTokenR
 
     ghost extra_fields = { λ t. t.extra_fields };
 
-    #[tactic(auto, unfolding(crate::specs::TokenResponse::tokens_of, oidc_readers::specs::Slots::slot))]
+    #[tactic(auto, unfolding(crate::specs::TokenResponse::tokens_of, crate::specs::Slots::slot))]
     fn read(alloc: Global, members: &Members) -> Result<Self, ParseError> {
         let fields = read_fields(alloc, TokenFields::new(), members)?;
         let access_token = fields.access_token.required(alloc, "access_token")?;

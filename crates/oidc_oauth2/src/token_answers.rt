@@ -126,7 +126,7 @@ fn tokens_in<RE, TE: ErrorResponse, TR: OAuth2TokenResponse>(
 /// `TooLong`: the body has more than 1,048,576 bytes. On another status than 200: `EmptyBody`; then
 /// `ServerResponse`, where the body reads as an error response; else `Parse`. On status 200:
 /// `MediaType`, where a media type is there and isn't `application/json`; `EmptyBody`; `Parse`.
-#[tactic(auto, unfolding(crate::specs::TokenAnswers::status_answer, crate::specs::TokenAnswers::token_answer))]
+#[tactic(auto, unfolding(crate::specs::TokenAnswers::status_worth, crate::specs::TokenAnswers::token_answer))]
 pub fn token_answer<RE, TE: ErrorResponse, TR: OAuth2TokenResponse>(
     alloc: Global,
     response: HttpResponse,

@@ -93,7 +93,7 @@ impl ExtraTokenFields for IdTokenField {
 
     ghost write_of = { λ f. text_member (codes "id_token") f.id_token };
 
-    #[tactic(auto, unfolding(crate::specs::TokenResponse::id_token_field_of, oidc_readers::specs::Slots::slot))]
+    #[tactic(auto, unfolding(crate::specs::TokenResponse::id_token_field_of, crate::specs::Fields::slot))]
     fn read(alloc: Global, members: &Members) -> Result<IdTokenField, ParseError> {
         let fields = read_fields(alloc, IdTokenFields::new(), members)?;
         Ok(IdTokenField {

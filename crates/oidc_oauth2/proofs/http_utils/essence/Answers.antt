@@ -1,4 +1,4 @@
-use Rattle.oidc_oauth2.proofs.Essences.{essence_is}
+use Rattle.oidc_oauth2.proofs.Cuts.{essence_is}
 use Rattle.oidc_oauth2.proofs.http_utils.essence.Goals as goal
 
 pub returns : goal.returns

@@ -1,4 +1,4 @@
--- The essence of a media type, as it is cut out.
+-- The essence of a media type, as it is cut out of its value.
 use Rattle.std.proofs.Common.{◌≡◌, ◌≤◌, ◌-◌, ℕ, Bool, true, false, List, length, take, drop, Some, None, cond, nat_lt, refl, sym, ◌∙◌, ap, arith}
 use Rattle.std.specs.Prelude.{◌==◌, not}
 use Rattle.std.specs.List.{prefix_len, suffix_len, before_first, position, position_or_len}
@@ -29,14 +29,14 @@ not_found false n h = refl
 at_end : (n len : ℕ) → nat_lt n len ≡ false → n ≤ len → n ≡ len
 at_end n len h le = grind arith
 
-pub before_place : (value : List ℕ) (i : ℕ) → position (λ b. b == 59) value ≡ Some i → take i value ≡ before_first (λ b. b == 59) value
-before_place value i h = ap (λ n. take n value) (sym (found (nat_lt (place value) (length value)) (place value) i h))
+pub cut_at : (value : List ℕ) (i : ℕ) → position (λ b. b == 59) value ≡ Some i → take i value ≡ before_first (λ b. b == 59) value
+cut_at value i h = ap (λ n. take n value) (sym (found (nat_lt (place value) (length value)) (place value) i h))
 
-pub place_fits : (value : List ℕ) (i : ℕ) → position (λ b. b == 59) value ≡ Some i → i ≤ length value
-place_fits value i h = omega (arith, fits value, found (nat_lt (place value) (length value)) (place value) i h)
+pub within : (value : List ℕ) (i : ℕ) → position (λ b. b == 59) value ≡ Some i → i ≤ length value
+within value i h = omega (arith, fits value, found (nat_lt (place value) (length value)) (place value) i h)
 
-pub before_none : (value : List ℕ) → position (λ b. b == 59) value ≡ None → value ≡ before_first (λ b. b == 59) value
-before_none value h =
+pub uncut : (value : List ℕ) → position (λ b. b == 59) value ≡ None → value ≡ before_first (λ b. b == 59) value
+uncut value h =
     let whole : place value ≡ length value = at_end (place value) (length value) (not_found (nat_lt (place value) (length value)) (place value) h) (fits value) in
     sym (ap (λ n. take n value) whole ∙ take-length value)
 
