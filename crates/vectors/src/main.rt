@@ -17,8 +17,6 @@ mod members;
 mod operations;
 mod pkce;
 mod scripts;
-#[cfg(test)]
-mod tests;
 mod types;
 mod vocabularies;
 mod words;

@@ -1,16 +1,19 @@
 //! Tests of oidc_claims that no line of text can say.
 
+ghost use Rattle.std.specs.Prelude.{◌≡◌, IfOk, IsTrue};
+ghost use Rattle.oidc_claims.specs.Additional.{are_additional};
+ghost use Rattle.oidc_claims.specs.Home.{is_additional};
+
 mod own_types;
 
-use crate::claims::additional_members;
 use jiff::Timestamp;
 use oidc_claims::{
     AdditionalClaims, AddressClaim, AllOtherClaims, GenderClaim, Home, ID_TOKEN_FIELDS,
-    PlacedError, StandardClaims, belongs, read_standard, write_standard,
+    PlacedError, StandardClaims, USER_INFO_FIELDS, belongs, read_standard, write_standard,
 };
-use oidc_members::{Members, OutMember, ParseError, write_object};
+use oidc_members::{Member, Members, OutMember, ParseError, write_object};
 use oidc_types::{CoreGenderClaim, LocalizedClaim, Marker, SubjectIdentifier, Text};
-use std::alloc::Global;
+use std::alloc::{AllocError, Global};
 use std::test::Fail;
 
 type Claims = StandardClaims<CoreGenderClaim>;
@@ -42,6 +45,25 @@ fn standard_line<GC: GenderClaim>(alloc: Global, text: &str) -> Result<String, F
         }
         Err(PlacedError::Memory) => Err(Fail::from("out of memory")),
     }
+}
+
+fn is_additional_name(name: &str) -> bool
+    ensures { result ≡ is_additional name.now }
+{
+    matches!(belongs(name, &USER_INFO_FIELDS), Home::Additional)
+}
+
+// The additional ones of these members.
+fn additional_members(alloc: Global, members: &[Member]) -> Result<Vec<Member>, AllocError>
+    ensures { IfOk result (λ members. IsTrue (are_additional members.items)) }
+{
+    let mut additional = Vec::new(alloc);
+    for member in members {
+        if is_additional_name(member.name()) {
+            additional.push(member.clone_in(alloc)?)?;
+        }
+    }
+    Ok(additional)
 }
 
 // The additional claims of an object by the fields of user info.

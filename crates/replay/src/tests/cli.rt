@@ -240,23 +240,23 @@ const REQUEST_FRONT: &str = "request method=POST&address=https%3A%2F%2Fexample%2
 const REPORT_REST: &str =
     "&accept=application%2Fjson&content_type=application%2Fx-www-form-urlencoded&authorization=Basic+YWFhOmJiYg%3D%3D&body=grant_type%3Dauthorization_code%26code%3Dc1%26code_verifier%3DdBjftJeZ4CVP-mB92K27uhbUJU1p1r_wW1gFWFOEjXk\ncallback ok access_token=abc&claims=%7B%22iss%22%3A%22https%3A%2F%2Fexample%22%2C%22aud%22%3A%5B%22aaa%22%5D%2C%22exp%22%3A2000%2C%22iat%22%3A900%2C%22nonce%22%3A%22NONCE456%22%2C%22sub%22%3A%22u1%22%7D\npending 0\n";
 
-const UNBUILT: &str = "callback refused unbuilt\npending 0\n";
+const REFUSED: &str = "callback refused token uri\npending 0\n";
 
-// Whether a callback is sent, or refused as one whose request can't be built, where the client's token
-// endpoint ends in so many letters.
+// Whether a callback's request is sent, or refused for its address, where the client's token endpoint ends
+// in so many letters.
 fn is_answered(alloc: Global, letters: usize, is_sent: bool) -> Result<bool, AllocError> {
     let path = "a".repeat(alloc, letters)?;
     let script = format!(in alloc; "{CLIENT_FRONT}{path}\n{LATER_LINES}")?;
     let wanted = if is_sent {
         format!(in alloc; "{REPORT_FRONT}{REQUEST_FRONT}{path}{REPORT_REST}")?
     } else {
-        format!(in alloc; "{REPORT_FRONT}{UNBUILT}")?
+        format!(in alloc; "{REPORT_FRONT}{REFUSED}")?
     };
     let ran = ran(alloc, ",replay", script.into_bytes(), 0, 0, 262_144)?;
     Ok(ran.status == DONE && ran.sink.bytes() == wanted.as_str().as_bytes())
 }
 
-// An address has at most 65,534 bytes. A longer one is no request.
+// An address has at most 65,534 bytes. Nothing is sent to a longer one.
 #[test]
 fn address_limit(rt: HostRuntime) -> Result<(), Fail> {
     assert!(rt; is_answered(rt.alloc(), 65_519, false)?);
