@@ -40,13 +40,15 @@ fn full(alloc: Global, tokens: Tokens) -> Result<Tokens, AllocError> {
     let access = AccessToken::new(text(alloc, "2YotnFZFEjr1zCsicMWpAA")?);
     let refresh = RefreshToken::new(text(alloc, "tGzv3JOkF0XG5Qx2TlKWIA")?);
     let scopes = scopes(alloc, &["openid", "", "email"])?;
-    Ok(tokens
-        .set_access_token(access)
-        .set_token_type(CoreTokenType::Bearer)
-        .set_expires_in(Some(Duration::from_secs(3600)))
-        .set_refresh_token(Some(refresh))
-        .set_scopes(Some(scopes))
-        .set_extra_fields(EmptyExtraTokenFields))
+    Ok(
+        tokens
+            .set_access_token(access)
+            .set_token_type(CoreTokenType::Bearer)
+            .set_expires_in(Some(Duration::from_secs(3600)))
+            .set_refresh_token(Some(refresh))
+            .set_scopes(Some(scopes))
+            .set_extra_fields(EmptyExtraTokenFields),
+    )
 }
 
 // The same without each field that need not be there.
@@ -120,7 +122,10 @@ fn gotten(alloc: Global) -> Result<String, Fail> {
     let refresh = tokens.refresh_token().map(|token| token.secret());
     let span = tokens.expires_in().map(|span| span.as_secs());
     let scopes = tokens.scopes().map(|scopes| scopes.len());
-    Ok(format!(in alloc; "{access} {refresh:?} {span:?} {scopes:?} {:?}", tokens.token_type())?)
+    Ok(format!(in alloc;
+        "{access} {refresh:?} {span:?} {scopes:?} {:?}",
+        tokens.token_type()
+    )?)
 }
 
 #[test]
