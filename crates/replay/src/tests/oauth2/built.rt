@@ -139,40 +139,37 @@ fn getters_give_what_was_set(rt: HostRuntime) -> Result<(), Fail> {
 
 // ---- error responses
 
-fn error_response(alloc: Global, is_full: bool) -> Result<String, AllocError> {
-    let error = CoreErrorResponseType::InvalidGrant;
-    let (description, uri) = if is_full {
-        (Some(text(alloc, "expired")?), Some(text(alloc, "x y")?))
-    } else {
-        (None, None)
-    };
-    let response = StandardErrorResponse::new(error, description, uri);
+type Refused = StandardErrorResponse<CoreErrorResponseType>;
+
+fn error_response(alloc: Global) -> Result<Refused, AllocError> {
+    let description = text(alloc, "expired")?;
+    let uri = text(alloc, "x y")?;
+    Ok(Refused::new(
+        CoreErrorResponseType::InvalidGrant,
+        Some(description),
+        Some(uri),
+    ))
+}
+
+// What the getters give, and what is printed.
+fn error_line(alloc: Global) -> Result<String, AllocError> {
+    let response = error_response(alloc)?;
     let description = response.error_description();
     let uri = response.error_uri();
     format!(in alloc; "{} {description:?} {uri:?} {response:?}", response.error())
 }
 
-// What the server's author says is never printed.
+// What a server's author says is never printed.
 #[test]
 fn error_responses_are_built(rt: HostRuntime) -> Result<(), Fail> {
-    for (is_full, want) in [
-        (
-            true,
-            "invalid_grant Some(\"expired\") Some(\"x y\") StandardErrorResponse([redacted])",
-        ),
-        (
-            false,
-            "invalid_grant None None StandardErrorResponse([redacted])",
-        ),
-    ] {
-        assert_eq!(rt; error_response(rt.alloc(), is_full)?.as_str(), want);
-    }
+    let want = "invalid_grant Some(\"expired\") Some(\"x y\") StandardErrorResponse([redacted])";
+    assert_eq!(rt; error_line(rt.alloc())?.as_str(), want);
     Ok(())
 }
 
 // ---- code requests
 
-type Request<'a> = CodeTokenRequest<'a, StandardErrorResponse<CoreErrorResponseType>, Tokens>;
+type Request<'a> = CodeTokenRequest<'a, Refused, Tokens>;
 
 // What a request borrows.
 #[derive(Drop)]

@@ -246,19 +246,19 @@ fn recorded(alloc: Global, addresses: &[&str]) -> Result<String, AllocError> {
     format!(in alloc; "{:?} {}", given.as_slice(), kept.as_str())
 }
 
-// A request that fails is kept too, and a fault hides no later answer.
+// What is called, and what is given and kept. A request that fails is kept too, and a fault hides no later
+// answer.
+static CALLS: [(&[&str], &str); 4] = [
+    (&[], "[] "),
+    (&["a"], "[None] a"),
+    (&["a", "b"], "[None, Some(200)] ab"),
+    (&["a", "b", "c", "d"], "[None, Some(200), None, None] abcd"),
+];
+
 #[test]
 fn recorded_plays_a_fault_first(rt: HostRuntime) -> Result<(), Fail> {
-    for (addresses, want) in [
-        ([].as_slice(), "[] "),
-        (["a"].as_slice(), "[None] a"),
-        (["a", "b"].as_slice(), "[None, Some(200)] ab"),
-        (
-            ["a", "b", "c", "d"].as_slice(),
-            "[None, Some(200), None, None] abcd",
-        ),
-    ] {
-        assert_eq!(rt; recorded(rt.alloc(), addresses)?.as_str(), want);
+    for (addresses, want) in &CALLS {
+        assert_eq!(rt; recorded(rt.alloc(), addresses)?.as_str(), *want);
     }
     Ok(())
 }
