@@ -6,7 +6,9 @@ use http::StatusCode;
 use http_header::{CONTENT_TYPE, HeaderValue};
 use jiff::Timestamp;
 use oidc_login::{AuthorizationRequest, Client, LoginError, Logins, NewLoginsError, SignedIn};
-use oidc_oauth2::{Adapter, Answer, Body, HttpRequest, HttpResponse, Recorded, SyncHttpClient};
+use oidc_oauth2::{
+    Adapter, Answer, Body, Fault, HttpRequest, HttpResponse, Recorded, SyncHttpClient,
+};
 use oidc_types::{
     AuthUrl, ClientId, ClientSecret, CoreJwsSigningAlgorithm, CsrfToken, IssuerUrl, Nonce,
     PkceCodeVerifier, TokenUrl,
@@ -18,16 +20,25 @@ fn text(alloc: Global, text: &str) -> Result<String, Fail> {
     Ok(String::from_str(alloc, text)?)
 }
 
+fn names(alloc: Global) -> Result<(ClientId, ClientSecret), Fail> {
+    let id = ClientId::new(text(alloc, "aaa")?);
+    let secret = ClientSecret::new(text(alloc, "bbb")?);
+    Ok((id, secret))
+}
+
+fn urls(alloc: Global) -> Result<(IssuerUrl, AuthUrl), Fail> {
+    let issuer = IssuerUrl::new(alloc, text(alloc, "https://example")?)?;
+    let endpoint = AuthUrl::new(alloc, text(alloc, "https://example/authorize")?)?;
+    Ok((issuer, endpoint))
+}
+
 // The client that the token is for, without a token endpoint. What is tried at a client stands in
 // functions that borrow it.
 fn client(alloc: Global) -> Result<Client, Fail> {
-    Ok(Client::new(
-        ClientId::new(text(alloc, "aaa")?),
-        ClientSecret::new(text(alloc, "bbb")?),
-        IssuerUrl::new(alloc, text(alloc, "https://example")?)?,
-        AuthUrl::new(alloc, text(alloc, "https://example/authorize")?)?,
-        [CoreJwsSigningAlgorithm::HmacSha256].to_vec(alloc)?,
-    ))
+    let (id, secret) = names(alloc)?;
+    let algorithms = [CoreJwsSigningAlgorithm::HmacSha256].to_vec(alloc)?;
+    let (issuer, endpoint) = urls(alloc)?;
+    Ok(Client::new(id, secret, issuer, endpoint, algorithms))
 }
 
 // The same client, with a token endpoint of so many bytes behind `https://example/`.
@@ -97,6 +108,12 @@ fn answers(alloc: Global, given: Given) -> Result<Vec<Answer>, Fail> {
     Ok(answers)
 }
 
+// What a refusal prints, and whether the login is gone.
+fn refusal<E: Drop>(alloc: Global, error: &LoginError<E>) -> Result<String, AllocError> {
+    let spent = error.spent();
+    format!(in alloc; "{error}; {spent}")
+}
+
 // What a callback answers, in words.
 fn answer<E: Drop>(
     alloc: Global,
@@ -109,7 +126,7 @@ fn answer<E: Drop>(
             let access = signed.access_token().secret();
             format!(in alloc; "{subject} {access} {own}")
         }
-        Err(error) => format!(in alloc; "{error}"),
+        Err(error) => refusal(alloc, &error),
     }
 }
 
@@ -127,8 +144,8 @@ fn called_back<E: Drop, H: SyncHttpClient<Error = E>>(
     Ok(answer(alloc, logins.callback(query, http, now))?)
 }
 
-// A login at this client over any transport, in one line: whether its state is pending before and after
-// its callback, and what the callback answers.
+// A login at this client over any transport, in one line: whether its state alone is pending before its
+// callback, whether it is pending after it, and what the callback answers.
 fn login<E: Drop, H: SyncHttpClient<Error = E>>(
     alloc: Global,
     client: &Client,
@@ -139,7 +156,7 @@ fn login<E: Drop, H: SyncHttpClient<Error = E>>(
 {
     let mut logins = Logins::new(alloc, client)?;
     begin(alloc, &mut logins)?;
-    let before = logins.is_pending("CSRF123");
+    let before = logins.is_pending("CSRF123") && !logins.is_pending("CSRF12");
     let answered = called_back(alloc, &mut logins, http)?;
     let after = logins.is_pending("CSRF123");
     Ok(format!(in alloc; "{before} {after} {answered}")?)
@@ -162,53 +179,53 @@ static CASES: [(usize, Given, &str); 12] = [
     (
         5,
         Given::Fault,
-        "1 true false no tokens: the request failed",
+        "1 true false no tokens: the request failed; true",
     ),
     (
         5,
         Given::Nothing,
-        "1 true false no tokens: the request failed",
+        "1 true false no tokens: the request failed; true",
     ),
     (
         65_518,
         Given::Nothing,
-        "1 true false no tokens: the request failed",
+        "1 true false no tokens: the request failed; true",
     ),
     (
         65_519,
         Given::Nothing,
-        "0 true false no tokens: an address that is not sent to",
+        "0 true false no tokens: an address that is not sent to; true",
     ),
     (
         5,
         Given::Blank(200, 1_048_576),
-        "1 true false no tokens: the response does not read: no JSON object",
+        "1 true false no tokens: the response does not read: no JSON object; true",
     ),
     (
         5,
         Given::Blank(200, 1_048_577),
-        "1 true false too long: the answer to the token request",
+        "1 true false too long: the answer to the token request; true",
     ),
     (
         5,
         Given::Blank(400, 1_048_577),
-        "1 true false too long: the answer to the token request",
+        "1 true false too long: the answer to the token request; true",
     ),
     (5, Given::Plain(200, 1_048_576), "1 true false u1 abc true"),
     (
         5,
         Given::Plain(200, 1_048_577),
-        "1 true false too long: the answer to the token request",
+        "1 true false too long: the answer to the token request; true",
     ),
     (
         5,
         Given::Plain(400, 1_048_576),
-        "1 true false no tokens: the response does not read: a missing member: `error`",
+        "1 true false no tokens: the response does not read: a missing member: `error`; true",
     ),
     (
         5,
         Given::Plain(400, 1_048_577),
-        "1 true false too long: the answer to the token request",
+        "1 true false too long: the answer to the token request; true",
     ),
 ];
 
@@ -243,7 +260,7 @@ fn login_over_closure(alloc: Global, is_up: bool) -> Result<String, Fail> {
 fn callbacks_over_closures(rt: HostRuntime) -> Result<(), Fail> {
     for (is_up, want) in [
         (true, "true false u1 POST https://example/aaaaa true 0"),
-        (false, "true false no tokens: the request failed 1"),
+        (false, "true false no tokens: the request failed; true 1"),
     ] {
         assert_eq!(rt; login_over_closure(rt.alloc(), is_up)?.as_str(), want);
     }
@@ -262,8 +279,31 @@ fn logins_over_own(alloc: Global) -> Result<String, Fail> {
 #[test]
 fn callbacks_over_a_transport_of_ones_own(rt: HostRuntime) -> Result<(), Fail> {
     let want =
-        "true false u1 POST https://example/aaaaa true, true false no tokens: the request failed, (2, 1)";
+        "true false u1 POST https://example/aaaaa true, true false no tokens: the request failed; true, (2, 1)";
     assert_eq!(rt; logins_over_own(rt.alloc())?.as_str(), want);
+    Ok(())
+}
+
+// ---- refusals
+
+// The refusal for want of memory, whether or not the login is gone; or for want of a login.
+fn refusal_line(alloc: Global, memory: Option<bool>) -> Result<String, AllocError> {
+    let error: LoginError<Fault> = match memory {
+        Some(spent) => LoginError::Memory { spent },
+        None => LoginError::State,
+    };
+    refusal(alloc, &error)
+}
+
+#[test]
+fn refusals_say_whether_the_login_is_gone(rt: HostRuntime) -> Result<(), Fail> {
+    for (memory, want) in [
+        (None, "the query names no pending login; false"),
+        (Some(false), "out of memory; false"),
+        (Some(true), "out of memory; true"),
+    ] {
+        assert_eq!(rt; refusal_line(rt.alloc(), memory)?.as_str(), want);
+    }
     Ok(())
 }
 
