@@ -20,8 +20,6 @@ mod operations;
 mod pkce;
 mod records;
 mod scripts;
-#[cfg(test)]
-mod tests;
 mod types;
 mod vocabularies;
 mod words;

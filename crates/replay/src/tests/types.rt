@@ -258,7 +258,7 @@ impl Copied for CoreSubjectIdentifierType {
 }
 
 /// Texts of every open vocabulary, and others.
-const TEXTS: [&str; 55] = [
+static TEXTS: [&str; 55] = [
     "native",
     "web",
     "page",
@@ -325,7 +325,7 @@ fn is_kept<W: Copied>(alloc: Global, text: &str) -> Result<bool, AllocError> {
 
 /// Whether each of the texts is kept.
 fn keeps_texts<W: Copied>(alloc: Global) -> Result<bool, AllocError> {
-    for text in TEXTS {
+    for text in &TEXTS {
         if !is_kept::<W>(alloc, text)? {
             return Ok(false);
         }
@@ -333,24 +333,65 @@ fn keeps_texts<W: Copied>(alloc: Global) -> Result<bool, AllocError> {
     Ok(true)
 }
 
+/// The open vocabularies.
+#[derive(Clone, Copy, Debug)]
+enum Open {
+    ApplicationType,
+    AuthDisplay,
+    AuthErrorResponseType,
+    AuthPrompt,
+    ClaimType,
+    ClientAuthMethod,
+    GrantType,
+    RegisterErrorResponseType,
+    ResponseMode,
+    ResponseType,
+    SubjectIdentifierType,
+}
+
+/// Whether each of the texts is kept by a vocabulary.
+fn are_kept_by(alloc: Global, open: Open) -> Result<bool, AllocError> {
+    match open {
+        Open::ApplicationType => keeps_texts::<CoreApplicationType>(alloc),
+        Open::AuthDisplay => keeps_texts::<CoreAuthDisplay>(alloc),
+        Open::AuthErrorResponseType => keeps_texts::<CoreAuthErrorResponseType>(alloc),
+        Open::AuthPrompt => keeps_texts::<CoreAuthPrompt>(alloc),
+        Open::ClaimType => keeps_texts::<CoreClaimType>(alloc),
+        Open::ClientAuthMethod => keeps_texts::<CoreClientAuthMethod>(alloc),
+        Open::GrantType => keeps_texts::<CoreGrantType>(alloc),
+        Open::RegisterErrorResponseType => keeps_texts::<CoreRegisterErrorResponseType>(alloc),
+        Open::ResponseMode => keeps_texts::<CoreResponseMode>(alloc),
+        Open::ResponseType => keeps_texts::<CoreResponseType>(alloc),
+        Open::SubjectIdentifierType => keeps_texts::<CoreSubjectIdentifierType>(alloc),
+    }
+}
+
 #[test]
 fn words_of_authorization_are_kept(rt: HostRuntime) -> Result<(), Fail> {
-    assert!(rt; keeps_texts::<CoreAuthDisplay>(rt.alloc())?);
-    assert!(rt; keeps_texts::<CoreAuthErrorResponseType>(rt.alloc())?);
-    assert!(rt; keeps_texts::<CoreAuthPrompt>(rt.alloc())?);
-    assert!(rt; keeps_texts::<CoreResponseMode>(rt.alloc())?);
-    assert!(rt; keeps_texts::<CoreResponseType>(rt.alloc())?);
+    for open in [
+        Open::AuthDisplay,
+        Open::AuthErrorResponseType,
+        Open::AuthPrompt,
+        Open::ResponseMode,
+        Open::ResponseType,
+    ] {
+        assert!(rt; are_kept_by(rt.alloc(), open)?, "{open:?}");
+    }
     Ok(())
 }
 
 #[test]
 fn words_of_registration_are_kept(rt: HostRuntime) -> Result<(), Fail> {
-    assert!(rt; keeps_texts::<CoreApplicationType>(rt.alloc())?);
-    assert!(rt; keeps_texts::<CoreClaimType>(rt.alloc())?);
-    assert!(rt; keeps_texts::<CoreClientAuthMethod>(rt.alloc())?);
-    assert!(rt; keeps_texts::<CoreGrantType>(rt.alloc())?);
-    assert!(rt; keeps_texts::<CoreRegisterErrorResponseType>(rt.alloc())?);
-    assert!(rt; keeps_texts::<CoreSubjectIdentifierType>(rt.alloc())?);
+    for open in [
+        Open::ApplicationType,
+        Open::ClaimType,
+        Open::ClientAuthMethod,
+        Open::GrantType,
+        Open::RegisterErrorResponseType,
+        Open::SubjectIdentifierType,
+    ] {
+        assert!(rt; are_kept_by(rt.alloc(), open)?, "{open:?}");
+    }
     Ok(())
 }
 
@@ -406,27 +447,29 @@ fn key_of<A: JwsSigningAlgorithm>(text: &str) -> Option<(&'static str, bool)> {
 }
 
 // RFC 7518 section 3.1, RFC 8037 section 3.1
+static KEY_TYPES: [(&str, Option<(&str, bool)>); 16] = [
+    ("HS256", Some(("oct", true))),
+    ("HS384", Some(("oct", true))),
+    ("HS512", Some(("oct", true))),
+    ("RS256", Some(("RSA", false))),
+    ("RS384", Some(("RSA", false))),
+    ("RS512", Some(("RSA", false))),
+    ("ES256", Some(("EC", false))),
+    ("ES384", Some(("EC", false))),
+    ("ES512", Some(("EC", false))),
+    ("PS256", Some(("RSA", false))),
+    ("PS384", Some(("RSA", false))),
+    ("PS512", Some(("RSA", false))),
+    ("EdDSA", Some(("OKP", false))),
+    ("none", Some(("none", false))),
+    ("hs256", None),
+    ("", None),
+];
+
 #[test]
 fn signing_algorithms_have_key_types(rt: HostRuntime) {
-    for (text, want) in [
-        ("HS256", Some(("oct", true))),
-        ("HS384", Some(("oct", true))),
-        ("HS512", Some(("oct", true))),
-        ("RS256", Some(("RSA", false))),
-        ("RS384", Some(("RSA", false))),
-        ("RS512", Some(("RSA", false))),
-        ("ES256", Some(("EC", false))),
-        ("ES384", Some(("EC", false))),
-        ("ES512", Some(("EC", false))),
-        ("PS256", Some(("RSA", false))),
-        ("PS384", Some(("RSA", false))),
-        ("PS512", Some(("RSA", false))),
-        ("EdDSA", Some(("OKP", false))),
-        ("none", Some(("none", false))),
-        ("hs256", None),
-        ("", None),
-    ] {
-        assert!(rt; key_of::<CoreJwsSigningAlgorithm>(text) == want, "{text}");
+    for (text, want) in &KEY_TYPES {
+        assert!(rt; key_of::<CoreJwsSigningAlgorithm>(text) == *want, "{text}");
     }
 }
 
@@ -507,7 +550,16 @@ fn claim_of(
     Ok(claim)
 }
 
-/// Whether two claims are equal, each to its copy, and to one another as `want` says.
+/// Whether a claim equals its copy, and another as `want` says, from either side.
+fn is_equal_so(
+    alloc: Global,
+    a: &LocalizedClaim<EndUserName>,
+    b: &LocalizedClaim<EndUserName>,
+    want: bool,
+) -> Result<bool, AllocError> {
+    Ok(a.clone_in(alloc)? == *a && (*a == *b) == want && (*b == *a) == want)
+}
+
 fn claims_are_so(
     alloc: Global,
     a: &[(&str, &str)],
@@ -516,7 +568,7 @@ fn claims_are_so(
 ) -> Result<bool, AllocError> {
     let a = claim_of(alloc, a)?;
     let b = claim_of(alloc, b)?;
-    Ok(a.clone_in(alloc)? == a && (a == b) == want && (b == a) == want)
+    is_equal_so(alloc, &a, &b, want)
 }
 
 #[test]
@@ -536,16 +588,39 @@ fn claims_are_equal_at_equal_entries(rt: HostRuntime) -> Result<(), Fail> {
     Ok(())
 }
 
+/// Whether `get` and `contains_key` agree on a tag.
+fn is_found_alike(claim: &LocalizedClaim<EndUserName>, tag: Option<&LanguageTag>) -> bool {
+    claim.get(tag).is_some() == claim.contains_key(tag)
+}
+
+/// What `insert` replaces at a tag.
+fn replaced(
+    alloc: Global,
+    claim: &mut LocalizedClaim<EndUserName>,
+    text: &str,
+) -> Result<Option<EndUserName>, AllocError> {
+    let tag = tag(alloc, text)?;
+    claim.insert(tag, name(alloc, "x")?)
+}
+
 /// What `get` and `contains_key` find at a tag, what `insert` replaces there, and what `remove` then
 /// takes out, twice.
-fn seen_at(alloc: Global, text: &str) -> Result<String, AllocError> {
-    let mut claim = claim_of(alloc, &[("ja", "三"), ("", "Three")])?;
+fn seen_in(
+    alloc: Global,
+    claim: &mut LocalizedClaim<EndUserName>,
+    text: &str,
+) -> Result<String, AllocError> {
     let tag = tag(alloc, text)?;
-    let found = claim.get(tag.as_ref()).is_some() == claim.contains_key(tag.as_ref());
-    let before = claim.insert(self::tag(alloc, text)?, name(alloc, "x")?)?;
+    let found = is_found_alike(claim, tag.as_ref());
+    let before = replaced(alloc, claim, text)?;
     let taken = claim.remove(tag.as_ref());
     let again = claim.remove(tag.as_ref());
     format!(in alloc; "{found} {before:?} {taken:?} {again:?}")
+}
+
+fn seen_at(alloc: Global, text: &str) -> Result<String, AllocError> {
+    let mut claim = claim_of(alloc, &[("ja", "三"), ("", "Three")])?;
+    seen_in(alloc, &mut claim, text)
 }
 
 #[test]

@@ -214,24 +214,28 @@ fn what_is_signed_verifies(rt: HostRuntime) -> Result<(), Fail> {
     Ok(())
 }
 
-#[test]
-fn keys_are_found_by_type_use_and_id(rt: HostRuntime) -> Result<(), Fail> {
-    let toys = toy_keys(rt.alloc())?;
-    let secrets = secret_keys(rt.alloc())?;
+// How many toys may check RSA and HMAC under that id, and how many secret keys HMAC.
+fn counts_of(alloc: Global, id: Option<&str>) -> Result<(usize, usize, usize), AllocError> {
+    let toys = toy_keys(alloc)?;
+    let secrets = secret_keys(alloc)?;
     let rsa = CoreJwsSigningAlgorithm::RsaSsaPkcs1V15Sha256;
     let hmac = CoreJwsSigningAlgorithm::HmacSha256;
-    for (id, toy_by_rsa, toy_by_hmac, secret_by_hmac) in [
-        (None, 2, 0, 1),
-        (Some("a"), 1, 0, 0),
-        (Some("b"), 1, 0, 0),
-        (Some("bilbo_baggins"), 0, 0, 1),
+    Ok((
+        count_of_fitting(&toys, &rsa, id),
+        count_of_fitting(&toys, &hmac, id),
+        count_of_fitting(&secrets, &hmac, id),
+    ))
+}
+
+#[test]
+fn keys_are_found_by_type_use_and_id(rt: HostRuntime) -> Result<(), Fail> {
+    for (id, want) in [
+        (None, (2, 0, 1)),
+        (Some("a"), (1, 0, 0)),
+        (Some("b"), (1, 0, 0)),
+        (Some("bilbo_baggins"), (0, 0, 1)),
     ] {
-        let counts = (
-            count_of_fitting(&toys, &rsa, id),
-            count_of_fitting(&toys, &hmac, id),
-            count_of_fitting(&secrets, &hmac, id),
-        );
-        assert_eq!(rt; counts, (toy_by_rsa, toy_by_hmac, secret_by_hmac));
+        assert_eq!(rt; counts_of(rt.alloc(), id)?, want);
     }
     Ok(())
 }

@@ -1,16 +1,19 @@
 //! Tests of oidc_claims that no line of text can say.
 
+ghost use Rattle.std.specs.Prelude.{◌≡◌, IfOk, IsTrue};
+ghost use Rattle.oidc_claims.specs.Additional.{are_additional};
+ghost use Rattle.oidc_claims.specs.Home.{is_additional};
+
 mod own_types;
 
-use crate::claims::additional_members;
 use jiff::Timestamp;
 use oidc_claims::{
     AdditionalClaims, AddressClaim, AllOtherClaims, GenderClaim, Home, ID_TOKEN_FIELDS,
-    PlacedError, StandardClaims, belongs, read_standard, write_standard,
+    PlacedError, StandardClaims, USER_INFO_FIELDS, belongs, read_standard, write_standard,
 };
-use oidc_members::{Members, OutMember, ParseError, write_object};
+use oidc_members::{Member, Members, OutMember, ParseError, write_object};
 use oidc_types::{CoreGenderClaim, LocalizedClaim, Marker, SubjectIdentifier, Text};
-use std::alloc::Global;
+use std::alloc::{AllocError, Global};
 use std::test::Fail;
 
 type Claims = StandardClaims<CoreGenderClaim>;
@@ -44,6 +47,25 @@ fn standard_line<GC: GenderClaim>(alloc: Global, text: &str) -> Result<String, F
     }
 }
 
+fn is_additional_name(name: &str) -> bool
+    ensures { result ≡ is_additional name.now }
+{
+    matches!(belongs(name, &USER_INFO_FIELDS), Home::Additional)
+}
+
+// The additional ones of these members.
+fn additional_members(alloc: Global, members: &[Member]) -> Result<Vec<Member>, AllocError>
+    ensures { IfOk result (λ members. IsTrue (are_additional members.items)) }
+{
+    let mut additional = Vec::new(alloc);
+    for member in members {
+        if is_additional_name(member.name()) {
+            additional.push(member.clone_in(alloc)?)?;
+        }
+    }
+    Ok(additional)
+}
+
 // The additional claims of an object by the fields of user info.
 fn additional<AC: AdditionalClaims>(alloc: Global, text: &str) -> Result<AC, ParseError> {
     let members = Members::split(alloc, text.as_bytes())?;
@@ -70,26 +92,29 @@ fn others_are_equal(alloc: Global, a: &str, b: &str) -> Result<bool, Fail> {
     Ok(a == b && a.as_slice().len() == b.as_slice().len())
 }
 
+// Objects, and whether what is kept of them equals what is kept of `{"a":[1,true],"b":{"c":"d"}}`.
+static OTHERS: [(&str, bool); 12] = [
+    (r#" {"a" : [1, true], "b":{"c":"\u0064"}} "#, true),
+    (r#"{"sub":"x","a":[1,true],"iss":1,"b":{"c":"d"}}"#, true),
+    (r#"{}"#, false),
+    (r#"{"a":[1,true]}"#, false),
+    (r#"{"b":{"c":"d"},"a":[1,true]}"#, false),
+    (r#"{"a":[1,true],"b":{"c":"e"}}"#, false),
+    (r#"{"a":[1,true],"b":{"e":"d"}}"#, false),
+    (r#"{"a":[-1,true],"b":{"c":"d"}}"#, false),
+    (r#"{"a":[1,true,null],"b":{"c":"d"}}"#, false),
+    (r#"{"a":[1,false],"b":{"c":"d"}}"#, false),
+    (r#"{"a":[1,true],"b":{"c":"d"},"e":null}"#, false),
+    (r#"{"e":[1,true],"b":{"c":"d"}}"#, false),
+];
+
 #[test]
 fn others_differ_by_names_values_and_order(rt: HostRuntime) -> Result<(), Fail> {
-    for (other, want) in [
-        (r#" {"a" : [1, true], "b":{"c":"\u0064"}} "#, true),
-        (r#"{"sub":"x","a":[1,true],"iss":1,"b":{"c":"d"}}"#, true),
-        (r#"{}"#, false),
-        (r#"{"a":[1,true]}"#, false),
-        (r#"{"b":{"c":"d"},"a":[1,true]}"#, false),
-        (r#"{"a":[1,true],"b":{"c":"e"}}"#, false),
-        (r#"{"a":[1,true],"b":{"e":"d"}}"#, false),
-        (r#"{"a":[-1,true],"b":{"c":"d"}}"#, false),
-        (r#"{"a":[1,true,null],"b":{"c":"d"}}"#, false),
-        (r#"{"a":[1,false],"b":{"c":"d"}}"#, false),
-        (r#"{"a":[1,true],"b":{"c":"d"},"e":null}"#, false),
-        (r#"{"e":[1,true],"b":{"c":"d"}}"#, false),
-    ] {
-        let first = r#"{"a":[1,true],"b":{"c":"d"}}"#;
+    let first = r#"{"a":[1,true],"b":{"c":"d"}}"#;
+    for (other, want) in &OTHERS {
         assert_eq!(rt;
             others_are_equal(rt.alloc(), first, other)?,
-            want,
+            *want,
             "{other}"
         );
     }
@@ -105,55 +130,57 @@ fn claims_are_equal(alloc: Global, a: &str, b: &str) -> Result<bool, Fail> {
     Ok(read(alloc, a)? == read(alloc, b)?)
 }
 
+static PAIRS: [(&str, &str, bool); 12] = [
+    (FULL, FULL, true),
+    (NULLS, r#"{"zz":1,"sub":"a"}"#, true),
+    (
+        r#"{"sub":"a","name#":"b"}"#,
+        r#"{"name":"b","sub":"a"}"#,
+        true,
+    ),
+    (r#"{"sub":"a"}"#, r#"{"sub":"b"}"#, false),
+    (FULL, NULLS, false),
+    (
+        r#"{"sub":"a","name#x":"b"}"#,
+        r#"{"sub":"a","name":"b"}"#,
+        false,
+    ),
+    (
+        r#"{"sub":"a","name":"b"}"#,
+        r#"{"sub":"a","nickname":"b"}"#,
+        false,
+    ),
+    (
+        r#"{"sub":"a","email_verified":true}"#,
+        r#"{"sub":"a","email_verified":false}"#,
+        false,
+    ),
+    (
+        r#"{"sub":"a","address":{}}"#,
+        r#"{"sub":"a","address":null}"#,
+        false,
+    ),
+    (
+        r#"{"sub":"a","address":{"region":null,"country":"c"}}"#,
+        r#"{"sub":"a","address":{"country":"c"}}"#,
+        true,
+    ),
+    (
+        r#"{"sub":"a","address":{"region":"c"}}"#,
+        r#"{"sub":"a","address":{"country":"c"}}"#,
+        false,
+    ),
+    (
+        r#"{"sub":"a","updated_at":1}"#,
+        r#"{"sub":"a","updated_at":-1}"#,
+        false,
+    ),
+];
+
 #[test]
 fn claims_differ_by_their_values(rt: HostRuntime) -> Result<(), Fail> {
-    for (a, b, want) in [
-        (FULL, FULL, true),
-        (NULLS, r#"{"zz":1,"sub":"a"}"#, true),
-        (
-            r#"{"sub":"a","name#":"b"}"#,
-            r#"{"name":"b","sub":"a"}"#,
-            true,
-        ),
-        (r#"{"sub":"a"}"#, r#"{"sub":"b"}"#, false),
-        (FULL, NULLS, false),
-        (
-            r#"{"sub":"a","name#x":"b"}"#,
-            r#"{"sub":"a","name":"b"}"#,
-            false,
-        ),
-        (
-            r#"{"sub":"a","name":"b"}"#,
-            r#"{"sub":"a","nickname":"b"}"#,
-            false,
-        ),
-        (
-            r#"{"sub":"a","email_verified":true}"#,
-            r#"{"sub":"a","email_verified":false}"#,
-            false,
-        ),
-        (
-            r#"{"sub":"a","address":{}}"#,
-            r#"{"sub":"a","address":null}"#,
-            false,
-        ),
-        (
-            r#"{"sub":"a","address":{"region":null,"country":"c"}}"#,
-            r#"{"sub":"a","address":{"country":"c"}}"#,
-            true,
-        ),
-        (
-            r#"{"sub":"a","address":{"region":"c"}}"#,
-            r#"{"sub":"a","address":{"country":"c"}}"#,
-            false,
-        ),
-        (
-            r#"{"sub":"a","updated_at":1}"#,
-            r#"{"sub":"a","updated_at":-1}"#,
-            false,
-        ),
-    ] {
-        assert_eq!(rt; claims_are_equal(rt.alloc(), a, b)?, want, "{a} and {b}");
+    for (a, b, want) in &PAIRS {
+        assert_eq!(rt; claims_are_equal(rt.alloc(), a, b)?, *want, "{a} and {b}");
     }
     Ok(())
 }
@@ -231,17 +258,32 @@ const FULL_TEXTS: [&str; 18] = [
     "c",
 ];
 
+// The first getter of a text that gives another one than is wanted.
+fn first_other_text(claims: &Claims) -> Option<usize> {
+    let mut wanted = FULL_TEXTS.iter();
+    texts(claims)
+        .iter()
+        .position(|text| *text != wanted.next().copied())
+}
+
+// That getter, and what the other getters give.
+type Gotten = (Option<usize>, Option<bool>, Option<bool>, Option<i64>);
+
+fn gotten(alloc: Global, text: &str) -> Result<Gotten, Fail> {
+    let claims = read(alloc, text)?;
+    let moment = claims.updated_at().map(|moment| moment.as_second());
+    Ok((
+        first_other_text(&claims),
+        claims.email_verified(),
+        claims.phone_number_verified(),
+        moment,
+    ))
+}
+
 #[test]
 fn getters_give_the_claims(rt: HostRuntime) -> Result<(), Fail> {
-    let claims = read(rt.alloc(), FULL)?;
-    let mut wanted = FULL_TEXTS.iter().copied();
-    for text in texts(&claims) {
-        assert_eq!(rt; text, wanted.next());
-    }
-    assert_eq!(rt; claims.email_verified(), Some(true));
-    assert_eq!(rt; claims.phone_number_verified(), Some(false));
-    let moment = claims.updated_at().map(|moment| moment.as_second());
-    assert_eq!(rt; moment, Some(1_311_280_970));
+    let want = (None, Some(true), Some(false), Some(1_311_280_970));
+    assert_eq!(rt; gotten(rt.alloc(), FULL)?, want);
     Ok(())
 }
 
@@ -273,11 +315,20 @@ fn of_subject(alloc: Global, subject: &str) -> Result<SubjectIdentifier, Fail> {
     Ok(SubjectIdentifier::new(String::from_str(alloc, subject)?))
 }
 
+// Whether claims whose subject is set are those of a new subject alone.
+fn are_of_subject(alloc: Global, claims: Claims, subject: &str) -> Result<bool, Fail> {
+    let wanted: Claims = StandardClaims::new(of_subject(alloc, subject)?);
+    Ok(claims.set_subject(of_subject(alloc, subject)?) == wanted)
+}
+
+fn are_emptied(alloc: Global, text: &str) -> Result<bool, Fail> {
+    let emptied = without_claims(read(alloc, text)?);
+    are_of_subject(alloc, emptied, "b")
+}
+
 #[test]
 fn setters_change_their_claims(rt: HostRuntime) -> Result<(), Fail> {
-    let full = read(rt.alloc(), FULL)?;
-    let emptied = without_claims(full).set_subject(of_subject(rt.alloc(), "b")?);
-    assert!(rt; emptied == StandardClaims::new(of_subject(rt.alloc(), "b")?));
+    assert!(rt; are_emptied(rt.alloc(), FULL)?);
     Ok(())
 }
 

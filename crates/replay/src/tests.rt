@@ -5,5 +5,6 @@ mod claims;
 mod cli;
 mod login;
 mod low;
+mod oauth2;
 mod readers;
 mod types;

@@ -51,6 +51,30 @@ fn failing_calls(alloc: Global, call: u64) -> Result<Vec<u64>, AllocError> {
     Ok(calls)
 }
 
+// Whether a source still gives as many bytes as it had.
+fn is_unread(alloc: Global, source: &mut MemorySource, length: usize) -> Result<bool, AllocError> {
+    let mut left = vec![in alloc; 0u8; length]?;
+    Ok(source.take(left.as_mut_slice()) == Ok(length))
+}
+
+// The program run for these words over a source of so many bytes, and a sink.
+fn ran_over(
+    alloc: Global,
+    words: &str,
+    source: &mut MemorySource,
+    length: usize,
+    mut sink: MemorySink,
+) -> Result<Ended, AllocError> {
+    let words = words_of(alloc, words)?;
+    let status = run(alloc, words.as_slice(), source, &mut sink);
+    let unread = is_unread(alloc, source, length)?;
+    Ok(Ended {
+        status,
+        sink,
+        unread,
+    })
+}
+
 // Runs these words over this script. The source and the sink fail at these calls.
 fn ran(
     alloc: Global,
@@ -60,25 +84,17 @@ fn ran(
     sink_fails: u64,
     room: usize,
 ) -> Result<Ended, AllocError> {
-    let words = words_of(alloc, words)?;
     let length = script.len();
     let mut source = MemorySource::new(script, failing_calls(alloc, source_fails)?);
-    let mut sink = MemorySink::new(alloc, room, failing_calls(alloc, sink_fails)?)?;
-    let status = run(alloc, words.as_slice(), &mut source, &mut sink);
-    let mut left = vec![in alloc; 0u8; length]?;
-    let unread = source.take(left.as_mut_slice()) == Ok(length);
-    Ok(Ended {
-        status,
-        sink,
-        unread,
-    })
+    let sink = MemorySink::new(alloc, room, failing_calls(alloc, sink_fails)?)?;
+    ran_over(alloc, words, &mut source, length, sink)
 }
 
 // ---- words and failures
 
 // The words, the calls of the source and of the sink that fail, the sink's room, and what is wanted: the
 // status, and how many lines of the report were written.
-const RUNS: [(&str, u64, u64, usize, u8, usize); 22] = [
+static RUNS: [(&str, u64, u64, usize, u8, usize); 22] = [
     (",replay", 0, 0, 65_536, DONE, 5),
     // A source that fails at its first call, and at the one that would give its end.
     (",replay", 1, 0, 65_536, SOURCE_FAULT, 0),
@@ -138,7 +154,7 @@ fn words_and_failures(rt: HostRuntime) -> Result<(), Fail> {
 // Scripts of any bytes, and what is wanted: the status and the report. In the last a broken escape, and a
 // byte that isn't UTF-8, are values: the first stays, and the second is read as U+FFFD; its last line has
 // no line feed.
-const ODD: [(&[u8], u8, &str); 2] = [
+static ODD: [(&[u8], u8, &str); 2] = [
     (b"\xFF\xFE\x00", SCRIPT_FAULT, "script fault line 1\n"),
     (
         b"%6Fp=client&id=%zz&secret=\xFF&issuer=https://example&auth=https://example/a&token=https://example/t&algs=\nop=begin&state=%FF&nonce=%&verifier=0123456789012345678901234567890123456789012",
@@ -203,22 +219,26 @@ fn filled(alloc: Global, bytes: usize) -> Result<MemorySink, AllocError> {
     Ok(ran(alloc, ",replay", script, 0, 0, 100)?.sink)
 }
 
+// The report of a script of so many bytes, or of one without end.
+fn report_of(alloc: Global, bytes: Option<usize>) -> Result<MemorySink, AllocError> {
+    match bytes {
+        Some(bytes) => filled(alloc, bytes),
+        None => endless(alloc),
+    }
+}
+
 // As many bytes as a script may have are judged by their lines. With one more nothing else counts.
+static LIMITS: [(Option<usize>, &str); 3] = [
+    (Some(LIMIT), "client ok\nscript fault line 2\n"),
+    (Some(LIMIT + 1), "script fault line 0\n"),
+    (None, "script fault line 0\n"),
+];
+
 #[test]
 fn script_limit(rt: HostRuntime) -> Result<(), Fail> {
-    let alloc = rt.alloc();
-    assert_eq!(rt;
-        filled(alloc, LIMIT)?.bytes(),
-        b"client ok\nscript fault line 2\n".as_slice()
-    );
-    assert_eq!(rt;
-        filled(alloc, LIMIT + 1)?.bytes(),
-        b"script fault line 0\n".as_slice()
-    );
-    assert_eq!(rt;
-        endless(alloc)?.bytes(),
-        b"script fault line 0\n".as_slice()
-    );
+    for (bytes, want) in &LIMITS {
+        assert_eq!(rt; report_of(rt.alloc(), *bytes)?.bytes(), want.as_bytes());
+    }
     Ok(())
 }
 
@@ -240,27 +260,38 @@ const REQUEST_FRONT: &str = "request method=POST&address=https%3A%2F%2Fexample%2
 const REPORT_REST: &str =
     "&accept=application%2Fjson&content_type=application%2Fx-www-form-urlencoded&authorization=Basic+YWFhOmJiYg%3D%3D&body=grant_type%3Dauthorization_code%26code%3Dc1%26code_verifier%3DdBjftJeZ4CVP-mB92K27uhbUJU1p1r_wW1gFWFOEjXk\ncallback ok access_token=abc&claims=%7B%22iss%22%3A%22https%3A%2F%2Fexample%22%2C%22aud%22%3A%5B%22aaa%22%5D%2C%22exp%22%3A2000%2C%22iat%22%3A900%2C%22nonce%22%3A%22NONCE456%22%2C%22sub%22%3A%22u1%22%7D\npending 0\n";
 
-const UNBUILT: &str = "callback refused unbuilt\npending 0\n";
+const REFUSED: &str = "callback refused token uri\npending 0\n";
 
-// Whether a callback is sent, or refused as one whose request can't be built, where the client's token
-// endpoint ends in so many letters.
+// Whether a callback's request is sent, or refused for its address, where the client's token endpoint ends
+// in so many letters.
 fn is_answered(alloc: Global, letters: usize, is_sent: bool) -> Result<bool, AllocError> {
     let path = "a".repeat(alloc, letters)?;
-    let script = format!(in alloc; "{CLIENT_FRONT}{path}\n{LATER_LINES}")?;
-    let wanted = if is_sent {
-        format!(in alloc; "{REPORT_FRONT}{REQUEST_FRONT}{path}{REPORT_REST}")?
-    } else {
-        format!(in alloc; "{REPORT_FRONT}{UNBUILT}")?
-    };
-    let ran = ran(alloc, ",replay", script.into_bytes(), 0, 0, 262_144)?;
-    Ok(ran.status == DONE && ran.sink.bytes() == wanted.as_str().as_bytes())
+    let wanted = wanted_at(alloc, path.as_str(), is_sent)?;
+    is_reported(alloc, path.as_str(), wanted.as_str())
 }
 
-// An address has at most 65,534 bytes. A longer one is no request.
+// The report of a callback that is sent to this path, or isn't.
+fn wanted_at(alloc: Global, path: &str, is_sent: bool) -> Result<String, AllocError> {
+    if is_sent {
+        format!(in alloc; "{REPORT_FRONT}{REQUEST_FRONT}{path}{REPORT_REST}")
+    } else {
+        format!(in alloc; "{REPORT_FRONT}{REFUSED}")
+    }
+}
+
+// Whether the script of a client with this path has this report.
+fn is_reported(alloc: Global, path: &str, wanted: &str) -> Result<bool, AllocError> {
+    let script = format!(in alloc; "{CLIENT_FRONT}{path}\n{LATER_LINES}")?;
+    let ran = ran(alloc, ",replay", script.into_bytes(), 0, 0, 262_144)?;
+    Ok(ran.status == DONE && ran.sink.bytes() == wanted.as_bytes())
+}
+
+// An address has at most 65,534 bytes. Nothing is sent to a longer one.
 #[test]
 fn address_limit(rt: HostRuntime) -> Result<(), Fail> {
-    assert!(rt; is_answered(rt.alloc(), 65_519, false)?);
-    assert!(rt; is_answered(rt.alloc(), 65_518, true)?);
+    for (letters, is_sent) in [(65_519, false), (65_518, true)] {
+        assert!(rt; is_answered(rt.alloc(), letters, is_sent)?, "{letters}");
+    }
     Ok(())
 }
 
@@ -295,23 +326,39 @@ fn push_numbered(text: &mut String, alloc: Global, form: &str, number: usize) ->
     Ok(())
 }
 
-// Adds the ID token of a login, by the client's secret. The first part is base64 of {"alg":"HS256"}.
+// The first two parts of the ID token of a login. The first is base64 of {"alg":"HS256"}.
+fn message(alloc: Global, number: usize) -> Result<String, Fail> {
+    let mut payload = String::new(alloc);
+    push_numbered(&mut payload, alloc, PAYLOAD, number)?;
+    let mut token = String::from_str(alloc, "eyJhbGciOiJIUzI1NiJ9.")?;
+    URL_SAFE_NO_PAD.encode_string(payload.as_str().as_bytes(), &mut token)?;
+    Ok(token)
+}
+
+// Adds the signature of a message, by the client's secret.
+fn push_signature(
+    text: &mut String,
+    alloc: Global,
+    key: &CoreHmacKey,
+    message: &str,
+) -> Result<(), Fail> {
+    let algorithm = CoreJwsSigningAlgorithm::HmacSha256;
+    let signature = key.sign(alloc, &algorithm, message.as_bytes())?;
+    URL_SAFE_NO_PAD.encode_string(signature.as_slice(), text)?;
+    Ok(())
+}
+
+// Adds the ID token of a login.
 fn push_token(
     text: &mut String,
     alloc: Global,
     key: &CoreHmacKey,
     number: usize,
 ) -> Result<(), Fail> {
-    let mut payload = String::new(alloc);
-    push_numbered(&mut payload, alloc, PAYLOAD, number)?;
-    let mut token = String::from_str(alloc, "eyJhbGciOiJIUzI1NiJ9.")?;
-    URL_SAFE_NO_PAD.encode_string(payload.as_str().as_bytes(), &mut token)?;
-    let message = token.as_str().as_bytes();
-    let signature = key.sign(alloc, &CoreJwsSigningAlgorithm::HmacSha256, message)?;
-    token.push_str(".")?;
-    URL_SAFE_NO_PAD.encode_string(signature.as_slice(), &mut token)?;
-    text.push_str(token.as_str())?;
-    Ok(())
+    let message = message(alloc, number)?;
+    text.push_str(message.as_str())?;
+    text.push_str(".")?;
+    push_signature(text, alloc, key, message.as_str())
 }
 
 // The number of the login that comes back at this turn: each once, and not in the order of the begins.
@@ -319,19 +366,31 @@ fn returning(turn: usize) -> usize {
     turn % MANY * 7 % MANY
 }
 
+// Adds a begin of each login.
+fn push_begins(text: &mut String, alloc: Global) -> Result<(), Fail> {
+    for number in 0..MANY {
+        push_numbered(text, alloc, BEGIN, number)?;
+    }
+    Ok(())
+}
+
+// Adds a callback of each login.
+fn push_callbacks(text: &mut String, alloc: Global, key: &CoreHmacKey) -> Result<(), Fail> {
+    for turn in 0..MANY {
+        let number = returning(turn);
+        push_numbered(text, alloc, CALLBACK, number)?;
+        push_token(text, alloc, key, number)?;
+        text.push_str(CALLBACK_END)?;
+    }
+    Ok(())
+}
+
 // A begin of each login, and then a callback of each.
 fn many_script(alloc: Global) -> Result<String, Fail> {
     let key = CoreHmacKey::new(b"bbb".to_vec(alloc)?);
     let mut text = String::from_str(alloc, CLIENT)?;
-    for number in 0..MANY {
-        push_numbered(&mut text, alloc, BEGIN, number)?;
-    }
-    for turn in 0..MANY {
-        let number = returning(turn);
-        push_numbered(&mut text, alloc, CALLBACK, number)?;
-        push_token(&mut text, alloc, &key, number)?;
-        text.push_str(CALLBACK_END)?;
-    }
+    push_begins(&mut text, alloc)?;
+    push_callbacks(&mut text, alloc, &key)?;
     Ok(text)
 }
 
@@ -348,13 +407,17 @@ fn many_report(alloc: Global) -> Result<String, Fail> {
     Ok(text)
 }
 
-#[test]
-fn many_logins(rt: HostRuntime) -> Result<(), Fail> {
-    let alloc = rt.alloc();
+// Whether the report of all logins is the wanted one.
+fn are_many_signed_in(alloc: Global) -> Result<bool, Fail> {
     let script = many_script(alloc)?.into_bytes();
     let report = many_report(alloc)?;
     let ran = ran(alloc, ",replay", script, 0, 0, 16_777_216)?;
-    assert!(rt; ran.sink.bytes() == report.as_str().as_bytes());
+    Ok(ran.sink.bytes() == report.as_str().as_bytes())
+}
+
+#[test]
+fn many_logins(rt: HostRuntime) -> Result<(), Fail> {
+    assert!(rt; are_many_signed_in(rt.alloc())?);
     Ok(())
 }
 
@@ -429,44 +492,77 @@ fn put<O: Sink>(alloc: Global, sink: &mut O, pieces: &[&str]) -> Result<Vec<u8>,
     Ok(text)
 }
 
+// What a kind of source, or of sink, stands over.
+#[derive(Clone, Copy, Debug)]
+enum Over {
+    Memory,
+    Std,
+    Failing,
+}
+
+// What is taken of each source, by as many calls as reach behind its end.
+fn taken_of(alloc: Global, over: Over) -> Result<Vec<u8>, AllocError> {
+    match over {
+        Over::Memory => {
+            let mut source = MemorySource::new(b"abcde".to_vec(alloc)?, [2, 4, 4].to_vec(alloc)?);
+            taken(alloc, &mut source, 5)
+        }
+        Over::Std => taken(alloc, &mut ReadSource::new(b"abcd".as_slice()), 3),
+        Over::Failing => taken(alloc, &mut ReadSource::new(Failing { calls: 0 }), 3),
+    }
+}
+
 #[test]
 fn sources(rt: HostRuntime) -> Result<(), Fail> {
-    let alloc = rt.alloc();
-    let mut memory = MemorySource::new(b"abcde".to_vec(alloc)?, [2, 4, 4].to_vec(alloc)?);
-    let mut reader = ReadSource::new(b"abcd".as_slice());
-    let mut failing = ReadSource::new(Failing { calls: 0 });
-    assert_eq!(rt;
-        taken(alloc, &mut memory, 5)?.as_slice(),
-        b"abc.!de.!.".as_slice()
-    );
-    assert_eq!(rt;
-        taken(alloc, &mut reader, 3)?.as_slice(),
-        b"abc.d..".as_slice()
-    );
-    assert_eq!(rt;
-        taken(alloc, &mut failing, 3)?.as_slice(),
-        b"x.!.".as_slice()
-    );
+    for (over, want) in [
+        (Over::Memory, "abc.!de.!."),
+        (Over::Std, "abc.d.."),
+        (Over::Failing, "x.!."),
+    ] {
+        let taken = taken_of(rt.alloc(), over)?;
+        assert_eq!(rt; taken.as_slice(), want.as_bytes(), "{over:?}");
+    }
     Ok(())
+}
+
+// What becomes of calls of a sink in memory that has room for five bytes and fails at its first call, and
+// what it holds then.
+fn put_in_memory(alloc: Global) -> Result<Vec<u8>, AllocError> {
+    let mut sink = MemorySink::new(alloc, 5, [1].to_vec(alloc)?)?;
+    let mut marks = put(alloc, &mut sink, &["ab", "ab", "cdef", "cde", "", "f"])?;
+    marks.extend_from_slice(sink.bytes())?;
+    Ok(marks)
+}
+
+// The same of a sink over a list.
+fn put_in_list(alloc: Global) -> Result<Vec<u8>, AllocError> {
+    let mut written = Vec::new(alloc);
+    let mut marks = put(alloc, &mut WriteSink::new(&mut written), &["ab", "", "cde"])?;
+    marks.append(&mut written)?;
+    Ok(marks)
+}
+
+fn put_of(alloc: Global, over: Over) -> Result<Vec<u8>, AllocError> {
+    match over {
+        Over::Memory => put_in_memory(alloc),
+        Over::Std => put_in_list(alloc),
+        Over::Failing => {
+            let mut sink = WriteSink::new(Short { calls: 0 });
+            put(alloc, &mut sink, &["abc", "d", ""])
+        }
+    }
 }
 
 #[test]
 fn sinks(rt: HostRuntime) -> Result<(), Fail> {
-    let alloc = rt.alloc();
-    let mut memory = MemorySink::new(alloc, 5, [1].to_vec(alloc)?)?;
-    let marks = put(alloc, &mut memory, &["ab", "ab", "cdef", "cde", "", "f"])?;
-    assert_eq!(rt; marks.as_slice(), b"!.!..!".as_slice());
-    assert_eq!(rt; memory.bytes(), b"abcde".as_slice());
-    let mut written = Vec::new(alloc);
-    let marks = put(alloc, &mut WriteSink::new(&mut written), &["ab", "", "cde"])?;
-    assert_eq!(rt; marks.as_slice(), b"...".as_slice());
-    assert_eq!(rt; written.as_slice(), b"abcde".as_slice());
-    let marks = put(
-        alloc,
-        &mut WriteSink::new(Short { calls: 0 }),
-        &["abc", "d", ""],
-    )?;
-    assert_eq!(rt; marks.as_slice(), b".!.".as_slice());
+    for (over, want) in [
+        (Over::Memory, "!.!..!abcde"),
+        (Over::Std, "...abcde"),
+        (Over::Failing, ".!."),
+    ] {
+        let marks = put_of(rt.alloc(), over)?;
+        assert_eq!(rt; marks.as_slice(), want.as_bytes(), "{over:?}");
+    }
     Ok(())
 }
 
