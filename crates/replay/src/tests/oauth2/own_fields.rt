@@ -6,8 +6,8 @@ ghost use Rattle.oidc_members.specs.declared.refusal.ParseKind.TheVariants.{Addi
 
 use oidc_members::{FieldName, Members, OutMember, ParseError, ParseKind, Refusal};
 use oidc_oauth2::{
-    ExtraDeviceAuthorizationFields, ExtraTokenFields, OAuth2TokenResponse,
-    StandardDeviceAuthorizationResponse, StandardTokenResponse, TokenType,
+    DeviceAuthorizationResponse, ExtraDeviceAuthorizationFields, ExtraTokenFields,
+    OAuth2TokenResponse, StandardTokenResponse, TokenType,
 };
 use serde_json::Value;
 use std::alloc::{AllocError, Global};
@@ -159,7 +159,7 @@ fn a_caller_may_bring_token_fields_of_its_own(rt: HostRuntime) -> Result<(), Fai
 
 // ---- device authorization responses
 
-type Device = StandardDeviceAuthorizationResponse<Few>;
+type Device = DeviceAuthorizationResponse<Few>;
 
 fn device_in(alloc: Global, text: &str) -> Result<Device, ParseError> {
     let members = Members::split(alloc, text.as_bytes())?;
