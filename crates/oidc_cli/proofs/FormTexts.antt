@@ -1,15 +1,15 @@
 -- Form texts, pair by pair.
-use Rattle.std.proofs.Common.{◌≡◌, ℕ, List, [], ◌∷◌, ◌++◌, map, codes, Ok, refl, sym, ap, ◌∙◌, append_assoc, append-nil}
-use Rattle.std.specs.List.{join_with_byte}
+use Rattle.std.proofs.Common.{◌≡◌, ℕ, List, [], ◌∷◌, ◌++◌, codes, Ok, refl, sym, ap, ◌∙◌, append_assoc, append-nil}
 use Rattle.form_urlencoded.specs.Form.{serialize_pair}
 use Rattle.http_header.specs.HeaderMap.{get}
 use Rattle.oidc_pairs.specs.Form.{form}
 use Rattle.oidc_members.specs.Write.{object_text}
-use Rattle.oidc_login.specs.Transport.{SeenRequest}
+use Rattle.oidc_oauth2.specs.Messages.{SeenRequest}
+use Rattle.oidc_members.specs.declared.refusal.Refusal.{Refusal}
 use Rattle.oidc_login.specs.SignedIn.{SeenSignedIn}
 use Rattle.oidc_login.specs.Claims.{written}
 use Rattle.oidc_cli.specs.ReportLines.{behind}
-use Rattle.oidc_cli.specs.ReportLines.{header_pair, body_pair, request_list, request_line, verdict_line}
+use Rattle.oidc_cli.specs.ReportLines.{header_pair, body_pair, request_line, refresh_pair, kind_word, parse_words, verdict_line}
 
 form_first : (pair : List ℕ × List ℕ) (list : List (List ℕ × List ℕ)) → form (pair ∷ list) ≡ serialize_pair pair ++ behind list
 unfolding form
@@ -52,10 +52,36 @@ request_text request t1 t2 t3 t4 t5 t6 t7 e1 e2 e3 e4 e5 e6 e7 =
     (ap (λ t. serialize_pair (codes "method", request.method) ++ t) (sym (behind_parts a x1 x2 x3 x4))
     ∙ sym (form_first (codes "method", request.method) (((a ∷ x1 ++ x2) ++ x3) ++ x4))))
 
-pub signed_text : (signed : SeenSignedIn) (t1 t2 t3 : List ℕ)
+chained : (w s r c l : List ℕ) → (((w ++ s) ++ r) ++ c) ++ l ≡ (w ++ (s ++ (r ++ c))) ++ l
+chained w s r c l = simp append_assoc
+
+pub signed_text : (signed : SeenSignedIn) (t1 t2 t3 t4 : List ℕ)
     → t1 ≡ codes "callback ok " ++ serialize_pair (codes "access_token", signed.access_token)
-    → t2 ≡ t1 ++ behind ((codes "claims", object_text (written signed.id_token.claims)) ∷ [])
-    → t3 ≡ t2 ++ 10 ∷ []
-    → t3 ≡ verdict_line (Ok signed)
+    → t2 ≡ t1 ++ behind (refresh_pair signed.refresh_token)
+    → t3 ≡ t2 ++ behind ((codes "claims", object_text (written signed.id_token.claims)) ∷ [])
+    → t4 ≡ t3 ++ 10 ∷ []
+    → t4 ≡ verdict_line (Ok signed)
 unfolding verdict_line
-signed_text signed t1 t2 t3 e1 e2 e3 = rw (e3, e2, e1) (simp (form_first, append_assoc))
+signed_text signed t1 t2 t3 t4 e1 e2 e3 e4 =
+    let a : List ℕ × List ℕ = (codes "access_token", signed.access_token) in
+    let r = refresh_pair signed.refresh_token in
+    let c : List (List ℕ × List ℕ) = (codes "claims", object_text (written signed.id_token.claims)) ∷ [] in
+    rw (e4, e3, e2, e1)
+    (chained (codes "callback ok ") (serialize_pair a) (behind r) (behind c) (10 ∷ [])
+    ∙ ap (λ t. (codes "callback ok " ++ t) ++ 10 ∷ []) (sym (form_first a (r ++ c) ∙ ap (λ t. serialize_pair a ++ t) (behind-append r c))))
+
+-- the words of a refusal to read
+joined_words : (t w s f : List ℕ) → ((t ++ w) ++ s) ++ f ≡ t ++ (w ++ (s ++ f))
+joined_words t w s f = simp append_assoc
+
+pub parse_text : (refusal : Refusal) (t0 t1 t2 t3 : List ℕ)
+    → t1 ≡ t0 ++ codes "parse "
+    → t2 ≡ t1 ++ serialize_pair (codes "kind", kind_word refusal.kind)
+    → t3 ≡ t2 ++ behind ((codes "field", refusal.field) ∷ [])
+    → t3 ≡ t0 ++ parse_words refusal
+parse_text refusal t0 t1 t2 t3 e1 e2 e3 =
+    let a : List ℕ × List ℕ = (codes "kind", kind_word refusal.kind) in
+    let f : List (List ℕ × List ℕ) = (codes "field", refusal.field) ∷ [] in
+    rw (e3, e2, e1)
+    (joined_words t0 (codes "parse ") (serialize_pair a) (behind f)
+    ∙ ap (λ t. t0 ++ (codes "parse " ++ t)) (sym (form_first a f)))

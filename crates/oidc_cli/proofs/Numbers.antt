@@ -1,16 +1,15 @@
 -- Numbers that are read of texts.
-use Rattle.std.proofs.Common.{◌≡◌, ◌≢◌, ℕ, zero, suc, ◌+◌, ◌*◌, ◌^◌, ◌<◌, ◌≤◌, ◌==◌, ◌&&◌, Bool, true, false, cond, nat_lt, nat_le, ℤ, pos, neg_ℤ, List, [], ◌∷◌, drop, get_or, length, Option, Some, None, Result, Ok, Err, option_map, w64, refl, sym, ap, ◌∙◌, arith}
+use Rattle.std.proofs.Common.{◌≡◌, ℕ, zero, suc, ◌^◌, ◌<◌, ◌≤◌, ◌==◌, ◌&&◌, Bool, true, false, cond, nat_lt, nat_le, ℤ, pos, neg_ℤ, List, [], ◌∷◌, length, Option, Some, None, Result, Ok, Err, option_map, w64, refl, sym, ap, ◌∙◌, arith}
 use Rattle.std.specs.Prelude.{option_and_then, slice_index, if◌then◌else◌}
 use Rattle.std.specs.Result.{result_ok, OkIff}
 use Rattle.std.specs.Str.{all_ascii_digits}
 use Rattle.std.specs.Str.Parse.{digits_value, ParsesSigned, ParsesUnsigned}
-use Rattle.std.proofs.lemmas.Int.{ints}
 use Rattle.std.proofs.lemmas.Bool.{false≢true, ne_eqb}
 use Rattle.std.proofs.lemmas.Bool.Decides.{nat_tests}
 use Rattle.std.proofs.lemmas.Str.Parse.{IsNumeralModel, numerals_by_value, tells_all_ascii_digits, parse_signed_minus, parse_signed_plain, parse_plain, digits_value_short}
 use Rattle.http.specs.StatusCode.{IsStatusCode}
 use Rattle.oidc_readers.specs.Moments.{moment_at}
-use Rattle.oidc_cli.specs.Values.{decimal_of, whole_of, moment_of_text, status_code_of}
+use Rattle.oidc_cli.specs.Values.{decimal_of, moment_of_text, status_code_of}
 
 numerals : IsNumeralModel (λ ds. all_ascii_digits ds ≡ true) (digits_value 10)
 numerals = numerals_by_value _ tells_all_ascii_digits

@@ -1,10 +1,9 @@
 -- What a status says of a script that was read.
-use Rattle.std.proofs.Common.{◌≡◌, ◌⊎◌, inl, inr, ℕ, ◌+◌, ◌<◌, ◌≤◌, nat_lt, length, List, [], ◌∷◌, ◌++◌, Option, None, Some, option_map, Bool, true, false, Result, Ok, Err, IfOk, OnOk, OnErr, IsErrOf, refl, sym, ap, subst, ◌∙◌, arith, append-nil, length-append}
+use Rattle.std.proofs.Common.{◌≡◌, ◌⊎◌, inl, inr, ℕ, ◌<◌, ◌≤◌, nat_lt, length, List, ◌++◌, Option, None, Some, Bool, true, false, Result, Ok, Err, IfOk, OnOk, OnErr, IsErrOf, refl, sym, ap, ◌∙◌, arith, append-nil, length-append}
 use Rattle.std.specs.Io.KnownBytes.{IsAtEnd}
 use Rattle.std.proofs.lemmas.Bool.Decides.{nat_tests}
 use Rattle.oidc_cli.specs.Sources.{Takes}
-use Rattle.oidc_cli.specs.Sinks.{Puts, PutsPrefix}
-use Rattle.oidc_cli.specs.Script.{limit, lines, fault_of}
+use Rattle.oidc_cli.specs.Script.{limit, fault_of}
 use Rattle.oidc_cli.specs.ReportLines.{fault_line}
 use Rattle.oidc_cli.specs.Report.{events_lines, events_before_fault, last_line, store_after_events, report, ending_of}
 use Rattle.oidc_cli.specs.Program.{EndsInFault, status_after}

@@ -10,7 +10,7 @@ use Rattle.oidc_login.specs.Logins.{Pending}
 use Rattle.oidc_cli.specs.Events.{SeenClientLine}
 use Rattle.oidc_cli.specs.Script.{limit, lines, event_of, is_client, is_step, fault_from, fault_in, fault_of}
 use Rattle.oidc_cli.specs.ReportLines.{pending_line, fault_line}
-use Rattle.oidc_cli.specs.Report.{client_of, step_lines, store_after, steps_lines, store_after_steps, events_lines, store_after_events, lines_before, events_before_fault, last_line, rest_of_report, report}
+use Rattle.oidc_cli.specs.Report.{client_of, step_lines, store_after, steps_lines, store_after_steps, events_lines, store_after_events, lines_before, last_line, rest_of_report, report}
 use Rattle.oidc_cli.proofs.Cuts.{lines_nil}
 use Rattle.oidc_cli.specs.declared.events.Event.{Event}
 use Rattle.oidc_cli.specs.declared.events.Event.TheVariants.{Client, Begin, Callback}

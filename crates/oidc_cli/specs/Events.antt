@@ -1,5 +1,6 @@
 -- What the lines of a script say.
 use Rattle.std.specs.Prelude.{ℕ, ℤ, List}
+use Rattle.oidc_oauth2.specs.Messages.{SeenAnswer}
 use Rattle.oidc_types.specs.{TextAndUrl}
 use Rattle.oidc_types.specs.declared.core_algorithms.CoreJwsSigningAlgorithm.{CoreJwsSigningAlgorithm}
 
@@ -19,11 +20,8 @@ pub record SeenBeginLine : Type 0 where
   pub nonce : List ℕ
   pub verifier : List ℕ
 
--- a callback line: the moment in nanoseconds since the Unix epoch, the query, and the status, content
--- type and body of the answer to the token request
+-- a callback line: the moment in nanoseconds since the Unix epoch, the query, and what the provider answers
 pub record SeenCallbackLine : Type 0 where
   pub now : ℤ
   pub query : List ℕ
-  pub status : ℕ
-  pub content_type : List ℕ
-  pub body : List ℕ
+  pub answers : List SeenAnswer

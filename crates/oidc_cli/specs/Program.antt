@@ -1,5 +1,5 @@
 -- The statuses that the program ends with.
-use Rattle.std.specs.Prelude.{◌≡◌, ℕ, ◌++◌, List, Option, Some, Result, Ok, Err}
+use Rattle.std.specs.Prelude.{◌≡◌, ℕ, ◌++◌, List, Some, Result, Ok, Err}
 use Rattle.oidc_cli.specs.Script.{fault_of}
 use Rattle.oidc_cli.specs.ReportLines.{fault_line}
 use Rattle.oidc_cli.specs.Report.{events_lines, events_before_fault, report}

@@ -4,11 +4,11 @@ use Rattle.std.specs.FinMap as finite
 use Rattle.url.specs.Parts.{Parts}
 use Rattle.oidc_pairs.specs.Pairs.{pairs}
 use Rattle.oidc_login.specs.declared.errors.BeginError.{BeginError}
-use Rattle.oidc_login.specs.Transport.{SeenAnswer}
 use Rattle.oidc_login.specs.Client.{SeenClient}
 use Rattle.oidc_login.specs.Authorization.{SeenAuthorization}
 use Rattle.oidc_login.specs.Logins.{Pending}
-use Rattle.oidc_login.specs.Outcome.{Run, begin_reply, begin_store, callback_store, outcome}
+use Rattle.oidc_login.specs.Begins.{begin_reply, begin_store}
+use Rattle.oidc_login.specs.Rows.{Attempt, Run, callback_store, outcome}
 use Rattle.oidc_cli.specs.Events.{SeenClientLine, SeenBeginLine, SeenCallbackLine}
 use Rattle.oidc_cli.specs.Script.{lines, event_of, fault_of}
 use Rattle.oidc_cli.specs.ReportLines.{begin_line, callback_lines, pending_line, fault_line}
@@ -34,25 +34,16 @@ client_of line = record {
 abbrev pub request_of : SeenBeginLine → SeenAuthorization
 request_of line = record { state = line.state; nonce = line.nonce }
 
--- the answer of a callback line
-abbrev pub answer_of : SeenCallbackLine → SeenAnswer
-answer_of line = Some (record {
-  status = line.status;
-  content_type = Some line.content_type;
-  body = line.body;
-})
-
 abbrev pub reply_of_begin : SeenClient → Pending → SeenBeginLine → Result Parts BeginError
 reply_of_begin client pending line = begin_reply client pending (request_of line) line.verifier
 
+-- the callback of a callback line
+abbrev pub attempt_of : SeenClient → Pending → SeenCallbackLine → Attempt
+attempt_of client pending line =
+    record { client = client; pending = pending; query = line.query; now = line.now }
+
 abbrev pub run_of_callback : SeenClient → Pending → SeenCallbackLine → Run
-run_of_callback client pending line = outcome (record {
-  client = client;
-  pending = pending;
-  query = line.query;
-  now = line.now;
-  answer = answer_of line;
-})
+run_of_callback client pending line = outcome (attempt_of client pending line) line.answers
 
 -- the lines of a begin or a callback
 abbrev pub step_lines : SeenClient → Pending → Option Event → List ℕ

@@ -5,7 +5,10 @@ use Rattle.url.specs.Parts.{Parts, serialize}
 use Rattle.http_header.specs.HeaderMap.{get}
 use Rattle.http_header.specs.FieldValue.{FieldValue}
 use Rattle.form_urlencoded.specs.Form.{ampersand, serialize_pair}
-use Rattle.oidc_pairs.specs.Form.{form}
+use Rattle.oidc_pairs.specs.Form.{form, escaped}
+use Rattle.oidc_members.specs.declared.refusal.Refusal.{Refusal}
+use Rattle.oidc_members.specs.declared.refusal.ParseKind.{ParseKind}
+use Rattle.oidc_members.specs.declared.refusal.ParseKind.TheVariants as parse_kind
 use Rattle.oidc_members.specs.Write.{object_text}
 use Rattle.oidc_keys.specs.declared.refusals.SignatureVerificationError.{SignatureVerificationError}
 use Rattle.oidc_keys.specs.declared.refusals.SignatureVerificationError.TheVariants as signature
@@ -13,13 +16,18 @@ use Rattle.oidc_login.specs.declared.tokens.verification.ClaimsVerificationError
 use Rattle.oidc_login.specs.declared.tokens.verification.ClaimsVerificationError.TheVariants.{InvalidIssuer, InvalidAudience, SignatureVerification, Expired, InvalidNonce}
 use Rattle.oidc_login.specs.declared.errors.BeginError.{BeginError}
 use Rattle.oidc_login.specs.declared.errors.BeginError.TheVariants as begin
-use Rattle.oidc_login.specs.declared.errors.LoginError.{LoginError}
+use Rattle.oidc_login.specs.declared.errors.TooLong.TheVariants as place
 use Rattle.oidc_login.specs.declared.errors.LoginError.TheVariants as login
-use Rattle.oidc_login.specs.Transport.{SeenRequest}
+use Rattle.oidc_oauth2.specs.Messages.{SeenRequest}
+use Rattle.oidc_oauth2.specs.Words.{error_text}
+use Rattle.oidc_oauth2.specs.declared.token_answers.OtherCause.TheVariants as other
+use Rattle.oidc_oauth2.specs.declared.token_answers.RequestTokenError.TheVariants as token_error
+use Rattle.oidc_login.specs.TokenResponse.{TokenError}
+use Rattle.oidc_login.specs.Errors.{Error}
 use Rattle.oidc_login.specs.Logins.{Pending}
 use Rattle.oidc_login.specs.SignedIn.{SeenSignedIn}
 use Rattle.oidc_login.specs.Claims.{written}
-use Rattle.oidc_login.specs.Outcome.{Run}
+use Rattle.oidc_login.specs.Rows.{Run}
 
 -- each line ends in a line feed
 abbrev pub line_of : List ℕ → List ℕ
@@ -63,10 +71,15 @@ request_lines (request ∷ later) = request_line request ++ request_lines later
 
 -- ---- verdicts
 
+abbrev pub refresh_pair : Option (List ℕ) → List (List ℕ × List ℕ)
+refresh_pair None = []
+refresh_pair (Some text) = (codes "refresh_token", text) ∷ []
+
 abbrev pub signed_list : SeenSignedIn → List (List ℕ × List ℕ)
 signed_list signed =
     (codes "access_token", signed.access_token)
-    ∷ (codes "claims", object_text (written signed.id_token.claims))
+    ∷ refresh_pair signed.refresh_token
+    ++ (codes "claims", object_text (written signed.id_token.claims))
     ∷ []
 
 -- No key's verdict on a signature is want of memory: that is a law of keys. So `Memory` never stands in a
@@ -88,12 +101,43 @@ claims_word (SignatureVerification kind) = signature_word kind
 claims_word Expired = codes "expired"
 claims_word InvalidNonce = codes "invalid_nonce"
 
+abbrev pub kind_word : ParseKind → List ℕ
+kind_word parse_kind.Syntax = codes "syntax"
+kind_word parse_kind.Number = codes "number"
+kind_word parse_kind.Duplicate = codes "duplicate"
+kind_word parse_kind.UnexpectedTag = codes "tag"
+kind_word parse_kind.WrongType = codes "type"
+kind_word parse_kind.Missing = codes "missing"
+kind_word parse_kind.Url = codes "url"
+kind_word parse_kind.Moment = codes "moment"
+kind_word parse_kind.Token = codes "token"
+kind_word parse_kind.Algorithm = codes "algorithm"
+kind_word parse_kind.Additional = codes "additional"
+
+abbrev pub parse_words : Refusal → List ℕ
+parse_words refusal =
+    codes "parse " ++ form ((codes "kind", kind_word refusal.kind) ∷ (codes "field", refusal.field) ∷ [])
+
+-- `TooLong` and `Memory` never stand inside a refusal of a callback, and have no words here
+abbrev pub token_words : TokenError → List ℕ
+token_words (token_error.ServerResponse error) = codes "server " ++ escaped (error_text error.error)
+token_words (token_error.Request cause) = codes "request"
+token_words (token_error.Parse refusal body) = parse_words refusal
+token_words (token_error.Other other.Uri) = codes "uri"
+token_words (token_error.Other other.EmptyBody) = codes "empty_body"
+token_words (token_error.Other other.MediaType) = codes "media_type"
+token_words (token_error.TooLong body) = []
+token_words token_error.Memory = []
+
 -- No callback means want of memory, and so it has no line here.
-unfoldable pub verdict_line : Result SeenSignedIn LoginError → List ℕ
+unfoldable pub verdict_line : Result SeenSignedIn Error → List ℕ
 verdict_line (Ok signed) = line_of (codes "callback ok " ++ form (signed_list signed))
+verdict_line (Err (login.TooLong place.TokenAnswer)) = line_of (codes "callback refused too_long token_answer")
 verdict_line (Err login.State) = line_of (codes "callback refused state")
 verdict_line (Err login.Callback) = line_of (codes "callback refused callback")
 verdict_line (Err login.Unbuilt) = line_of (codes "callback refused unbuilt")
+verdict_line (Err (login.Token e)) = line_of (codes "callback refused token " ++ token_words e)
+verdict_line (Err login.NoIdToken) = line_of (codes "callback refused no_id_token")
 verdict_line (Err (login.Claims kind)) = line_of (codes "callback refused claims " ++ claims_word kind)
 verdict_line (Err (login.Memory spent)) = []
 

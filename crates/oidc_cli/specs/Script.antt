@@ -1,9 +1,10 @@
 -- A script: its lines, what they say, and the first that says nothing in its place.
-use Rattle.std.specs.Prelude.{ℕ, ◌==◌, ◌+◌, nat_lt, Bool, true, false, List, [], ◌∷◌, length, Option, None, Some, option_map, if◌then◌else◌, codes}
+use Rattle.std.specs.Prelude.{ℕ, ◌==◌, ◌+◌, nat_lt, Bool, true, false, List, [], ◌∷◌, length, Option, None, Some, option_map, unwrap_or, not, if◌then◌else◌, codes}
 use Rattle.std.specs.Str.{bytes_eq}
-use Rattle.std.specs.List.{slice_split}
+use Rattle.std.specs.List.{slice_split, list_all, list_any}
 use Rattle.oidc_pairs.specs.Pairs.{pairs}
-use Rattle.oidc_cli.specs.Values.{◌>>=◌, url_of_text, pair_text, pair_value, algorithms_of, moment_of_text, status_code_of, content_type_of}
+use Rattle.oidc_cli.specs.Values.{◌>>=◌, url_of_text, pair_text, pair_value, lacks, optional_value, algorithms_of, moment_of_text, status_code_of, content_type_of}
+use Rattle.oidc_oauth2.specs.Messages.{SeenResponse, SeenAnswer}
 use Rattle.oidc_cli.specs.Events.{SeenClientLine, SeenBeginLine, SeenCallbackLine}
 use Rattle.oidc_cli.specs.declared.events.Event.{Event}
 use Rattle.oidc_cli.specs.declared.events.Event.TheVariants.{Client, Begin, Callback}
@@ -27,7 +28,7 @@ lines script = lines_of_parts (slice_split (λ b. b == 10) script)
 
 -- ---- events
 
--- Each kind of line has its names beside `op`. As many pairs as names, and exactly one pair of each name:
+-- A client line and a begin line have their names beside `op`. As many pairs as names, and exactly one pair of each name:
 -- so each stands once, in any order, and there is no other name and no second `op`.
 
 abbrev pub client_values : List (List ℕ × List ℕ) → Option SeenClientLine
@@ -54,23 +55,66 @@ begin_values line = do
   verifier ← pair_text line (codes "verifier")
   Some (record { state = state; nonce = nonce; verifier = verifier })
 
-abbrev pub callback_values : List (List ℕ × List ℕ) → Option SeenCallbackLine
-callback_values line = do
-  now ← pair_value moment_of_text line (codes "now")
-  query ← pair_text line (codes "query")
-  status ← pair_value status_code_of line (codes "token_status")
-  content_type ← pair_value content_type_of line (codes "token_type")
-  body ← pair_text line (codes "token_body")
-  Some (record { now = now; query = query; status = status; content_type = content_type; body = body })
-
 unfoldable pub client_event_of : List (List ℕ × List ℕ) → Option SeenClientLine
 client_event_of line = if length line == 7 then client_values line else None
 
 unfoldable pub begin_event_of : List (List ℕ × List ℕ) → Option SeenBeginLine
 begin_event_of line = if length line == 4 then begin_values line else None
 
+-- ---- callbacks
+
+-- A callback line has `op`, `now` and `query`, each once. It may have `token_fault`, or `token_status` and
+-- with it `token_type` and `token_body`, each at most once; and no other name.
+
+abbrev pub is_callback_name : List ℕ → Bool
+is_callback_name name =
+    list_any (λ known. bytes_eq name known)
+    (codes "op"
+    ∷ codes "now"
+    ∷ codes "query"
+    ∷ codes "token_status"
+    ∷ codes "token_type"
+    ∷ codes "token_body"
+    ∷ codes "token_fault"
+    ∷ [])
+
+-- a fault is `1`
+abbrev pub fault_of_text : List ℕ → Option (List SeenAnswer)
+fault_of_text text = if bytes_eq text (codes "1") then Some (None ∷ []) else None
+
+-- the answers of a line without a status: a fault, or none
+unfoldable pub answers_without_status : List (List ℕ × List ℕ) → Option (List SeenAnswer)
+answers_without_status line =
+    if not (lacks line (codes "token_type")) then None
+    else if not (lacks line (codes "token_body")) then None
+    else if lacks line (codes "token_fault") then Some []
+    else pair_value fault_of_text line (codes "token_fault")
+
+-- the response of a line with a status: its body is empty where it isn't given
+unfoldable pub response_of : List (List ℕ × List ℕ) → Option SeenResponse
+response_of line = do
+  status ← pair_value status_code_of line (codes "token_status")
+  content_type ← optional_value content_type_of line (codes "token_type")
+  body ← optional_value Some line (codes "token_body")
+  Some (record { status = status; content_type = content_type; body = unwrap_or body [] })
+
+-- the answers of a line: a response, a fault, or none
+unfoldable pub answers_of : List (List ℕ × List ℕ) → Option (List SeenAnswer)
+answers_of line =
+    if lacks line (codes "token_status") then answers_without_status line
+    else if not (lacks line (codes "token_fault")) then None
+    else option_map (λ response. Some response ∷ []) (response_of line)
+
+abbrev pub callback_values : List (List ℕ × List ℕ) → Option SeenCallbackLine
+callback_values line = do
+  op ← pair_text line (codes "op")
+  now ← pair_value moment_of_text line (codes "now")
+  query ← pair_text line (codes "query")
+  answers ← answers_of line
+  Some (record { now = now; query = query; answers = answers })
+
 unfoldable pub callback_event_of : List (List ℕ × List ℕ) → Option SeenCallbackLine
-callback_event_of line = if length line == 6 then callback_values line else None
+callback_event_of line = if list_all (λ pair. is_callback_name pair.0) line then callback_values line else None
 
 -- the event of a line of this kind
 abbrev pub event_of_kind : List ℕ → List (List ℕ × List ℕ) → Option Event

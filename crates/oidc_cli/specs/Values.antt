@@ -1,5 +1,5 @@
 -- The values on the lines of a script, and their kinds.
-use Rattle.std.specs.Prelude.{◌≡◌, ℕ, ◌==◌, nat_lt, nat_le, ℤ, pos, neg_ℤ, List, [], ◌∷◌, length, Bool, ◌&&◌, Option, None, Some, Result, Ok, Err, option_and_then, option_map, if◌then◌else◌}
+use Rattle.std.specs.Prelude.{◌≡◌, ℕ, ◌==◌, nat_lt, nat_le, ℤ, pos, neg_ℤ, List, [], ◌∷◌, length, Bool, ◌&&◌, Option, None, Some, Result, Ok, Err, option_and_then, option_map, if◌then◌else◌, is_none}
 use Rattle.std.specs.List.{list_all, slice_split}
 use Rattle.std.specs.Str.{all_ascii_digits}
 use Rattle.std.specs.Str.Parse.{digits_value}
@@ -8,7 +8,7 @@ use Rattle.http_header.specs.Token.{is_visible_or_blank}
 use Rattle.oidc_types.specs.declared.core_algorithms.CoreJwsSigningAlgorithm.{CoreJwsSigningAlgorithm}
 use Rattle.oidc_types.specs.{TextAndUrl, find_word, signing_text, signing_algorithms}
 use Rattle.oidc_readers.specs.Moments.{moment_at}
-use Rattle.oidc_pairs.specs.Pairs.{values_in, only_of}
+use Rattle.oidc_pairs.specs.Pairs.{values_in, first_of, only_of}
 use Rattle.oidc_cli.specs.declared.events.LineError.{LineError}
 use Rattle.oidc_cli.specs.declared.events.LineError.TheVariants.{NoEvent, Memory}
 
@@ -40,6 +40,14 @@ pair_value kind line name = pair_text line name >>= kind
 abbrev pub url_of_text : List ℕ → Option TextAndUrl
 url_of_text text =
     elim (parse_url None text) [ Ok url ↦ Some (record { text = text; url = url }) | Err error ↦ None ]
+
+-- a line has no pair with this name
+abbrev pub lacks : List (List ℕ × List ℕ) → List ℕ → Bool
+lacks line name = is_none (first_of (values_in line name))
+
+-- the value of the one pair with this name, where it is of a kind; or none, where there is no such pair
+abbrev pub optional_value : {A : Type 0} → (List ℕ → Option A) → List (List ℕ × List ℕ) → List ℕ → Option (Option A)
+optional_value kind line name = if lacks line name then Some None else option_map Some (pair_value kind line name)
 
 -- ---- signing algorithms
 

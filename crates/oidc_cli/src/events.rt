@@ -1,7 +1,6 @@
 //! What the lines of a script say.
-use http::StatusCode;
-use http_header::HeaderValue;
 use jiff::Timestamp;
+use oidc_oauth2::Answer;
 use oidc_types::{
     AuthUrl, ClientId, ClientSecret, CoreJwsSigningAlgorithm, CsrfToken, IssuerUrl, Nonce,
     PkceCodeVerifier, TokenUrl,
@@ -51,18 +50,18 @@ impl Model for BeginLine {
     ghost view = { λ b. record { state = b.state; nonce = b.nonce; verifier = b.verifier } };
 }
 
-/// What a callback line says: the moment, the query, and the answer to the token request.
+/// What a callback line says: the moment, the query, and what the provider answers.
 #[derive(Drop)]
 pub struct CallbackLine {
     pub now: Timestamp,
     pub query: String,
-    pub status: StatusCode,
-    pub content_type: HeaderValue,
-    pub body: String,
+    pub answers: Vec<Answer>,
 }
 
 impl Model for CallbackLine {
+    ghost use Rattle.std.specs.Prelude.{map};
     ghost use Rattle.std.specs.String.{string_bytes};
+    ghost use Rattle.oidc_oauth2.specs.Recorded.{seen_answer};
     ghost use Rattle.oidc_cli.specs.Events.{SeenCallbackLine};
 
     ghost Value = { SeenCallbackLine };
@@ -70,9 +69,7 @@ impl Model for CallbackLine {
     ghost view = { λ c. record {
       now = c.now.nanosecond;
       query = string_bytes c.query;
-      status = c.status;
-      content_type = c.content_type.bytes;
-      body = string_bytes c.body;
+      answers = map seen_answer c.answers.items;
     } };
 }
 

@@ -1,33 +1,37 @@
 //! The program `replay` as a library: a script of logins is read, run, and reported.
 //!
 //! - [`run`] is the whole program but for its words and its adapters. It reads a script of a
-//!   [`Source`], runs its events through a store of pending logins of `oidc_login`, and puts the report
-//!   into a [`Sink`]. Its contract says that 2 comes exactly for wrong words, that on 1 and 4 the count
-//!   of faults of sink and source rose, or stands at its last value, and, where the source's bytes are
-//!   known, that on 0 the script has no fault and on 3 it has one. 5 is free. Where the bytes of both are
-//!   known, what it wrote is the report of the script, or begins it.
-//! - [`Source`] gives the bytes of a script and [`Sink`] takes those of a report. The bytes of each are
-//!   known, or are not, and each counts its faults. [`MemorySource`] and [`MemorySink`] are in memory and
-//!   fail at the calls that they are given; [`ReadSource`] and [`WriteSink`] are over a reader and a
-//!   writer of std.
+//!   [`Source`], runs its events through a store of pending logins of `oidc_login`, and puts the
+//!   report into a [`Sink`]. Its contract says that 2 comes exactly for wrong words, that on 1 and 4
+//!   the count of faults of sink and source rose, or stands at its last value, and, where the
+//!   source's bytes are known, that on 0 the script has no fault and on 3 it has one. 5 is free.
+//!   Where the bytes of both are known, what it wrote is the report of the script, or begins it.
+//! - [`Source`] gives the bytes of a script and [`Sink`] takes those of a report. The bytes of each
+//!   are known, or are not, and each counts its faults. [`MemorySource`] and [`MemorySink`] are in
+//!   memory and fail at the calls that they are given; [`ReadSource`] and [`WriteSink`] are over a
+//!   reader and a writer of std.
 //!
 //! # Scripts
 //!
 //! A script is cut into lines at line feeds. Each line is form pairs (URL Standard, section 5.1), of
-//! which the first is `op`; the others stand once each, in any order. The first line is a client line,
-//! and each later one a begin or a callback line.
+//! which the first is `op`; no name stands twice, the order of the others is free, and all of them
+//! stand but those of the answer. The first line is a client line, and each later one a begin or a
+//! callback line.
 //!
-//! - `op=client`: `id`, `secret`, and the URL texts `issuer`, `auth` and `token`; `algs`, the texts of
-//!   signing algorithms with one space between them.
+//! - `op=client`: `id`, `secret`, and the URL texts `issuer`, `auth` and `token`; `algs`, the texts
+//!   of signing algorithms with one space between them.
 //! - `op=begin`: `state`, `nonce` and `verifier`.
 //! - `op=callback`: `now`, whole seconds since the Unix epoch; `query`; and the answer to the token
-//!   request: `token_status`, three digits; `token_type`, a content type; and `token_body`.
+//!   request, where there is one: `token_fault`, which is `1`, or `token_status`, three digits from
+//!   100 on, and with it, each where it is given, `token_type`, a content type, and `token_body`,
+//!   which is empty where it isn't given.
 //!
 //! # Reports
 //!
-//! Each line ends in a line feed: `client ok`; `begin ok` and the URL, or `begin refused` and why; for a
-//! callback a line `request` for each request that was sent, and then `callback ok` with access token
-//! and claims, or `callback refused` and why; at last `pending` and the number of pending logins, or
+//! Each line ends in a line feed: `client ok`; `begin ok` and the URL, or `begin refused` and why;
+//! for a callback a line `request` for each request that was sent, and then `callback ok` with access
+//! token, any refresh token, and claims, or `callback refused` and why; at last `pending` and the
+//! number of pending logins, or
 //! `script fault line` and the number of the first line that is no event in its place.
 #![tactic(auto)]
 

@@ -3,8 +3,8 @@ ghost use Rattle.std.specs.Prelude.{◌≡◌, ◌+◌, ◌≤◌, ◌<◌, ◌^
 ghost use Rattle.std.specs.FinMap as finite;
 ghost use Rattle.std.specs.String.{string_bytes};
 ghost use Rattle.oidc_pairs.specs.Pairs.{pairs};
-ghost use Rattle.oidc_login.specs.Transport.{seen_response};
-ghost use Rattle.oidc_login.specs.Outcome.{begin_store, callback_store};
+ghost use Rattle.oidc_login.specs.Errors.{reply_of};
+ghost use Rattle.oidc_login.specs.Rows.{callback_store};
 ghost use Rattle.oidc_cli.specs.Calls.{HasRisen};
 ghost use Rattle.oidc_cli.specs.Sinks.{Puts, PutsPrefix};
 ghost use Rattle.oidc_cli.specs.Script.{lines, is_client, is_step, fault_from, fault_of};
@@ -16,15 +16,12 @@ use crate::reading::LIMIT;
 use crate::report_lines::{begin_line, fault_line, pending_line, request_line, verdict_line};
 use crate::script::{first_line, read_line};
 use crate::{Failed, Sink};
-use http::response::Parts;
-use http::{Response, StatusCode, Version};
-use http_header::{CONTENT_TYPE, HeaderMap, HeaderMapError, HeaderValue};
 use oidc_login::client::Client;
 use oidc_login::client::authorization::AuthorizationRequest;
 use oidc_login::errors::{BeginError, LoginError};
 use oidc_login::logins::Logins;
-use oidc_login::oauth2::transport::{Answer, Body, HttpRequest, HttpResponse, Recorded};
 use oidc_login::signed_in::SignedIn;
+use oidc_oauth2::{Fault, HttpRequest, Recorded};
 use std::alloc::{AllocError, Global};
 use url::Url;
 
@@ -148,34 +145,10 @@ fn put_begin<O: Sink>(
 
 // ---- callbacks
 
-// The response of a callback line.
-fn response_of(
-    alloc: Global,
-    status: StatusCode,
-    content_type: HeaderValue,
-    body: String,
-) -> Result<HttpResponse, HeaderMapError>
-    ensures { IfOk result (λ response. seen_response response
-        ≡ record {
-          status = status;
-          content_type = Some content_type.bytes;
-          body = string_bytes body;
-        }) }
-{
-    let mut headers = HeaderMap::new(alloc);
-    headers.insert(CONTENT_TYPE, content_type)?;
-    let head = Parts {
-        status,
-        version: Version::HTTP_11,
-        headers,
-    };
-    Ok(Response::from_parts(head, Body::new(body.into_bytes())))
-}
-
 // What a callback got, and the transport that it used.
 #[derive(Drop)]
 struct Replied {
-    reply: Result<SignedIn, LoginError>,
+    reply: Result<SignedIn, LoginError<Fault>>,
     http: Recorded,
 }
 
@@ -186,7 +159,7 @@ fn call_back(
     line: CallbackLine,
 ) -> Result<Replied, AllocError>
     ensures reply { IfOk result
-        (λ replied. replied.reply
+        (λ replied. reply_of replied.reply
         ≡ (run_of_callback logins.old.client logins.old.pending line).reply) }
     ensures sent { IfOk result
         (λ replied. replied.http.requests
@@ -198,15 +171,8 @@ fn call_back(
     let CallbackLine {
         now,
         query,
-        status,
-        content_type,
-        body,
+        answers,
     } = line;
-    let Ok(response) = response_of(alloc, status, content_type, body) else {
-        return Err(AllocError);
-    };
-    let mut answers = Vec::new(alloc);
-    answers.push(Answer::Response(response))?;
     let mut http = Recorded::new(alloc, answers);
     match logins.callback(query.as_bytes(), &mut http, now) {
         Ok(signed) => Ok(Replied {
@@ -245,11 +211,11 @@ fn put_replied<O: Sink>(alloc: Global, replied: &Replied, sink: &mut O) -> Resul
     ensures whole { OnOk result
         (Puts (O.written sink.old) (O.written sink.new)
         (callback_lines
-        (record { reply = replied.now.reply; sent = replied.now.http.requests }))) }
+        (record { reply = reply_of replied.now.reply; sent = replied.now.http.requests }))) }
     ensures begun { OnErr result
         (PutsPrefix (O.written sink.old) (O.written sink.new)
         (callback_lines
-        (record { reply = replied.now.reply; sent = replied.now.http.requests }))) }
+        (record { reply = reply_of replied.now.reply; sent = replied.now.http.requests }))) }
     ensures blamed { IsErrOf result Halt.Sink → HasRisen (O.faults sink.old) (O.faults sink.new) }
     ensures counts { O.faults sink.old ≤ O.faults sink.new }
 {

@@ -4,16 +4,24 @@ ghost use Rattle.std.specs.Option.{option_copied};
 ghost use Rattle.std.specs.String.{string_bytes};
 ghost use Rattle.form_urlencoded.specs.Form.{serialize_pair};
 ghost use Rattle.oidc_pairs.specs.Form.{escaped};
-ghost use Rattle.oidc_cli.specs.ReportLines.{behind, header_pair, body_pair, begin_line as line_of_begin, request_line as line_of_request, signature_word as word_of_signature, claims_word as word_of_claims, verdict_line as line_of_verdict, fault_line as line_of_fault};
+ghost use Rattle.oidc_oauth2.specs.Words.{error_text};
+ghost use Rattle.oidc_oauth2.specs.TokenAnswers.{seen_refusal};
+ghost use Rattle.oidc_login.specs.Errors.{reply_of};
+ghost use Rattle.oidc_cli.specs.ReportLines as spec;
+ghost use Rattle.oidc_cli.specs.ReportLines.{behind, refresh_pair, header_pair, body_pair, begin_line as line_of_begin, request_line as line_of_request, signature_word as word_of_signature, claims_word as word_of_claims, verdict_line as line_of_verdict, fault_line as line_of_fault};
 
 use form_urlencoded::byte_serialize;
 use http_header::HeaderValue;
 use oidc_keys::SignatureVerificationError;
-use oidc_login::errors::{BeginError, LoginError};
-use oidc_login::oauth2::transport::HttpRequest;
+use oidc_login::errors::{BeginError, LoginError, TooLong};
 use oidc_login::signed_in::SignedIn;
 use oidc_login::tokens::verification::ClaimsVerificationError;
-use oidc_members::write_object;
+use oidc_members::{ParseKind, Refusal, write_object};
+use oidc_oauth2::{
+    CoreErrorResponseType, CoreRequestTokenError, Fault, HttpRequest, OtherCause,
+    RequestTokenError, StandardErrorResponse,
+};
+use oidc_types::{RefreshToken, Vocabulary};
 use std::alloc::{AllocError, Global};
 use url::Url;
 
@@ -122,17 +130,33 @@ pub fn request_line(alloc: Global, request: &HttpRequest) -> Result<String, Allo
 #[tactic(auto, unfolding(crate::specs::ReportLines::verdict_line))]
 pub fn verdict_line(
     alloc: Global,
-    reply: &Result<SignedIn, LoginError>,
+    reply: &Result<SignedIn, LoginError<Fault>>,
 ) -> Result<String, AllocError>
-    ensures { IfOk result (λ text. string_bytes text ≡ line_of_verdict reply.now) }
+    ensures { IfOk result (λ text. string_bytes text ≡ line_of_verdict (reply_of reply.now)) }
 {
     match reply {
         Ok(signed) => signed_line(alloc, signed),
+        Err(LoginError::TooLong(TooLong::TokenAnswer)) => {
+            String::from_str(alloc, "callback refused too_long token_answer\n")
+        }
         Err(LoginError::State) => String::from_str(alloc, "callback refused state\n"),
         Err(LoginError::Callback) => String::from_str(alloc, "callback refused callback\n"),
         Err(LoginError::Unbuilt) => String::from_str(alloc, "callback refused unbuilt\n"),
+        Err(LoginError::Token(error)) => token_line(alloc, error),
+        Err(LoginError::NoIdToken) => String::from_str(alloc, "callback refused no_id_token\n"),
         Err(LoginError::Claims(kind)) => claims_line(alloc, *kind),
         Err(LoginError::Memory { .. }) => Err(AllocError),
+    }
+}
+
+// Adds the pair of a refresh token, where there is one.
+fn push_refresh(text: &mut String, token: Option<&RefreshToken>) -> Result<(), AllocError>
+    ensures { OnOk result (string_bytes text.new
+        ≡ string_bytes text.old ++ behind (refresh_pair (option_copied token.entry))) }
+{
+    match token {
+        Some(token) => push_behind(text, "refresh_token", token.secret().as_bytes()),
+        None => Ok(()),
     }
 }
 
@@ -147,9 +171,81 @@ fn signed_line(alloc: Global, signed: &SignedIn) -> Result<String, AllocError>
         "access_token",
         signed.access_token().secret().as_bytes(),
     )?;
+    push_refresh(&mut text, signed.refresh_token())?;
     push_behind(&mut text, "claims", claims.as_slice())?;
     text.push_str("\n")?;
     Ok(text)
+}
+
+#[tactic(auto, unfolding(crate::specs::ReportLines::verdict_line))]
+fn token_line(alloc: Global, error: &CoreRequestTokenError<Fault>) -> Result<String, AllocError>
+    ensures { let refusal = LoginError.Token (seen_refusal error.now) in
+        IfOk result (λ text. string_bytes text ≡ line_of_verdict (Err refusal)) }
+{
+    let mut text = String::from_str(alloc, "callback refused token ")?;
+    push_token_words(&mut text, error)?;
+    text.push_str("\n")?;
+    Ok(text)
+}
+
+// Adds the words for the refusal of a token request.
+fn push_token_words(
+    text: &mut String,
+    error: &CoreRequestTokenError<Fault>,
+) -> Result<(), AllocError>
+    ensures { OnOk result (string_bytes text.new
+        ≡ string_bytes text.old ++ spec.token_words (seen_refusal error.now)) }
+{
+    match error {
+        RequestTokenError::ServerResponse(error) => push_server(text, error),
+        RequestTokenError::Request(_) => text.push_str("request"),
+        RequestTokenError::Parse(refusal, _) => push_parse(text, refusal),
+        RequestTokenError::Other(OtherCause::Uri) => text.push_str("uri"),
+        RequestTokenError::Other(OtherCause::EmptyBody) => text.push_str("empty_body"),
+        RequestTokenError::Other(OtherCause::MediaType) => text.push_str("media_type"),
+        RequestTokenError::TooLong(_) => Ok(()),
+        RequestTokenError::Memory => Ok(()),
+    }
+}
+
+fn push_server(
+    text: &mut String,
+    error: &StandardErrorResponse<CoreErrorResponseType>,
+) -> Result<(), AllocError>
+    ensures { OnOk result (string_bytes text.new
+        ≡ string_bytes text.old ++ codes "server " ++ escaped (error_text error.now.error)) }
+{
+    text.push_str("server ")?;
+    push_escaped(text, error.error().as_ref().as_bytes())?;
+    Ok(())
+}
+
+fn push_parse(text: &mut String, refusal: &Refusal) -> Result<(), AllocError>
+    ensures { OnOk result (string_bytes text.new
+        ≡ string_bytes text.old ++ spec.parse_words refusal.now) }
+{
+    text.push_str("parse ")?;
+    push_first(text, "kind", kind_word(refusal.kind).as_bytes())?;
+    push_behind(text, "field", refusal.field.as_str().as_bytes())?;
+    Ok(())
+}
+
+fn kind_word(kind: ParseKind) -> &'static str
+    ensures { result.now ≡ spec.kind_word kind }
+{
+    match kind {
+        ParseKind::Syntax => "syntax",
+        ParseKind::Number => "number",
+        ParseKind::Duplicate => "duplicate",
+        ParseKind::UnexpectedTag => "tag",
+        ParseKind::WrongType => "type",
+        ParseKind::Missing => "missing",
+        ParseKind::Url => "url",
+        ParseKind::Moment => "moment",
+        ParseKind::Token => "token",
+        ParseKind::Algorithm => "algorithm",
+        ParseKind::Additional => "additional",
+    }
 }
 
 #[tactic(auto, unfolding(crate::specs::ReportLines::verdict_line))]

@@ -2,14 +2,16 @@
 ghost use Rattle.std.specs.Prelude.{◌≡◌, ◌==◌, ◌∷◌, ◌<◌, [], length, position, IfOk, IfSome, IsNone, ◌↔◌};
 ghost use Rattle.std.specs.Option.{option_copied};
 ghost use Rattle.oidc_cli.specs.Values.{Reads};
+ghost use Rattle.std.specs.List.{list_all};
+ghost use Rattle.oidc_cli.specs.Script as spec;
 ghost use Rattle.oidc_cli.specs.Script.{lines, kind_of as kind_in, client_event_of, begin_event_of, callback_event_of, event_of_pairs, event_of};
 
+mod answers;
 mod values;
 
 use crate::events::{BeginLine, CallbackLine, ClientLine, Event, LineError};
-use crate::script::values::{
-    pair_algorithms, pair_content_type, pair_moment, pair_status, pair_text, pair_url,
-};
+use crate::script::answers::read_answers;
+use crate::script::values::{only_text, pair_algorithms, pair_moment, pair_text, pair_url};
 use oidc_pairs::Pairs;
 use oidc_types::{ClientId, ClientSecret, CsrfToken, Nonce, PkceCodeVerifier};
 use std::alloc::{AllocError, Global};
@@ -112,23 +114,39 @@ fn read_begin(alloc: Global, line: &Pairs) -> Result<BeginLine, LineError>
     })
 }
 
+// Whether a callback line may have a name.
+fn is_callback_name(name: &str) -> bool
+    ensures { result ≡ spec.is_callback_name name.now }
+{
+    matches!(
+        name,
+        "op" | "now" | "query" | "token_status" | "token_type" | "token_body" | "token_fault"
+    )
+}
+
+// Whether a line has names of a callback line alone.
+fn has_callback_names(line: &Pairs) -> bool
+    ensures { result ≡ list_all (λ pair. spec.is_callback_name pair.0) line.now }
+{
+    line.as_slice()
+        .iter()
+        .all(|pair| is_callback_name(pair.name()))
+}
+
 #[tactic(auto, unfolding(crate::specs::Script::callback_event_of))]
 fn read_callback(alloc: Global, line: &Pairs) -> Result<CallbackLine, LineError>
     ensures { Reads (λ read. read) result (callback_event_of line.now) }
 {
-    if line.len() != 6 {
+    if !has_callback_names(line) {
         return Err(LineError::NoEvent);
     }
+    only_text(line, "op")?;
     let now = pair_moment(line, "now")?;
     let query = pair_text(alloc, line, "query")?;
-    let status = pair_status(line, "token_status")?;
-    let content_type = pair_content_type(alloc, line, "token_type")?;
-    let body = pair_text(alloc, line, "token_body")?;
+    let answers = read_answers(alloc, line)?;
     Ok(CallbackLine {
         now,
         query,
-        status,
-        content_type,
-        body,
+        answers,
     })
 }

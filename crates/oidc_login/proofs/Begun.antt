@@ -4,10 +4,10 @@ use Rattle.std.specs.Prelude.{not, IsTrue}
 use Rattle.std.specs.FinMap as finite
 use Rattle.url.specs.Parts.{Parts}
 use Rattle.oidc_login.specs.Client.{SeenClient}
-use Rattle.oidc_login.specs.Pkce.{is_verifier}
+use Rattle.oidc_oauth2.specs.Pkce.{is_verifier}
 use Rattle.oidc_login.specs.Logins.{Pending}
 use Rattle.oidc_login.specs.Authorization.{SeenAuthorization, auth_url}
-use Rattle.oidc_login.specs.Outcome.{begin_reply}
+use Rattle.oidc_login.specs.Begins.{begin_reply}
 
 untrue : (b : Bool) → (IsTrue b → ⊥) → b ≡ false
 untrue true f = absurd (f refl)

@@ -1,131 +1,112 @@
--- Each cause of a refusal has that refusal, and no check of a signature wants memory.
-use Rattle.std.proofs.Common.{◌≡◌, ◌≢◌, ℕ, ℤ, Bool, true, false, List, [], ◌∷◌, Option, None, Some, Result, Ok, Err, refl, ap, subst, ⊎_elim, arith}
-use Rattle.std.specs.Prelude.{codes, IsSome, not, if◌then◌else◌, int_lt}
-use Rattle.std.specs.Str.{bytes_eq}
-use Rattle.oidc_pairs.specs.Pairs.{pairs, values, values_in, only_of}
-use Rattle.oidc_types.specs.declared.core_algorithms.CoreJwsSigningAlgorithm.{CoreJwsSigningAlgorithm}
-use Rattle.oidc_keys.specs.CoreJwk.{symmetric_verdict, compared}
-use Rattle.oidc_keys.specs.declared.refusals.SignatureVerificationError.{SignatureVerificationError}
-use Rattle.oidc_keys.specs.declared.refusals.SignatureVerificationError.TheVariants as signature
-use Rattle.oidc_login.specs.Transport.{SeenRequest}
-use Rattle.oidc_login.specs.Client.{SeenClient}
+-- Each cause has its row: the facts of a cause compute the reply.
+use Rattle.std.proofs.Common.{◌≡◌, ◌≢◌, ℕ, List, [], ◌∷◌, true, Some, Ok, Err, refl, sym, ap, ◌∙◌, ⊎_elim}
+use Rattle.std.specs.Prelude.{is_some, codes}
+use Rattle.oidc_pairs.specs.Pairs.{pairs, values, first_of as first_value}
+use Rattle.oidc_oauth2.specs.Messages.{SeenRequest, SeenResponse, SeenAnswer}
+use Rattle.oidc_oauth2.specs.Transport.{first_of}
+use Rattle.oidc_oauth2.specs.declared.token_answers.OtherCause.TheVariants as other
+use Rattle.oidc_oauth2.specs.declared.token_answers.RequestTokenError.TheVariants as token_error
 use Rattle.oidc_login.specs.Logins.{SeenLogin}
-use Rattle.oidc_login.specs.CodeRequest.{code_request}
-use Rattle.oidc_login.specs.Claims.{SeenIdTokenClaims}
-use Rattle.oidc_login.specs.IdToken.{SeenIdToken}
+use Rattle.oidc_login.specs.TokenResponse.{Tokens, TokenError}
 use Rattle.oidc_login.specs.SignedIn.{SeenSignedIn}
-use Rattle.oidc_login.specs.Verification.{is_alone_in, is_nonce, is_allowed, late_failure, signature_failure, signature_verdict, first_failure}
-use Rattle.oidc_login.specs.Outcome.{Attempt, login_named_by, token_request_for, unless_error, outcome}
-use Rattle.oidc_login.specs.Callbacks.{Replies, LacksCode, HasError, HasNoRequest, IsNotPlain, IsUnbuilt, FailsCheck}
-use Rattle.oidc_login.specs.declared.tokens.verification.ClaimsVerificationError.{ClaimsVerificationError}
-use Rattle.oidc_login.specs.declared.tokens.verification.ClaimsVerificationError.TheVariants.{InvalidIssuer, InvalidAudience, SignatureVerification, Expired, InvalidNonce}
-use Rattle.oidc_login.specs.declared.errors.LoginError.{LoginError}
-use Rattle.oidc_login.specs.declared.errors.LoginError.TheVariants.{Callback, Unbuilt, Claims}
-use Rattle.oidc_login.proofs.Called.{outcome-named, opening-asks}
+use Rattle.oidc_login.specs.Errors.{Error}
+use Rattle.oidc_login.specs.Rows.{Attempt, Meant, opening, tokens_in, signing_in, after_token, with_token, outcome}
+use Rattle.oidc_login.specs.Causes.{Asks, Reads, IsSignedIn, HasError, HasOtherText, HasNoTokens, TooLongCause, TokenCause, Cause}
+use Rattle.oidc_login.specs.declared.errors.TooLong.{TooLong}
+use Rattle.oidc_login.specs.declared.errors.TooLong.TheVariants as place
+use Rattle.oidc_login.specs.declared.errors.LoginError.TheVariants as login
+use Rattle.oidc_login.proofs.Verification.{accepted}
 
--- ---- what a named login and a query open
+found : (values : List (List ℕ)) → values ≢ [] → is_some (first_value values) ≡ true
+found [] some = absurd (some refl)
+found (value ∷ others) some = refl
 
-unless-some : (errors : List (List ℕ)) (next : Result SeenRequest LoginError) → errors ≢ [] → unless_error errors next ≡ Err Unbuilt
-unless-some [] next some = absurd (some refl)
-unless-some (error ∷ others) next some = refl
+module _ (a : Attempt) (answers : List SeenAnswer) where
+  abbrev reply : Meant SeenSignedIn
+  reply = (outcome a answers).reply
 
-module _ (client : SeenClient) (login : SeenLogin) (query : List (List ℕ × List ℕ)) where
-  opening-error : values_in query (codes "error") ≢ [] → token_request_for client login query ≡ Err Unbuilt
-  unfolding token_request_for
-  opening-error some = unless-some (values_in query (codes "error")) _ some
+  -- ---- the stages that were passed
 
-  opening-lacks : values_in query (codes "error") ≡ [] → only_of (values_in query (codes "code")) ≡ None → token_request_for client login query ≡ Err Callback
-  unfolding token_request_for
-  opening-lacks no_error lacks = rw (no_error, lacks) refl
+  unopened : (e : Error) → opening a.client a.pending (pairs a.query) ≡ Err e → reply ≡ Err e
+  unopened e is = ap (λ m. (with_token a.client a.now answers m).reply) is
 
-  opening-no_request : (code : List ℕ) → values_in query (codes "error") ≡ [] → only_of (values_in query (codes "code")) ≡ Some code
-      → code_request client login.verifier code ≡ None → token_request_for client login query ≡ Err Unbuilt
-  unfolding token_request_for
-  opening-no_request code no_error one none = rw (no_error, one, none) refl
+  opened : (l : SeenLogin) (r : SeenRequest) → Asks a l r → opening a.client a.pending (pairs a.query) ≡ Ok (record { login = l; request = r })
+  unfolding opening
+  opened l r asked =
+      let h = asked.has_code in
+      rw (h.names.login_named, h.no_error, h.one_code, asked.request_made) refl
 
--- ---- the reply where a cause holds
+  -- the reply, once the token request was made
+  behind_request : (l : SeenLogin) (r : SeenRequest) → Asks a l r → reply ≡ after_token a.client a.now l (first_of answers)
+  behind_request l r asked = ap (λ m. (with_token a.client a.now answers m).reply) (opened l r asked)
 
-module _ (a : Attempt) where
-  -- a login that is named and opens nothing is refused for that reason
-  reply-refused : (login : SeenLogin) (error : LoginError) → login_named_by a.pending (pairs a.query) ≡ Some login → token_request_for a.client login (pairs a.query) ≡ Err error
-      → (outcome a).reply ≡ Err error
-  reply-refused login error is refused = rw (outcome-named a login is, refused) refl
+  -- once a response came to it
+  behind_response : (l : SeenLogin) (r : SeenRequest) (response : SeenResponse) (m : Meant Tokens) → Asks a l r → first_of answers ≡ Some response
+      → tokens_in response ≡ m → reply ≡ elim m [ Ok tokens ↦ signing_in a.client a.now l tokens | Err e ↦ Err e ]
+  unfolding after_token
+  behind_response l r response (Ok tokens) asked came is = behind_request l r asked ∙ rw (came, is) refl
+  behind_response l r response (Err e) asked came is = behind_request l r asked ∙ rw (came, is) refl
 
-  lacking : (found : Option SeenLogin) → login_named_by a.pending (pairs a.query) ≡ found → IsSome found → values a.query (codes "error") ≡ []
-      → only_of (values a.query (codes "code")) ≡ None → (outcome a).reply ≡ Err Callback
-  lacking None is some no_error lacks = cc
-  lacking (Some login) is some no_error lacks = reply-refused login Callback is (opening-lacks a.client login (pairs a.query) no_error lacks)
+  refused_tokens : (e : TokenError) → HasNoTokens a answers e → reply ≡ Err (login.Token e)
+  unfolding tokens_in
+  refused_tokens e c =
+      let x = c.answered in
+      behind_response c.login x.request c.response (Err (login.Token e)) x.asked x.response_came (rw (x.not_too_long, c.refused) refl)
 
-  reply-lacks_code : LacksCode a → (outcome a).reply ≡ Err Callback
-  reply-lacks_code cause = lacking (login_named_by a.pending (pairs a.query)) refl cause.login_named cause.no_error cause.not_one_code
+  behind_tokens : (l : SeenLogin) (tokens : Tokens) → Reads a answers l tokens → reply ≡ signing_in a.client a.now l tokens
+  unfolding tokens_in
+  behind_tokens l tokens reads =
+      let x = reads.answered in
+      behind_response l x.request reads.response (Ok tokens) x.asked x.response_came (rw (x.not_too_long, reads.tokens_in_response) refl)
 
-  with_error : (found : Option SeenLogin) → login_named_by a.pending (pairs a.query) ≡ found → IsSome found → values a.query (codes "error") ≢ [] → (outcome a).reply ≡ Err Unbuilt
-  with_error None is some errors = cc
-  with_error (Some login) is some errors = reply-refused login Unbuilt is (opening-error a.client login (pairs a.query) errors)
+  -- ---- each row
 
-  reply-has_error : HasError a → (outcome a).reply ≡ Err Unbuilt
-  reply-has_error cause = with_error (login_named_by a.pending (pairs a.query)) refl cause.login_named cause.some_error
+  long_row : (at : TooLong) → TooLongCause a answers at → reply ≡ Err (login.TooLong at)
+  unfolding tokens_in
+  long_row place.TokenAnswer c =
+      behind_response c.login c.request c.response (Err (login.TooLong place.TokenAnswer)) c.asked c.response_came (rw c.too_long refl)
 
-  reply-no_request : HasNoRequest a → (outcome a).reply ≡ Err Unbuilt
-  reply-no_request cause =
-      reply-refused cause.login Unbuilt cause.login_named
-      (opening-no_request a.client cause.login (pairs a.query) cause.code cause.no_error cause.one_code cause.no_request)
+  token_row : (e : TokenError) → TokenCause a answers e → reply ≡ Err (login.Token e)
+  unfolding opening after_token
+  token_row (token_error.Other other.Uri) c =
+      let h = c.has_code in
+      unopened _ (rw (h.names.login_named, h.no_error, h.one_code, c.no_request) refl)
+  token_row (token_error.Request cause) c = behind_request c.login c.request c.asked ∙ rw c.no_response refl
+  token_row (token_error.TooLong body) c = absurd c
+  token_row token_error.Memory c = absurd c
+  token_row (token_error.Other other.EmptyBody) c = refused_tokens _ c
+  token_row (token_error.Other other.MediaType) c = refused_tokens _ c
+  token_row (token_error.ServerResponse error) c = refused_tokens _ c
+  token_row (token_error.Parse refusal body) c = refused_tokens _ c
 
-  reply-not_plain : IsNotPlain a → (outcome a).reply ≡ Err Unbuilt
-  reply-not_plain cause =
-      let named_outcome = outcome-named a cause.login cause.asked.login_named in
-      rw (named_outcome, opening-asks a cause.login cause.asked, cause.not_plain) refl
+  error_row : HasError a → reply ≡ Err login.Unbuilt
+  unfolding opening
+  error_row c = unopened _ (rw (c.names.login_named, found (values a.query (codes "error")) c.some_error) refl)
 
-  reply-unbuilt : IsUnbuilt a → (outcome a).reply ≡ Err Unbuilt
-  reply-unbuilt cause = ⊎_elim reply-has_error (λ other. ⊎_elim reply-no_request reply-not_plain other) cause
+  text_row : HasOtherText a answers → reply ≡ Err login.Unbuilt
+  unfolding signing_in
+  text_row c = behind_tokens c.login c.tokens c.has_text.reads ∙ rw (c.has_text.own_text, c.not_plain) refl
 
-  reply-fails : (kind : ClaimsVerificationError) → FailsCheck a kind → (outcome a).reply ≡ Err (Claims kind)
-  reply-fails kind cause =
-      let named_outcome = outcome-named a cause.login cause.asked.login_named in
-      rw (named_outcome, opening-asks a cause.login cause.asked, cause.answer_read, cause.check_failed) refl
+  -- a cause has its refusal
+  pub refused : (e : Error) → Cause a answers e → reply ≡ Err e
+  unfolding opening signing_in
+  refused (login.TooLong at) c = long_row at c
+  refused login.State none = unopened _ (rw none refl)
+  refused login.Unbuilt c = ⊎_elim error_row text_row c
+  refused login.Callback c = unopened _ (rw (c.names.login_named, c.no_error, c.not_one_code) refl)
+  refused (login.Token e) c = token_row e c
+  refused login.NoIdToken c = behind_tokens c.login c.tokens c.reads ∙ rw c.no_text refl
+  refused (login.Claims kind) c =
+      let t = c.holds.has_text in
+      behind_tokens c.held.login c.held.tokens t.reads ∙ rw (t.own_text, c.holds.own_id_token, c.check_failed) refl
+  refused (login.Memory spent) c = absurd c
 
-  -- a reply that is meant is that one
-  module _ (result : Result SeenSignedIn LoginError) (replies : Replies result (outcome a).reply) where
-    pub replies_callback : LacksCode a → Replies result (Err Callback)
-    replies_callback cause = subst (Replies result) (reply-lacks_code cause) replies
-
-    pub replies_unbuilt : IsUnbuilt a → Replies result (Err Unbuilt)
-    replies_unbuilt cause = subst (Replies result) (reply-unbuilt cause) replies
-
-    pub replies_claims : (kind : ClaimsVerificationError) → FailsCheck a kind → Replies result (Err (Claims kind))
-    replies_claims kind cause = subst (Replies result) (reply-fails kind cause) replies
-
--- ---- no check of a signature wants memory
-
-abbrev memory : ClaimsVerificationError
-memory = SignatureVerification signature.Memory
-
-compared-memory : (mac signed : List ℕ) → compared mac signed ≢ Err signature.Memory
-compared-memory mac signed e = grind arith
-
-verdict-memory : (secret : List ℕ) (algorithm : CoreJwsSigningAlgorithm) (message signed : List ℕ) → symmetric_verdict secret algorithm message signed ≢ Err signature.Memory
-verdict-memory secret algorithm message signed e = grind arith
-
-unless-memory : (test : Bool) (failure : ClaimsVerificationError) (later : Option ClaimsVerificationError) → failure ≢ memory → later ≢ Some memory
-    → (if not test then Some failure else later) ≢ Some memory
-unless-memory true failure later here there e = there e
-unless-memory false failure later here there e = let same : failure ≡ memory = cc in here same
-
-late-memory : (nonce : List ℕ) (now : ℤ) (claims : SeenIdTokenClaims) → late_failure nonce now claims ≢ Some memory
-late-memory nonce now claims =
-    unless-memory (int_lt now claims.expiration) Expired _ (λ e. cc)
-    (unless-memory (is_nonce claims.nonce nonce) InvalidNonce None (λ e. cc) (λ e. cc))
-
-signature-memory : (verdict : Result (Unit {0}) SignatureVerificationError) (later : Option ClaimsVerificationError) → verdict ≢ Err signature.Memory → later ≢ Some memory
-    → signature_failure verdict later ≢ Some memory
-signature-memory (Ok verified) later here there e = there e
-signature-memory (Err refusal) later here there e = let same : refusal ≡ signature.Memory = cc in here (ap Err same)
-
-pub never_memory : (client : SeenClient) (nonce : List ℕ) (now : ℤ) (token : SeenIdToken) → first_failure client nonce now token ≢ Some memory
-unfolding first_failure signature_verdict
-never_memory client nonce now token =
-    unless-memory (bytes_eq token.claims.issuer.text client.issuer.text) InvalidIssuer _ (λ e. cc)
-    (unless-memory (is_alone_in client.client_id token.claims.audiences) InvalidAudience _ (λ e. cc)
-    (unless-memory (is_allowed client.algorithms token.algorithm) (SignatureVerification signature.DisallowedAlg) _ (λ e. cc)
-    (signature-memory (signature_verdict client.client_secret token) _ (verdict-memory client.client_secret token.algorithm token.message token.signature)
-    (late-memory nonce now token.claims))))
+  -- what signs in is an Ok
+  pub signs_in : (signed : SeenSignedIn) → IsSignedIn a answers signed → reply ≡ Ok signed
+  unfolding signing_in
+  signs_in signed is =
+      let t = is.holds.has_text in
+      let none_fails = accepted a.client is.held.login.nonce a.now is.held.token is.accepted in
+      behind_tokens is.held.login is.held.tokens t.reads
+      ∙ rw (t.own_text, is.holds.own_id_token, none_fails) refl
+      ∙ ap Ok (λ i. record { id_token = sym is.own_id_token i; access_token = sym is.own_access_token i; refresh_token = sym is.own_refresh_token i })

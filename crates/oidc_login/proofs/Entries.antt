@@ -12,7 +12,7 @@ use Rattle.std.specs.String.{string_bytes}
 use Rattle.std.proofs.lemmas.Cmp.{nat_list_cmp_total}
 use Rattle.std.proofs.lemmas.List.{map-append, length-map}
 use Rattle.std.proofs.lemmas.Map.Text.{is_eq-slice_cmp}
-use Rattle.oidc_login.specs.Pkce.{is_verifier}
+use Rattle.oidc_oauth2.specs.Pkce.{is_verifier}
 use Rattle.oidc_login.specs.Logins.{SeenLogin, Pending, HasVerifiers}
 use Rattle.oidc_login.specs.Store.{by_state, kept, AreDistinctPairs, IsStored}
 use Rattle.oidc_login.specs.declared.store.Entry.{Entry}

@@ -5,7 +5,7 @@ use Rattle.std.specs.Coded.{Coded, code_by, coded_ℕ, coded_list, coded×}
 use Rattle.url.specs.Parts.{Parts}
 use Rattle.oidc_pairs.specs.Form.{form}
 use Rattle.oidc_login.specs.Client.{SeenClient}
-use Rattle.oidc_login.specs.Pkce.{s256}
+use Rattle.oidc_oauth2.specs.Pkce.{s256}
 
 -- the state and the nonce of a request for a login
 pub record SeenAuthorization : Type 0 where

@@ -1,20 +1,16 @@
--- What the readers of a token answer, a header and a claim set keep. No public clause cites this.
+-- What the readers of a token response, a header and a claim set keep. No public clause cites this.
 use Rattle.std.specs.Prelude.{List}
 use Rattle.oidc_members.specs.Seen.{SeenMember}
-use Rattle.oidc_readers.specs.Slots.{slot}
-use Rattle.oidc_login.specs.declared.tokens.token_answer.TokenFields.{TokenFields}
+pub use Rattle.oidc_readers.specs.Slots.{slot}
+use Rattle.oidc_login.specs.declared.tokens.id_token_field.IdTokenFields.{IdTokenFields}
 use Rattle.oidc_login.specs.declared.tokens.header.HeaderFields.{HeaderFields}
 use Rattle.oidc_login.specs.declared.tokens.claims.ClaimFields.{ClaimFields}
-use Rattle.oidc_login.specs.TokenAnswer as answer
+use Rattle.oidc_login.specs.TokenResponse as response
 use Rattle.oidc_login.specs.Header as header
 use Rattle.oidc_login.specs.Claims as claims
 
-abbrev pub token_fields : List SeenMember → TokenFields
-token_fields members = record {
-  access_token = slot answer.access_token members;
-  token_type = slot answer.token_type members;
-  id_token = slot answer.id_token members;
-}
+abbrev pub id_token_fields : List SeenMember → IdTokenFields
+id_token_fields members = record { id_token = slot response.id_token members }
 
 abbrev pub header_fields : List SeenMember → HeaderFields
 header_fields members = record { alg = slot header.alg members }

@@ -7,7 +7,8 @@ use Rattle.oidc_members.specs.Seen.{SeenMember}
 use Rattle.oidc_members.specs.declared.refusal.Refusal.{Refusal}
 use Rattle.oidc_members.specs.declared.refusal.ParseKind.TheVariants.{Algorithm}
 use Rattle.oidc_types.specs.declared.core_algorithms.CoreJwsSigningAlgorithm.{CoreJwsSigningAlgorithm}
-use Rattle.oidc_types.specs.{find_word, signing_text, signing_algorithms, signs_with_secret}
+use Rattle.oidc_types.specs.{signing_text, signing_algorithms, signs_with_secret}
+use Rattle.oidc_types.specs.{find_word}
 use Rattle.oidc_readers.specs.Kinds.{Kind, of_member}
 use Rattle.oidc_readers.specs.Fields.{Field, field, judged}
 use Rattle.oidc_readers.specs.Records.{◌>>=◌, faultless, required}

@@ -1,18 +1,21 @@
-pub mod Pkce
-pub mod Transport
+-- In reading order: the client and its authorization URL; ID tokens and their checks; pending logins
+-- and what a begin leaves; the token request and its answer; the table of a callback, what each
+-- reply rests on, and what a callback leaves of a transport and of the store.
 pub mod Client
 pub mod Authorization
-pub mod CodeRequest
-pub mod TokenAnswer
 pub mod Header
 pub mod Claims
 pub mod IdToken
 pub mod Verification
 pub mod SignedIn
-pub mod Errors
 pub mod Logins
-pub mod Outcome
-pub mod Callbacks
+pub mod Begins
+pub mod TokenRequest
+pub mod TokenResponse
+pub mod Errors
+pub mod Rows
+pub mod Causes
+pub mod Runs
 -- lower words that these cite
 pub use Rattle.oidc_pairs.specs.Pairs
 pub use Rattle.oidc_pairs.specs.Form

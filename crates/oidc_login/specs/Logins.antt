@@ -5,7 +5,7 @@ use Rattle.std.specs.FinMap as finite
 use Rattle.std.specs.Ordering.{nat_cmp}
 use Rattle.std.specs.Cmp.Lexicographic.{slice_cmp}
 use Rattle.oidc_login.specs.Client.{SeenClient}
-use Rattle.oidc_login.specs.Pkce.{is_verifier}
+use Rattle.oidc_oauth2.specs.Pkce.{is_verifier}
 
 -- what is kept of a login beside its state
 pub record SeenLogin : Type 0 where

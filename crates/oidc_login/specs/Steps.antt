@@ -1,17 +1,40 @@
--- What the steps of a callback answer, once the login was removed. No public clause cites this.
-use Rattle.std.specs.Prelude.{◌≡◌, true, Result, Err}
-use Rattle.oidc_login.specs.Transport.{Wire}
-use Rattle.oidc_login.specs.SignedIn.{SeenSignedIn}
-use Rattle.oidc_login.specs.Outcome.{Run}
-use Rattle.oidc_login.specs.Callbacks.{Replies, HandsOver}
+-- What the steps of a callback leave. No public clause cites this.
+use Rattle.std.specs.Prelude.{◌≡◌, ℕ, List, [], ◌∷◌, true, None, Some, Result, Ok, Err, IfErr}
+use Rattle.http.specs.declared.response.Response.{Response}
+use Rattle.oidc_oauth2.specs.Messages.{SeenRequest, SeenAnswer, seen_response}
+use Rattle.oidc_oauth2.specs.Transport.{log_after, Plays}
+use Rattle.oidc_oauth2.specs.Exchanges.{Known}
+use Rattle.oidc_login.specs.Errors.{faulted}
 use Rattle.oidc_login.specs.declared.errors.LoginError.{LoginError}
-use Rattle.oidc_login.specs.declared.errors.LoginError.TheVariants.{Memory}
+use Rattle.oidc_login.specs.declared.errors.LoginError.TheVariants as login
+use Rattle.oidc_oauth2.specs.declared.token_answers.RequestTokenError.{RequestTokenError}
+use Rattle.oidc_oauth2.specs.declared.token_answers.RequestTokenError.TheVariants as token
+use Rattle.oidc_login.specs.declared.errors.TooLong.TheVariants as place
+use Rattle.oidc_oauth2.specs.ErrorResponse.{SeenError}
+use Rattle.oidc_oauth2.specs.declared.error_types.CoreErrorResponseType.{CoreErrorResponseType}
 
--- the answer is the one that is meant, or want of memory after the login was removed
-abbrev pub Gives : {A : Type 0} → Result A LoginError → Result A LoginError → Type 0
-Gives (Err (Memory spent)) meant = spent ≡ true
-Gives answer meant = answer ≡ meant
+-- an answer, whatever the transport's error was
+abbrev pub answer_of : {E : Type 0} → Result (Response (List ℕ)) E → SeenAnswer
+answer_of (Ok response) = Some (seen_response response)
+answer_of (Err e) = None
 
--- the reply and the requests of a run
-abbrev pub Runs : Wire → Wire → Result SeenSignedIn LoginError → Run → Type 0
-Runs old new answer run = Replies answer run.reply × HandsOver old new answer run.sent
+-- one request was handed over and took this answer
+abbrev pub Exchanged : Known → Known → SeenRequest → SeenAnswer → Type 0
+Exchanged old new request answer =
+    (new.log ≡ log_after old.log (request ∷ []) (answer ∷ []))
+    × Plays old.script (answer ∷ []) new.script
+
+-- nothing was handed over
+abbrev pub Untouched : Known → Known → Type 0
+Untouched old new = (new.log ≡ old.log) × Plays old.script [] new.script
+
+-- a fault only where the answer was one
+abbrev pub Faults : {A E : Type 0} → SeenAnswer → Result A (LoginError E) → Type 0
+Faults answer result = IfErr result (λ e. faulted e ≡ true → answer ≡ None)
+
+-- the refusal of a login by that of its token request
+abbrev pub of_token : {E : Type 0} → RequestTokenError E (SeenError CoreErrorResponseType)
+    → LoginError E
+of_token (token.TooLong body) = login.TooLong place.TokenAnswer
+of_token token.Memory = login.Memory true
+of_token e = login.Token e

@@ -2,8 +2,10 @@
 
 ghost use Rattle.std.specs.Prelude.{◌≡◌};
 ghost use Rattle.oidc_login.specs.Errors.{spent_of};
+ghost use Rattle.oidc_login.specs.Steps.{of_token};
 
 use crate::tokens::verification::ClaimsVerificationError;
+use oidc_oauth2::{CoreRequestTokenError, RequestTokenError};
 use std::alloc::AllocError;
 use thiserror::Error;
 
@@ -40,19 +42,37 @@ impl From<AllocError> for BeginError {
     }
 }
 
-/// Why a callback signs nobody in.
+/// What was too long.
 #[derive(Clone, Copy, Debug, PartialEq, Eq, Error)]
-pub enum LoginError {
+pub enum TooLong {
+    /// The body of the answer to the token request has more than 1,048,576 bytes.
+    #[error("the answer to the token request")]
+    TokenAnswer,
+}
+
+/// Why a callback signs nobody in. `E` is the transport's error. `Debug` shows neither a body nor
+/// an error response.
+#[derive(Debug, Drop, Error)]
+pub enum LoginError<E> {
+    /// An answer is too long.
+    #[error("too long: {0}")]
+    TooLong(TooLong),
     /// The query hasn't one `state`, or it names no pending login.
     #[error("the query names no pending login")]
     State,
+    /// The query has an `error`, or the text of the ID token isn't plain.
+    #[error("not built yet")]
+    Unbuilt,
     /// The query hasn't one `code`.
     #[error("the query hasn't one code")]
     Callback,
-    /// The query has an `error`, the token endpoint's address isn't one that is sent to, the
-    /// transport faulted, or the answer of the token endpoint isn't plain.
-    #[error("not built yet")]
-    Unbuilt,
+    /// The token request has no answer that holds tokens. `TooLong` and `Memory` never stand inside
+    /// it.
+    #[error("no tokens: {0}")]
+    Token(CoreRequestTokenError<E>),
+    /// The answer has no ID token.
+    #[error("no ID token")]
+    NoIdToken,
     /// The ID token isn't accepted.
     #[error("the ID token isn't accepted: {0}")]
     Claims(ClaimsVerificationError),
@@ -64,7 +84,7 @@ pub enum LoginError {
     },
 }
 
-impl LoginError {
+impl<E> LoginError<E> {
     /// Whether the login that the query names was removed from the store.
     pub fn spent(&self) -> bool
         ensures { result ≡ spent_of self.now }
@@ -72,7 +92,18 @@ impl LoginError {
         match self {
             LoginError::State => false,
             LoginError::Memory { spent } => *spent,
-            LoginError::Callback | LoginError::Unbuilt | LoginError::Claims(_) => true,
+            _ => true,
+        }
+    }
+
+    // The refusal of a login by that of its token request.
+    pub(crate) fn of_token(error: CoreRequestTokenError<E>) -> Self
+        ensures { result ≡ of_token error }
+    {
+        match error {
+            RequestTokenError::TooLong(_) => LoginError::TooLong(TooLong::TokenAnswer),
+            RequestTokenError::Memory => LoginError::Memory { spent: true },
+            error => LoginError::Token(error),
         }
     }
 }

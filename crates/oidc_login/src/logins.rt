@@ -1,28 +1,27 @@
 //! The pending logins of one client.
 
-ghost use Rattle.std.specs.Prelude.{◌≡◌, ◌≢◌, ◌↔◌, ◌⊎◌, ◌≤◌, ◌+◌, IfOk, OnOk, OnErr, IsErrOf, IsTrue, IsNone, IsSome, Ok, not, false, length, None, if◌then◌else◌};
+ghost use Rattle.std.specs.Prelude.{◌≡◌, ◌≢◌, ◌↔◌, ◌≤◌, IfOk, OnOk, OnErr, IsErrOf, IsTrue, IsNone, IsSome, not, true, false, None};
 ghost use Rattle.std.specs.FinMap as finite;
 ghost use Rattle.oidc_pairs.specs.Pairs.{pairs};
-ghost use Rattle.oidc_login.specs.Pkce.{is_verifier, s256};
-ghost use Rattle.oidc_login.specs.SignedIn.{SeenSignedIn};
-ghost use Rattle.oidc_login.specs.Errors.{is_spent_by};
+ghost use Rattle.oidc_oauth2.specs.Pkce.{is_verifier, s256};
+ghost use Rattle.oidc_oauth2.specs.Exchanges.{known};
+ghost use Rattle.oidc_login.specs.Errors.{is_spent_by, OrMemory};
 ghost use Rattle.oidc_login.specs.Logins.{HasVerifiers};
-ghost use Rattle.oidc_login.specs.Outcome.{begin_reply, Begins, with_login, attempt, login_named_by, callback_store, outcome};
-ghost use Rattle.oidc_login.specs.Callbacks.{Replies, Leaves, HandsOver, SendsItsRequest, IsSignedIn, LacksCode, IsUnbuilt, FailsCheck};
+ghost use Rattle.oidc_login.specs.Begins.{begin_reply, Begins, with_login};
+ghost use Rattle.oidc_login.specs.Rows.{login_named_by, callback_store};
+ghost use Rattle.oidc_login.specs.Causes.{AsksNothing};
+ghost use Rattle.oidc_login.specs.Runs.{Ran, IsBlamed, Leaves, attempt};
 ghost use Rattle.oidc_keys.specs.declared.refusals.SignatureVerificationError.TheVariants as signature;
-ghost use Rattle.oidc_login.specs.declared.tokens.verification.ClaimsVerificationError.{ClaimsVerificationError};
 ghost use Rattle.oidc_login.specs.declared.tokens.verification.ClaimsVerificationError.TheVariants.{SignatureVerification};
 
 use crate::client::Client;
 use crate::client::authorization::{AuthorizationRequest, authorize_url};
 use crate::errors::{BeginError, LoginError, NewLoginsError};
-use crate::oauth2::pkce::{PkceCodeChallenge, PkceError};
-use crate::oauth2::transport::Recorded;
 use crate::signed_in::SignedIn;
-use crate::steps::{complete_login, take_named};
+use crate::steps::drive;
 use crate::store::{Login, Store};
 use jiff::Timestamp;
-use oidc_pairs::Pairs;
+use oidc_oauth2::{PkceCodeChallenge, PkceError, SyncHttpClient};
 use oidc_types::PkceCodeVerifier;
 use std::alloc::Global;
 use std::marker::Model;
@@ -123,83 +122,61 @@ impl<'c> Logins<'c> {
     ///
     /// The login is removed before anything is sent. `LoginError::spent` says whether it was. The
     /// errors are, in this order: `State`, where the query hasn't one `state` of a pending login;
-    /// `Unbuilt`, where it has an `error`; `Callback`, where it hasn't one `code`; `Unbuilt`, where
-    /// no request can be made, the transport faults or the answer isn't plain; `Claims`, where a
-    /// check of the ID token fails; `Memory` may come at any point (RFC 6749 sections 4.1.2 to
-    /// 4.1.4, OpenID Connect Core 1.0 section 3.1.3).
-    pub fn callback(
+    /// `Unbuilt`, where it has an `error`; `Callback`, where it hasn't one `code`;
+    /// `Token(Other(Uri))`, where the address isn't one that is sent to; `Token(Request)`, where the
+    /// transport fails; `TooLong`, where the answer has more than 1,048,576 bytes; the other `Token`,
+    /// where it holds no tokens; `NoIdToken`, where these have no ID token among them; `Unbuilt`,
+    /// where its text isn't plain (the page of `tokens` says what that is); `Claims`, where a check
+    /// of it fails; `Memory` may come at any point (RFC 6749 sections 4.1.2 to 4.1.4, OpenID Connect
+    /// Core 1.0 section 3.1.3).
+    pub fn callback<H: SyncHttpClient>(
         &mut self,
         query: &[u8],
-        http: &mut Recorded,
+        http: &mut H,
         now: Timestamp,
-    ) -> Result<SignedIn, LoginError>
-        // The reply, the requests and the store are those of the one definition.
-        ensures reply { let a = attempt self.old query.now now.nanosecond http.old in
-            Replies result (outcome a).reply }
-        ensures sent { let a = attempt self.old query.now now.nanosecond http.old in
-            HandsOver http.old http.new result (outcome a).sent }
-        ensures store { self.new.pending ≡ (if is_spent_by result
-            then callback_store self.old.pending (pairs query.now) else self.old.pending) }
-        ensures left { Leaves result self.new.pending
-            (callback_store self.old.pending (pairs query.now)) }
-        ensures client { self.new.client ≡ self.old.client }
-        ensures verifiers { HasVerifiers self.new.pending }
+    ) -> Result<SignedIn, LoginError<H::Error>>
+        requires { H.ready http.old }
+        ensures again { H.ready http.new }
 
-        // An Ok has the claims of its own ID token, which came in the answer to this request and is
-        // accepted at this moment with the named login's nonce. Where all this holds, it is Ok.
-        ensures accepted { let a = attempt self.old query.now now.nanosecond http.old in
-            IfOk result (IsSignedIn a) }
-        ensures signs_in { let a = attempt self.old query.now now.nanosecond http.old in
-            (signed : SeenSignedIn) → IsSignedIn a signed → Replies result (Ok signed) }
-        ensures at_most_one_request { length http.new.requests ≤ length http.old.requests + 1 }
+        // For some answers, which are those that came where the transport keeps a log: reply and
+        // requests are those of the table, or there was no memory. Each refusal has its cause, and
+        // each cause its refusal; an Ok is a user who is signed in.
+        ensures ran { let a = attempt self.old query.now now.nanosecond in
+            let before = known (H.log http.old) (H.script http.old) in
+            let after = known (H.log http.new) (H.script http.new) in
+            Ran a before after result }
 
-        // What was handed over is nothing, or exactly the request that the named login and the
-        // query ask for. Behind an Ok it is that request.
-        ensures only_its_request { let a = attempt self.old query.now now.nanosecond http.old in
-            (http.new ≡ http.old) ⊎ SendsItsRequest a http.old http.new }
-        ensures own_request { let a = attempt self.old query.now now.nanosecond http.old in
-            OnOk result (SendsItsRequest a http.old http.new) }
-
-        // What `spent` says is so: a login that was removed was pending and named, and where none
-        // was removed, nothing was sent either.
-        ensures removed { IsTrue (is_spent_by result)
+        // The login that the query names is removed where `spent` says so, and no other. Where none
+        // was removed, or the query asks for no request, the transport isn't touched.
+        ensures store { let a = attempt self.old query.now now.nanosecond in
+            Leaves a self.new.pending result }
+        ensures left { let meant = callback_store self.old.pending (pairs query.now) in
+            OrMemory result (self.new.pending ≡ meant) }
+        ensures removed { is_spent_by result ≡ true
             → IsSome (login_named_by self.old.pending (pairs query.now)) }
         ensures unspent { is_spent_by result ≡ false
             → (http.new ≡ http.old) × (self.new.pending ≡ self.old.pending) }
+        ensures idle { let a = attempt self.old query.now now.nanosecond in
+            AsksNothing a → http.new ≡ http.old }
+        ensures client { self.new.client ≡ self.old.client }
+        ensures verifiers { HasVerifiers self.new.pending }
 
-        // Each refusal has its cause.
+        // This rests on the query and the store alone.
         ensures state { result ≡ Err LoginError.State
             → login_named_by self.old.pending (pairs query.now) ≡ None }
-        ensures callback { let a = attempt self.old query.now now.nanosecond http.old in
-            result ≡ Err LoginError.Callback → LacksCode a }
-        ensures unbuilt { let a = attempt self.old query.now now.nanosecond http.old in
-            result ≡ Err LoginError.Unbuilt → IsUnbuilt a }
-        ensures claims { let a = attempt self.old query.now now.nanosecond http.old in
-            (kind : ClaimsVerificationError)
-            → result ≡ Err (LoginError.Claims kind) → FailsCheck a kind }
-
-        // Each cause has its refusal, where there is memory.
         ensures no_state { login_named_by self.old.pending (pairs query.now) ≡ None
-            → Replies result (Err LoginError.State) }
-        ensures lacks_code { let a = attempt self.old query.now now.nanosecond http.old in
-            LacksCode a → Replies result (Err LoginError.Callback) }
-        ensures is_unbuilt { let a = attempt self.old query.now now.nanosecond http.old in
-            IsUnbuilt a → Replies result (Err LoginError.Unbuilt) }
-        ensures fails_check { let a = attempt self.old query.now now.nanosecond http.old in
-            (kind : ClaimsVerificationError)
-            → FailsCheck a kind → Replies result (Err (LoginError.Claims kind)) }
+            → OrMemory result (result ≡ Err LoginError.State) }
+
+        // A fault of the transport comes only where its count has risen, or stands at its last
+        // value.
+        ensures blamed { IsBlamed (H.faults http.old) (H.faults http.new) result }
+        ensures never_falls { H.faults http.old ≤ H.faults http.new }
 
         // Want of memory is `Memory`, and never a failed check of a signature.
-        ensures no_inner_memory { result
-            ≢ Err (LoginError.Claims (SignatureVerification signature.Memory)) }
+        ensures no_inner_memory { let wanting = SignatureVerification signature.Memory in
+            result ≢ Err (LoginError.Claims wanting) }
     {
-        let Ok(pairs) = Pairs::parse(self.alloc, query) else {
-            return Err(LoginError::Memory { spent: false });
-        };
-        match take_named(&mut self.pending, &pairs) {
-            None => Err(LoginError::State),
-            Some(login) => complete_login(self.alloc, self.client, login, &pairs, http, now),
-        }
+        drive(self.alloc, self.client, &mut self.pending, query, http, now)
     }
 }
 

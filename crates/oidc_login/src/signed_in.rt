@@ -1,35 +1,41 @@
 //! What a callback gives that signs a user in.
 
 ghost use Rattle.std.specs.Prelude.{◌≡◌};
+ghost use Rattle.std.specs.Option.{option_copied};
+ghost use Rattle.oidc_login.specs.Rows.{signed_by};
 
 use crate::tokens::claims::IdTokenClaims;
 use crate::tokens::id_token::IdToken;
-use oidc_types::AccessToken;
+use crate::tokens::id_token_field::IdTokenField;
+use oidc_oauth2::{CoreTokenType, OAuth2TokenResponse, StandardTokenResponse};
+use oidc_types::{AccessToken, RefreshToken};
 use std::marker::Model;
 
-/// A user who is signed in: the accepted ID token, and the access token that came beside it.
+// The response of a token endpoint.
+pub(crate) type TokenResponse = StandardTokenResponse<IdTokenField, CoreTokenType>;
+
+/// A user who is signed in: the accepted ID token, and the access token and any refresh token that
+/// came beside it.
 #[derive(Drop)]
 pub struct SignedIn {
     id_token: IdToken,
-    access_token: AccessToken,
+    tokens: TokenResponse,
 }
 
 impl Model for SignedIn {
     ghost use Rattle.oidc_login.specs.SignedIn.{SeenSignedIn};
+    ghost use Rattle.oidc_login.specs.Rows.{signed_by};
 
     ghost Value = { SeenSignedIn };
 
-    ghost view = { λ s. record { id_token = s.id_token; access_token = s.access_token } };
+    ghost view = { λ s. signed_by s.id_token s.tokens };
 }
 
 impl SignedIn {
-    pub(crate) fn new(id_token: IdToken, access_token: AccessToken) -> Self
-        ensures { result ≡ record { id_token = id_token; access_token = access_token } }
+    pub(crate) fn new(id_token: IdToken, tokens: TokenResponse) -> Self
+        ensures { result ≡ signed_by id_token tokens }
     {
-        SignedIn {
-            id_token,
-            access_token,
-        }
+        SignedIn { id_token, tokens }
     }
 
     /// The ID token.
@@ -50,6 +56,13 @@ impl SignedIn {
     pub fn access_token(&self) -> &AccessToken
         ensures { result.now ≡ self.now.access_token }
     {
-        &self.access_token
+        self.tokens.access_token()
+    }
+
+    /// The refresh token, where one came.
+    pub fn refresh_token(&self) -> Option<&RefreshToken>
+        ensures { option_copied result ≡ self.now.refresh_token }
+    {
+        self.tokens.refresh_token()
     }
 }

@@ -1,38 +1,64 @@
-// The steps of a callback.
+// The steps of a callback. Those that judge have no transport inside.
 
-ghost use Rattle.std.specs.Prelude.{◌≡◌, ◌∷◌, [], IfErr, IfSome, IsTrue, is_some, true, if◌then◌else◌};
-ghost use Rattle.oidc_login.specs.Pkce.{is_verifier};
-ghost use Rattle.oidc_login.specs.Transport.{next_of, seen_response};
-ghost use Rattle.oidc_login.specs.Verification as checks;
-ghost use Rattle.oidc_login.specs.Errors.{spent_of, is_spent_by};
+ghost use Rattle.std.specs.Prelude.{◌≡◌, ◌≤◌, IfErr, IfNone, IfSome, IsSome, IsTrue, MatchResult, false, true, None, Some, if◌then◌else◌};
+ghost use Rattle.std.specs.String.{string_bytes};
+ghost use Rattle.oidc_pairs.specs.Pairs.{pairs};
+ghost use Rattle.oidc_oauth2.specs.Pkce.{is_verifier};
+ghost use Rattle.oidc_oauth2.specs.Messages.{seen_response};
+ghost use Rattle.oidc_oauth2.specs.Transport.{HasRisen};
+ghost use Rattle.oidc_oauth2.specs.Requests.{Prepares};
+ghost use Rattle.oidc_oauth2.specs.Exchanges.{known};
+ghost use Rattle.oidc_login.specs.Errors.{faulted, is_spent_by, Gives, OrMemory};
 ghost use Rattle.oidc_login.specs.Logins.{HasVerifiers};
-ghost use Rattle.oidc_login.specs.Outcome as meant;
-ghost use Rattle.oidc_login.specs.Outcome.{login_named_by, callback_store, run_of_request};
-ghost use Rattle.oidc_login.specs.Callbacks.{HandsOver};
 ghost use Rattle.oidc_login.specs.Reading.{Reads};
-ghost use Rattle.oidc_login.specs.Steps.{Gives, Runs};
+ghost use Rattle.oidc_login.specs.IdToken.{token_of};
+ghost use Rattle.oidc_login.specs.TokenRequest as request;
+ghost use Rattle.oidc_login.specs.Rows as rows;
+ghost use Rattle.oidc_login.specs.Rows.{login_named_by, callback_store};
+ghost use Rattle.oidc_login.specs.Causes.{AsksNothing};
+ghost use Rattle.oidc_login.specs.Runs.{Ran, IsBlamed, Leaves, start};
+ghost use Rattle.oidc_login.specs.Steps.{answer_of, Exchanged, Untouched, Faults};
 
 use crate::client::Client;
 use crate::errors::LoginError;
-use crate::oauth2::code_request::{PrepareError, code_request};
-use crate::oauth2::transport::{CallError, HttpRequest, HttpResponse, Recorded};
-use crate::signed_in::SignedIn;
+use crate::signed_in::{SignedIn, TokenResponse};
 use crate::store::{Login, Store};
 use crate::tokens::id_token::IdToken;
 use crate::tokens::reading::Unread;
-use crate::tokens::token_answer::{PlainTokens, plain_tokens};
 use crate::tokens::verification::first_failure;
 use jiff::Timestamp;
+use oidc_oauth2::{
+    AuthType, CallError, ClientAuth, CodeTokenRequest, CoreErrorResponseType, HttpRequest,
+    HttpResponse, OAuth2TokenResponse, OtherCause, PrepareError, RequestTokenError,
+    StandardErrorResponse, SyncHttpClient, token_answer,
+};
 use oidc_pairs::Pairs;
-use oidc_types::Nonce;
-use std::alloc::Global;
+use oidc_types::AuthorizationCode;
+use std::alloc::{AllocError, Global};
+use std::marker::Model;
+
+// A login that was taken out, and its token request.
+#[derive(Drop)]
+pub(crate) struct Opened {
+    pub(crate) login: Login,
+    pub(crate) request: HttpRequest,
+}
+
+impl Model for Opened {
+    ghost use Rattle.oidc_login.specs.Rows.{SeenOpened};
+
+    ghost Value = { SeenOpened };
+
+    ghost view = { λ o. record { login = o.login; request = o.request } };
+}
 
 // Takes the login that a query names by its one state.
-pub(crate) fn take_named(pending: &mut Store, query: &Pairs) -> Option<Login>
+#[tactic(auto, using(crate::proofs::Entries::remove_absent))]
+fn take_named(pending: &mut Store, query: &Pairs) -> Option<Login>
     ensures login { result ≡ login_named_by pending.old query.now }
     ensures verifier { IfSome result (λ l. IsTrue (is_verifier l.verifier)) }
-    ensures rest { pending.new
-        ≡ (if is_some result then callback_store pending.old query.now else pending.old) }
+    ensures rest { pending.new ≡ callback_store pending.old query.now }
+    ensures kept { IfNone result (pending.new ≡ pending.old) }
     ensures verifiers { HasVerifiers pending.old → HasVerifiers pending.new }
 {
     match query.only("state") {
@@ -41,122 +67,218 @@ pub(crate) fn take_named(pending: &mut Store, query: &Pairs) -> Option<Login>
     }
 }
 
-// The token request that a login and a query ask for, or why there is none.
-#[tactic(auto, unfolding(crate::specs::Outcome::token_request_for))]
-fn token_request_for(
+// The request for a code, with the login's verifier, to the client's token endpoint.
+#[tactic(auto, unfolding(crate::specs::TokenRequest::token_request))]
+fn token_request(
     alloc: Global,
     client: &Client,
     login: &Login,
-    query: &Pairs,
-) -> Result<HttpRequest, LoginError>
-    ensures gives { Gives result (meant.token_request_for client.now login.now query.now) }
-    ensures spent { IfErr result (λ e. spent_of e ≡ true) }
+    code: &str,
+) -> Result<HttpRequest, PrepareError>
+    ensures { Prepares result (request.token_request client.now login.now code.now) }
 {
+    let Some(endpoint) = client.token_endpoint() else {
+        return Err(PrepareError::Uri);
+    };
+    let auth = ClientAuth {
+        client_id: client.client_id(),
+        client_secret: Some(client.client_secret()),
+        auth_type: AuthType::BasicAuth,
+    };
+    let code = AuthorizationCode::new(String::from_str(alloc, code)?);
+    let verifier = login.verifier.clone_in(alloc)?;
+    let request: CodeTokenRequest<'_, StandardErrorResponse<CoreErrorResponseType>, TokenResponse> =
+        CodeTokenRequest::new(alloc, endpoint, auth, code).set_pkce_verifier(verifier);
+    request.prepare(alloc)
+}
+
+// The rows before the token request, of a query whose pairs are read.
+#[tactic(auto, unfolding(crate::specs::Rows::opening))]
+fn open<E>(
+    alloc: Global,
+    client: &Client,
+    pending: &mut Store,
+    query: &Pairs,
+) -> Result<Opened, LoginError<E>>
+    ensures gives { Gives result (rows.opening client.now pending.old query.now) }
+    ensures no_fault { IfErr result (λ e. faulted e ≡ false) }
+    ensures store { pending.new ≡ (if is_spent_by result
+        then callback_store pending.old query.now else pending.old) }
+    ensures left { OrMemory result (pending.new ≡ callback_store pending.old query.now) }
+    ensures removed { is_spent_by result ≡ true → IsSome (login_named_by pending.old query.now) }
+    ensures verifiers { HasVerifiers pending.old → HasVerifiers pending.new }
+{
+    let Some(login) = take_named(pending, query) else {
+        return Err(LoginError::State);
+    };
     if query.first("error").is_some() {
         return Err(LoginError::Unbuilt);
     }
     let Some(code) = query.only("code") else {
         return Err(LoginError::Callback);
     };
-    match code_request(alloc, client, &login.verifier, code) {
-        Ok(request) => Ok(request),
-        Err(PrepareError::Uri) => Err(LoginError::Unbuilt),
+    match token_request(alloc, client, &login, code) {
+        Ok(request) => Ok(Opened { login, request }),
+        Err(PrepareError::Uri) => Err(LoginError::Token(RequestTokenError::Other(OtherCause::Uri))),
         Err(PrepareError::Memory) => Err(LoginError::Memory { spent: true }),
     }
 }
 
-// The user whom a response would sign in.
-#[tactic(auto, unfolding(crate::specs::Outcome::candidate_in))]
-fn candidate_in(alloc: Global, response: &HttpResponse) -> Result<SignedIn, Unread>
-    ensures { Reads (meant.candidate_in (seen_response response.now)) result }
-{
-    let PlainTokens {
-        access_token,
-        id_token,
-    } = plain_tokens(alloc, response)?;
-    let token = IdToken::read(alloc, id_token.into_string())?;
-    Ok(SignedIn::new(token, access_token))
-}
-
-// Signs in where no check of the ID token fails.
-fn reply_for(
+// The rows before the token request.
+fn opening<E>(
     alloc: Global,
     client: &Client,
-    nonce: &Nonce,
-    now: Timestamp,
-    signed: SignedIn,
-) -> Result<SignedIn, LoginError>
-    ensures gives { let token = signed.id_token in
-        let failure = checks.first_failure client.now nonce.now now.nanosecond token in
-        Gives result (meant.unless_failed signed failure) }
+    pending: &mut Store,
+    query: &[u8],
+) -> Result<Opened, LoginError<E>>
+    ensures gives { Gives result (rows.opening client.now pending.old (pairs query.now)) }
+    ensures no_fault { IfErr result (λ e. faulted e ≡ false) }
+    ensures store { pending.new ≡ (if is_spent_by result
+        then callback_store pending.old (pairs query.now) else pending.old) }
+    ensures left { OrMemory result (pending.new ≡ callback_store pending.old (pairs query.now)) }
+    ensures removed { is_spent_by result ≡ true
+        → IsSome (login_named_by pending.old (pairs query.now)) }
+    ensures verifiers { HasVerifiers pending.old → HasVerifiers pending.new }
+{
+    let Ok(pairs) = Pairs::parse(alloc, query) else {
+        return Err(LoginError::Memory { spent: false });
+    };
+    open(alloc, client, pending, &pairs)
+}
+
+// The rows on the response to the token request.
+#[tactic(auto, unfolding(crate::specs::TokenResponse::tokens_or_refusal))]
+fn tokens_in<E>(alloc: Global, response: HttpResponse) -> Result<TokenResponse, LoginError<E>>
+    ensures gives { Gives result (rows.tokens_in (seen_response response)) }
+    ensures no_fault { IfErr result (λ e. faulted e ≡ false) }
     ensures spent { is_spent_by result ≡ true }
 {
-    match first_failure(alloc, client, nonce, now, signed.id_token()) {
-        Ok(None) => Ok(signed),
+    match token_answer(alloc, response) {
+        Ok(tokens) => Ok(tokens),
+        Err(error) => Err(LoginError::of_token(error)),
+    }
+}
+
+// The ID token that a text is.
+fn token_in(alloc: Global, text: &str) -> Result<IdToken, Unread>
+    ensures { Reads (token_of text.now) result }
+{
+    IdToken::read(alloc, String::from_str(alloc, text)?)
+}
+
+// The rows on the ID token.
+#[tactic(auto, unfolding(crate::specs::Rows::signing_in))]
+fn signing_in<E>(
+    alloc: Global,
+    client: &Client,
+    now: Timestamp,
+    login: &Login,
+    tokens: TokenResponse,
+) -> Result<SignedIn, LoginError<E>>
+    ensures gives { Gives result (rows.signing_in client.now now.nanosecond login.now tokens) }
+    ensures no_fault { IfErr result (λ e. faulted e ≡ false) }
+    ensures spent { is_spent_by result ≡ true }
+{
+    let Some(text) = tokens.extra_fields().text() else {
+        return Err(LoginError::NoIdToken);
+    };
+    let token = match token_in(alloc, text) {
+        Ok(token) => token,
+        Err(Unread::Form) => return Err(LoginError::Unbuilt),
+        Err(Unread::Memory) => return Err(LoginError::Memory { spent: true }),
+    };
+    match first_failure(alloc, client, &login.nonce, now, &token) {
+        Ok(None) => Ok(SignedIn::new(token, tokens)),
         Ok(Some(kind)) => Err(LoginError::Claims(kind)),
         Err(_) => Err(LoginError::Memory { spent: true }),
     }
 }
 
-// What a response to the token request is worth.
-fn reply_to(
+// The rows after the token request.
+#[tactic(auto, unfolding(crate::specs::Rows::after_token))]
+fn after_token<E>(
     alloc: Global,
     client: &Client,
-    nonce: &Nonce,
     now: Timestamp,
-    response: &HttpResponse,
-) -> Result<SignedIn, LoginError>
-    ensures gives { let candidate = meant.candidate_in (seen_response response.now) in
-        Gives result (meant.reply_for client.now nonce.now now.nanosecond candidate) }
+    login: &Login,
+    answer: Result<HttpResponse, E>,
+) -> Result<SignedIn, LoginError<E>>
+    ensures gives { let answer = answer_of answer in
+        Gives result (rows.after_token client.now now.nanosecond login.now answer) }
+    ensures fault { Faults (answer_of answer) result }
     ensures spent { is_spent_by result ≡ true }
 {
-    match candidate_in(alloc, response) {
-        Ok(signed) => reply_for(alloc, client, nonce, now, signed),
-        Err(Unread::Form) => Err(LoginError::Unbuilt),
-        Err(Unread::Memory) => Err(LoginError::Memory { spent: true }),
-    }
-}
-
-// Hands the token request over, and judges its answer.
-#[tactic(auto, using(crate::proofs::Sent::after_nothing))]
-fn exchange(
-    alloc: Global,
-    client: &Client,
-    nonce: &Nonce,
-    request: HttpRequest,
-    http: &mut Recorded,
-    now: Timestamp,
-) -> Result<SignedIn, LoginError>
-    ensures reply { let answer = next_of http.old.left in
-        Gives result (meant.reply_to client.now nonce.now now.nanosecond answer) }
-    ensures sent { HandsOver http.old http.new result (request ∷ []) }
-    ensures spent { is_spent_by result ≡ true }
-{
-    match http.call(alloc, request) {
-        Ok(response) => reply_to(alloc, client, nonce, now, &response),
-        Err(CallError::Transport) => Err(LoginError::Unbuilt),
-        Err(CallError::Memory) => Err(LoginError::Memory { spent: true }),
-    }
-}
-
-// Answers a callback whose login was taken out.
-#[tactic(auto, using(crate::proofs::Sent::after_nothing))]
-pub(crate) fn complete_login(
-    alloc: Global,
-    client: &Client,
-    login: Login,
-    query: &Pairs,
-    http: &mut Recorded,
-    now: Timestamp,
-) -> Result<SignedIn, LoginError>
-    ensures run { let request = meant.token_request_for client.now login query.now in
-        let answer = next_of http.old.left in
-        let run = run_of_request client.now login.nonce now.nanosecond answer request in
-        Runs http.old http.new result run }
-    ensures spent { is_spent_by result ≡ true }
-{
-    match token_request_for(alloc, client, &login, query) {
-        Ok(request) => exchange(alloc, client, &login.nonce, request, http, now),
+    let response = match answer {
+        Ok(response) => response,
+        Err(error) => return Err(LoginError::Token(RequestTokenError::Request(error))),
+    };
+    match tokens_in(alloc, response) {
+        Ok(tokens) => signing_in(alloc, client, now, login, tokens),
         Err(error) => Err(error),
     }
+}
+
+// Hands one request over, and gives what came of it.
+fn exchange<H: SyncHttpClient>(
+    alloc: Global,
+    http: &mut H,
+    request: HttpRequest,
+) -> Result<Result<HttpResponse, H::Error>, AllocError>
+    requires { H.ready http.old }
+    ensures again { H.ready http.new }
+    ensures exchanged { let before = known (H.log http.old) (H.script http.old) in
+        let after = known (H.log http.new) (H.script http.new) in
+        MatchResult result
+        (λ answer. Exchanged before after request (answer_of answer))
+        (λ e. Untouched before after) }
+    ensures never_falls { H.faults http.old ≤ H.faults http.new }
+    ensures blamed { MatchResult result
+        (λ answer. answer_of answer ≡ None → HasRisen (H.faults http.old) (H.faults http.new))
+        (λ e. Unit {0}) }
+{
+    match http.call(alloc, request) {
+        Ok(response) => Ok(Ok(response)),
+        Err(CallError::Transport(error)) => Ok(Err(error)),
+        Err(CallError::Memory) => Err(AllocError),
+    }
+}
+
+// A callback, on the parts of a `Logins`.
+#[tactic(auto, using(crate::proofs::Drives::either))]
+pub(crate) fn drive<H: SyncHttpClient>(
+    alloc: Global,
+    client: &Client,
+    pending: &mut Store,
+    query: &[u8],
+    http: &mut H,
+    now: Timestamp,
+) -> Result<SignedIn, LoginError<H::Error>>
+    requires { H.ready http.old }
+    ensures again { H.ready http.new }
+    ensures ran { let a = start client.now pending.old query.now now.nanosecond in
+        let before = known (H.log http.old) (H.script http.old) in
+        let after = known (H.log http.new) (H.script http.new) in
+        Ran a before after result }
+    ensures store { let a = start client.now pending.old query.now now.nanosecond in
+        Leaves a pending.new result }
+    ensures left { OrMemory result (pending.new ≡ callback_store pending.old (pairs query.now)) }
+    ensures removed { is_spent_by result ≡ true
+        → IsSome (login_named_by pending.old (pairs query.now)) }
+    ensures unspent { is_spent_by result ≡ false
+        → (http.new ≡ http.old) × (pending.new ≡ pending.old) }
+    ensures idle { let a = start client.now pending.old query.now now.nanosecond in
+        AsksNothing a → http.new ≡ http.old }
+    ensures blamed { IsBlamed (H.faults http.old) (H.faults http.new) result }
+    ensures never_falls { H.faults http.old ≤ H.faults http.new }
+    ensures verifiers { HasVerifiers pending.old → HasVerifiers pending.new }
+{
+    let opened = match opening(alloc, client, pending, query) {
+        Ok(opened) => opened,
+        Err(error) => return Err(error),
+    };
+    let Opened { login, request } = opened;
+    let Ok(answer) = exchange(alloc, http, request) else {
+        return Err(LoginError::Memory { spent: true });
+    };
+    after_token(alloc, client, now, &login, answer)
 }

@@ -3,7 +3,7 @@
 ghost use Rattle.std.specs.Prelude.{◌≡◌, OnOk, OnErr, IfSome, IsTrue, position, bytes_eq, None};
 ghost use Rattle.std.specs.String.{string_bytes};
 ghost use Rattle.std.specs.FinMap as finite;
-ghost use Rattle.oidc_login.specs.Pkce.{is_verifier};
+ghost use Rattle.oidc_oauth2.specs.Pkce.{is_verifier};
 ghost use Rattle.oidc_login.specs.Logins.{HasVerifiers};
 
 use oidc_types::{Nonce, PkceCodeVerifier};

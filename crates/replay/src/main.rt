@@ -7,6 +7,9 @@
 //! standard error.
 #![tactic(auto)]
 
+#[cfg(test)]
+mod tests;
+
 ghost use Rattle.std.specs.Prelude.{◌≡◌, ◌≢◌, ◌↔◌, ◌⊎◌, ◌≤◌, List, ℕ, [], ◌∷◌, map, Some, None, IfOk, IfErr, codes};
 ghost use Rattle.std.specs.String.{string_bytes};
 ghost use Rattle.std.specs.IoError.{error_kind};

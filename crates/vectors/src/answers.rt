@@ -2,7 +2,7 @@
 
 use crate::case::CaseError;
 use crate::words::kind_word;
-use oidc_members::{OutMember, Refusal, write_object};
+use oidc_members::{OutMember, ParseError, Refusal, write_object};
 use oidc_pairs::FormText;
 use std::alloc::{AllocError, Global};
 
@@ -52,6 +52,26 @@ pub(crate) fn refused_as(
     form.push("kind", kind_word(refusal.kind))?;
     form.push("field", refusal.field.as_str())?;
     Ok(line(alloc, "refused", form.into_string().as_str())?)
+}
+
+/// Why a text doesn't read: `refused`, and the kind and the field.
+pub(crate) fn refused_reading(alloc: Global, error: &ParseError) -> Result<String, CaseError> {
+    match error {
+        ParseError::Refused(refusal) => refused_as(alloc, FormText::new(alloc), refusal),
+        ParseError::Memory => Err(CaseError::Memory),
+    }
+}
+
+/// Adds a pair, where there is a value.
+pub(crate) fn push_some(
+    form: &mut FormText,
+    name: &str,
+    value: Option<&str>,
+) -> Result<(), AllocError> {
+    match value {
+        Some(value) => form.push(name, value),
+        None => Ok(()),
+    }
 }
 
 /// Bytes that are UTF-8, as text.

@@ -1,5 +1,6 @@
 //! A line that is a case: form pairs, the first of them `op`.
 
+use hex::FromHexError;
 use oidc_pairs::{Pair, Pairs};
 use std::alloc::{AllocError, Global};
 
@@ -52,15 +53,56 @@ impl Case {
 
     /// Whether each of these names stands once behind `op`, and no other name does.
     pub(crate) fn check(&self, names: &[&str]) -> Result<(), CaseError> {
-        if self.pairs().len() != names.len() {
-            return Err(CaseError::NoCase);
-        }
-        for name in names {
-            if self.pairs.only(name).is_none() {
-                return Err(CaseError::NoCase);
+        self.check_with(names, &[])
+    }
+
+    /// The same, where each of `optional` may stand once too.
+    pub(crate) fn check_with(&self, names: &[&str], optional: &[&str]) -> Result<(), CaseError> {
+        self.check_all(names, optional, None)
+    }
+
+    /// The same, where `repeated` may stand too, as often as it likes.
+    pub(crate) fn check_all(
+        &self,
+        names: &[&str],
+        optional: &[&str],
+        repeated: Option<&str>,
+    ) -> Result<(), CaseError> {
+        for pair in self.pairs() {
+            if !is_name(pair.name(), repeated) {
+                self.check_name(pair.name(), names, optional)?;
             }
         }
+        self.check_required(names)
+    }
+
+    // Whether a name is one of these, and stands once.
+    fn check_name(&self, name: &str, names: &[&str], optional: &[&str]) -> Result<(), CaseError> {
+        if !names.contains(&name) && !optional.contains(&name) {
+            return Err(CaseError::NoCase);
+        }
+        self.check_once(name)
+    }
+
+    // Whether each of these names stands once.
+    fn check_required(&self, names: &[&str]) -> Result<(), CaseError> {
+        for name in names {
+            self.check_once(name)?;
+        }
         Ok(())
+    }
+
+    // Whether a name stands once.
+    fn check_once(&self, name: &str) -> Result<(), CaseError> {
+        match self.pairs.only(name) {
+            Some(_) => Ok(()),
+            None => Err(CaseError::NoCase),
+        }
+    }
+
+    /// The first value of a name, where there is one.
+    pub(crate) fn optional(&self, name: &str) -> Option<&str> {
+        self.pairs.first(name)
     }
 
     /// The first value of a name, which is empty where there is none.
@@ -69,5 +111,22 @@ impl Case {
             Some(value) => value,
             None => "",
         }
+    }
+}
+
+// Whether a name is this one, where there is one.
+fn is_name(name: &str, wanted: Option<&str>) -> bool {
+    match wanted {
+        Some(wanted) => name == wanted,
+        None => false,
+    }
+}
+
+/// The bytes that hexadecimal digits are.
+pub(crate) fn bytes_of(alloc: Global, text: &str) -> Result<Vec<u8>, CaseError> {
+    match hex::decode(alloc, text) {
+        Ok(bytes) => Ok(bytes),
+        Err(FromHexError::OutOfMemory) => Err(CaseError::Memory),
+        Err(_) => Err(CaseError::NoCase),
     }
 }

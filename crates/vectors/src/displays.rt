@@ -5,8 +5,12 @@ use crate::case::{Case, CaseError};
 use crate::vocabularies::variant_name;
 use oidc_claims::PlacedError;
 use oidc_keys::{HashError, SignatureVerificationError};
-use oidc_login::{BeginError, ClaimsVerificationError, LoginError, NewLoginsError};
+use oidc_login::{BeginError, ClaimsVerificationError, LoginError, NewLoginsError, TooLong};
 use oidc_members::{FieldName, ParseError, ParseKind, Refusal};
+use oidc_oauth2::{
+    BearerError, Body, ConfigurationError, CoreErrorResponseType, CoreRequestTokenError, Fault,
+    OtherCause, PkceError, PrepareError, RequestTokenError, StandardErrorResponse, UnexpectedType,
+};
 use oidc_types::{SigningError, UrlTextError};
 use std::alloc::Global;
 use std::fmt::{Debug, Display};
@@ -54,18 +58,31 @@ const BEGINS: [BeginError; 3] = [
     BeginError::Memory,
 ];
 
-const LOGINS: [LoginError; 5] = [
-    LoginError::State,
-    LoginError::Callback,
-    LoginError::Unbuilt,
-    LoginError::Claims(ClaimsVerificationError::Expired),
-    LoginError::Memory { spent: false },
-];
-
 const URLS: [UrlTextError; 2] = [
     UrlTextError::Refused(url::ParseError::RelativeUrlWithoutBase),
     UrlTextError::Memory,
 ];
+
+const BEARERS: [BearerError; 2] = [BearerError::Value, BearerError::Memory];
+
+const CONFIGURATIONS: [ConfigurationError; 2] = [
+    ConfigurationError::MissingUrl("token"),
+    ConfigurationError::InsecureUrl("revocation"),
+];
+
+const FAULTS: [Fault; 1] = [Fault];
+
+const OTHERS: [OtherCause; 3] = [
+    OtherCause::Uri,
+    OtherCause::EmptyBody,
+    OtherCause::MediaType,
+];
+
+const CHALLENGES: [PkceError; 2] = [PkceError::Length, PkceError::Memory];
+
+const REQUESTS: [PrepareError; 2] = [PrepareError::Uri, PrepareError::Memory];
+
+const TYPES: [UnexpectedType; 1] = [UnexpectedType];
 
 /// `display`: what the value of a variant prints. A variant that holds something holds what stands in
 /// the lists above.
@@ -76,7 +93,7 @@ pub(crate) fn display(alloc: Global, case: &Case) -> Result<String, CaseError> {
         "BeginError" => one_of(alloc, &BEGINS, variant),
         "ClaimsVerificationError" => one_of(alloc, &CLAIMS, variant),
         "HashError" => one_of(alloc, &HASHES, variant),
-        "LoginError" => one_of(alloc, &LOGINS, variant),
+        "LoginError" => login_error(alloc, variant),
         "NewLoginsError" => one_of(alloc, &STORES, variant),
         "ParseError" => parse_error(alloc, variant),
         "ParseKind" => one_of(alloc, &KINDS, variant),
@@ -84,8 +101,51 @@ pub(crate) fn display(alloc: Global, case: &Case) -> Result<String, CaseError> {
         "SignatureVerificationError" => one_of(alloc, &SIGNATURES, variant),
         "SigningError" => signing_error(alloc, variant),
         "UrlTextError" => one_of(alloc, &URLS, variant),
+        kind => token_layer(alloc, kind, variant),
+    }
+}
+
+// What the errors of the token layer print.
+fn token_layer(alloc: Global, kind: &str, variant: &str) -> Result<String, CaseError> {
+    match kind {
+        "BearerError" => one_of(alloc, &BEARERS, variant),
+        "ConfigurationError" => one_of(alloc, &CONFIGURATIONS, variant),
+        "Fault" => one_of(alloc, &FAULTS, variant),
+        "OtherCause" => one_of(alloc, &OTHERS, variant),
+        "PkceError" => one_of(alloc, &CHALLENGES, variant),
+        "PrepareError" => one_of(alloc, &REQUESTS, variant),
+        "RequestTokenError" => request_error(alloc, variant),
+        "UnexpectedType" => one_of(alloc, &TYPES, variant),
         _ => Err(CaseError::NoCase),
     }
+}
+
+fn request_error(alloc: Global, variant: &str) -> Result<String, CaseError> {
+    let server = StandardErrorResponse::new(CoreErrorResponseType::InvalidGrant, None, None);
+    let refusal = Refusal::of_text(alloc, ParseKind::Syntax);
+    let all: [CoreRequestTokenError<Fault>; 6] = [
+        RequestTokenError::ServerResponse(server),
+        RequestTokenError::Request(Fault),
+        RequestTokenError::Parse(refusal, Body::new(Vec::new(alloc))),
+        RequestTokenError::Other(OtherCause::Uri),
+        RequestTokenError::TooLong(Body::new(Vec::new(alloc))),
+        RequestTokenError::Memory,
+    ];
+    one_of(alloc, &all, variant)
+}
+
+fn login_error(alloc: Global, variant: &str) -> Result<String, CaseError> {
+    let all: [LoginError<Fault>; 8] = [
+        LoginError::TooLong(TooLong::TokenAnswer),
+        LoginError::State,
+        LoginError::Unbuilt,
+        LoginError::Callback,
+        LoginError::Token(RequestTokenError::Request(Fault)),
+        LoginError::NoIdToken,
+        LoginError::Claims(ClaimsVerificationError::Expired),
+        LoginError::Memory { spent: false },
+    ];
+    one_of(alloc, &all, variant)
 }
 
 fn parse_error(alloc: Global, variant: &str) -> Result<String, CaseError> {

@@ -1,20 +1,11 @@
 //! MACs, signatures and digests.
 
 use crate::answers::{ok, ok_pair, refused_word};
-use crate::case::{Case, CaseError};
+use crate::case::{Case, CaseError, bytes_of};
 use crate::words::signature_word;
-use hex::FromHexError;
 use oidc_keys::{CoreJsonWebKey, HashError, HmacAlgorithm, JsonWebKey};
 use oidc_types::{ClosedVocabulary, CoreJwsSigningAlgorithm};
 use std::alloc::Global;
-
-fn bytes_of(alloc: Global, text: &str) -> Result<Vec<u8>, CaseError> {
-    match hex::decode(alloc, text) {
-        Ok(bytes) => Ok(bytes),
-        Err(FromHexError::OutOfMemory) => Err(CaseError::Memory),
-        Err(_) => Err(CaseError::NoCase),
-    }
-}
 
 fn algorithm(text: &str) -> Result<CoreJwsSigningAlgorithm, CaseError> {
     CoreJwsSigningAlgorithm::from_str(text).ok_or(CaseError::NoCase)

@@ -12,13 +12,14 @@ mod answers;
 mod case;
 mod claims;
 mod displays;
+mod exchanges;
+mod headers;
 mod keys;
 mod members;
 mod operations;
 mod pkce;
+mod records;
 mod scripts;
-#[cfg(test)]
-mod tests;
 mod types;
 mod vocabularies;
 mod words;

@@ -4,7 +4,10 @@ ghost use Rattle.std.specs.Prelude.{◌≡◌};
 ghost use Rattle.vectors.specs.Operations.{operation_of};
 
 use crate::case::{Case, CaseError};
-use crate::{claims, displays, keys, members, pkce, scripts, types, vocabularies};
+use crate::{
+    claims, displays, exchanges, headers, keys, members, pkce, records, scripts, types,
+    vocabularies,
+};
 use std::alloc::Global;
 
 /// What a case asks for.
@@ -24,6 +27,17 @@ pub(crate) enum Operation {
     Challenge,
     Display,
     Run,
+    TokenResponse,
+    ErrorResponse,
+    DeviceError,
+    RevocationError,
+    DeviceResponse,
+    Introspection,
+    TokenType,
+    Essence,
+    Bearer,
+    CodeRequest,
+    TokenAnswer,
 }
 
 /// The operation of that name.
@@ -45,6 +59,17 @@ pub(crate) fn operation_named(name: &str) -> Option<Operation>
         "challenge" => Some(Operation::Challenge),
         "display" => Some(Operation::Display),
         "run" => Some(Operation::Run),
+        "token_response" => Some(Operation::TokenResponse),
+        "error_response" => Some(Operation::ErrorResponse),
+        "device_error" => Some(Operation::DeviceError),
+        "revocation_error" => Some(Operation::RevocationError),
+        "device_response" => Some(Operation::DeviceResponse),
+        "introspection" => Some(Operation::Introspection),
+        "token_type" => Some(Operation::TokenType),
+        "essence" => Some(Operation::Essence),
+        "bearer" => Some(Operation::Bearer),
+        "code_request" => Some(Operation::CodeRequest),
+        "token_answer" => Some(Operation::TokenAnswer),
         _ => None,
     }
 }
@@ -67,6 +92,17 @@ impl Operation {
             Operation::Challenge => pkce::challenge(alloc, case),
             Operation::Display => displays::display(alloc, case),
             Operation::Run => scripts::run(alloc, case),
+            Operation::TokenResponse => records::token_response(alloc, case),
+            Operation::ErrorResponse => records::error_response(alloc, case),
+            Operation::DeviceError => records::device_error(alloc, case),
+            Operation::RevocationError => records::revocation_error(alloc, case),
+            Operation::DeviceResponse => records::device_response(alloc, case),
+            Operation::Introspection => records::introspection(alloc, case),
+            Operation::TokenType => vocabularies::token_type(alloc, case),
+            Operation::Essence => headers::essence(alloc, case),
+            Operation::Bearer => headers::bearer(alloc, case),
+            Operation::CodeRequest => exchanges::code_request(alloc, case),
+            Operation::TokenAnswer => exchanges::token_answer(alloc, case),
         }
     }
 }

@@ -2,7 +2,7 @@
 
 use crate::answers::{ok_form, refused_word};
 use crate::case::{Case, CaseError};
-use oidc_login::oauth2::pkce::{PkceCodeChallenge, PkceError};
+use oidc_oauth2::{PkceCodeChallenge, PkceError};
 use oidc_pairs::FormText;
 use oidc_types::PkceCodeVerifier;
 use std::alloc::Global;
@@ -21,6 +21,6 @@ pub(crate) fn challenge(alloc: Global, case: &Case) -> Result<String, CaseError>
 fn challenge_line(alloc: Global, challenge: &PkceCodeChallenge) -> Result<String, CaseError> {
     let mut form = FormText::new(alloc);
     form.push("challenge", challenge.as_str())?;
-    form.push("method", "S256")?;
+    form.push("method", challenge.method().as_str())?;
     ok_form(alloc, form)
 }

@@ -2,6 +2,10 @@
 
 use crate::answers::ok_form;
 use crate::case::{Case, CaseError};
+use oidc_oauth2::{
+    CoreErrorResponseType, CoreTokenType, DeviceCodeErrorResponseType, RevocationErrorResponseType,
+    TokenType,
+};
 use oidc_pairs::FormText;
 use oidc_types::{
     ClosedVocabulary, CoreApplicationType, CoreAuthDisplay, CoreAuthErrorResponseType,
@@ -29,6 +33,15 @@ pub(crate) fn word(alloc: Global, case: &Case) -> Result<String, CaseError> {
         "CoreResponseMode" => open_word::<CoreResponseMode>(alloc, text),
         "CoreResponseType" => open_word::<CoreResponseType>(alloc, text),
         "CoreSubjectIdentifierType" => open_word::<CoreSubjectIdentifierType>(alloc, text),
+        kind => error_kind(alloc, kind, text),
+    }
+}
+
+fn error_kind(alloc: Global, kind: &str, text: &str) -> Result<String, CaseError> {
+    match kind {
+        "CoreErrorResponseType" => open_word::<CoreErrorResponseType>(alloc, text),
+        "DeviceCodeErrorResponseType" => open_word::<DeviceCodeErrorResponseType>(alloc, text),
+        "RevocationErrorResponseType" => open_word::<RevocationErrorResponseType>(alloc, text),
         kind => closed_kind(alloc, kind, text),
     }
 }
@@ -60,6 +73,13 @@ fn closed_word<V: ClosedVocabulary + fmt::Debug>(
         Some(word) => named(alloc, &word, word.as_ref()),
         None => Ok(String::from_str(alloc, "none")?),
     }
+}
+
+/// `token_type`: the type of tokens of a text.
+pub(crate) fn token_type(alloc: Global, case: &Case) -> Result<String, CaseError> {
+    case.check(&["text"])?;
+    let kind = CoreTokenType::read(alloc, case.value("text"))?;
+    named(alloc, &kind, kind.as_ref())
 }
 
 // The name of a word's variant, and its text.

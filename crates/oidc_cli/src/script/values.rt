@@ -1,11 +1,12 @@
 //! The values on the lines of a script.
-ghost use Rattle.std.specs.Prelude.{◌≡◌, ◌==◌, ◌<◌, [], ◌∷◌, length, slice_index, IfSome, option_map, option_and_then};
+ghost use Rattle.std.specs.Prelude.{◌≡◌, ◌==◌, ◌<◌, [], ◌∷◌, length, slice_index, IfSome, option_map, option_and_then, Some};
 ghost use Rattle.std.specs.List.{list_all, slice_split};
 ghost use Rattle.std.specs.Option.{option_map_or};
 ghost use Rattle.std.specs.String.{string_bytes};
 ghost use Rattle.http_header.specs.Token.{is_visible_or_blank};
 ghost use Rattle.oidc_types.specs.{find_word, signing_text, signing_algorithms};
 ghost use Rattle.oidc_readers.specs.Moments.{moment_at};
+ghost use Rattle.oidc_cli.specs.Values as spec;
 ghost use Rattle.oidc_cli.specs.Values.{Reads, pair_text as text_of_pair, pair_value, url_of_text, algorithms_of as algorithms_in, moment_of_text as moment_in, status_code_of as status_code_in, content_type_of as content_type_in};
 
 use crate::events::LineError;
@@ -16,8 +17,15 @@ use oidc_pairs::Pairs;
 use oidc_types::{ClosedVocabulary, CoreJwsSigningAlgorithm, Marker, UrlText, UrlTextError};
 use std::alloc::Global;
 
-// The value of the one pair with this name.
-fn only_text<'a>(line: &'a Pairs, name: &str) -> Result<&'a str, LineError>
+/// Whether a line has no pair with this name.
+pub fn lacks(line: &Pairs, name: &str) -> bool
+    ensures { result ≡ spec.lacks line.now name.now }
+{
+    line.first(name).is_none()
+}
+
+/// The value of the one pair with this name.
+pub fn only_text<'a>(line: &'a Pairs, name: &str) -> Result<&'a str, LineError>
     ensures { Reads (λ text. text.now) result (text_of_pair line.now name.now) }
 {
     line.only(name).ok_or(LineError::NoEvent)
@@ -29,6 +37,17 @@ pub fn pair_text(alloc: Global, line: &Pairs, name: &str) -> Result<String, Line
 {
     let text = only_text(line, name)?;
     Ok(String::from_str(alloc, text)?)
+}
+
+/// A copy of the value of the one pair with this name, where there is such a pair.
+pub fn optional_text(alloc: Global, line: &Pairs, name: &str) -> Result<Option<String>, LineError>
+    ensures { Reads (λ text. option_map string_bytes text) result
+        (spec.optional_value Some line.now name.now) }
+{
+    if lacks(line, name) {
+        return Ok(None);
+    }
+    Ok(Some(pair_text(alloc, line, name)?))
 }
 
 /// The URL text of the one pair with this name.
@@ -151,11 +170,26 @@ fn status_code_of(text: &str) -> Option<StatusCode>
     }
 }
 
-/// The content type of the one pair with this name.
-pub fn pair_content_type(alloc: Global, line: &Pairs, name: &str) -> Result<HeaderValue, LineError>
+// The content type of the one pair with this name.
+fn pair_content_type(alloc: Global, line: &Pairs, name: &str) -> Result<HeaderValue, LineError>
     ensures { Reads (λ v. v.bytes) result (pair_value content_type_in line.now name.now) }
 {
     content_type_of(alloc, only_text(line, name)?)
+}
+
+/// The content type of the one pair with this name, where there is such a pair.
+pub fn optional_content_type(
+    alloc: Global,
+    line: &Pairs,
+    name: &str,
+) -> Result<Option<HeaderValue>, LineError>
+    ensures { Reads (λ v. option_map (λ v. v.bytes) v) result
+        (spec.optional_value content_type_in line.now name.now) }
+{
+    if lacks(line, name) {
+        return Ok(None);
+    }
+    Ok(Some(pair_content_type(alloc, line, name)?))
 }
 
 #[tactic(auto, unfolding(crate::specs::Values::content_type_of))]

@@ -5,7 +5,7 @@ ghost use Rattle.url.specs.Setters.{append_query_pairs};
 ghost use Rattle.oidc_login.specs.Authorization.{auth_list, list_of, extended};
 
 use crate::client::Client;
-use crate::oauth2::pkce::PkceCodeChallenge;
+use oidc_oauth2::PkceCodeChallenge;
 use oidc_types::{CsrfToken, Nonce};
 use std::alloc::{AllocError, Global};
 use std::marker::Model;

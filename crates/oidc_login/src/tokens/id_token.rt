@@ -10,13 +10,13 @@ ghost use Rattle.oidc_login.specs.IdToken as spec;
 ghost use Rattle.oidc_login.specs.IdToken.{token_of};
 ghost use Rattle.oidc_login.specs.Reading.{Reads};
 
-use crate::oauth2::transport::Body;
 use crate::tokens::claims::{IdTokenClaims, claims_in};
 use crate::tokens::header::algorithm_in;
 use crate::tokens::reading::{Unread, members_in};
 use base64::DecodeAllocError;
 use base64::engine::general_purpose::URL_SAFE_NO_PAD;
 use oidc_members::Members;
+use oidc_oauth2::Body;
 use oidc_types::CoreJwsSigningAlgorithm;
 use std::alloc::Global;
 use std::marker::Model;

@@ -1,4 +1,4 @@
-use Rattle.std.proofs.Common.{◌≡◌, inl, inr, sym, ◌∙◌}
+use Rattle.std.proofs.Common.{inl, inr, sym, ◌∙◌}
 use Rattle.oidc_cli.proofs.Statuses.{same_of, ends_in_fault, done_without_fault, fault_with_line, whole_at, begun_at, short_without_fault, completes}
 use Rattle.oidc_cli.proofs.program.run.Goals as goal
 

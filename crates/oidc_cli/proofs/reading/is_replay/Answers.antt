@@ -1,4 +1,3 @@
-use Rattle.std.proofs.Common.{◌≡◌}
 use Rattle.oidc_cli.proofs.OneWord.{is_one}
 use Rattle.oidc_cli.proofs.reading.is_replay.Goals as goal
 

@@ -1,4 +1,4 @@
-use Rattle.std.proofs.Common.{◌≡◌, ◌++◌, take, arith}
+use Rattle.std.proofs.Common.{◌++◌, take, arith}
 use Rattle.std.proofs.lemmas.Grind.{common_steps}
 use Rattle.oidc_cli.proofs.Passing.{Takes-append}
 use Rattle.oidc_cli.proofs.reading.read_script.Goals as goal

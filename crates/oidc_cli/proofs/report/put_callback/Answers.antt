@@ -1,4 +1,3 @@
-use Rattle.std.proofs.Common.{◌≡◌, ◌∙◌}
 use Rattle.oidc_cli.proofs.Passing.{on_err}
 use Rattle.oidc_cli.proofs.report.put_callback.Goals as goal
 

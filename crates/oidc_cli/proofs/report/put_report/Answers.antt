@@ -1,7 +1,7 @@
-use Rattle.std.proofs.Common.{◌≡◌, ◌<◌, ◌≤◌, length, codes, Some, refl, sym, ap, ◌∙◌, arith}
+use Rattle.std.proofs.Common.{◌<◌, ◌≤◌, length, codes, refl, arith}
 use Rattle.std.specs.FinMap as finite
-use Rattle.oidc_cli.specs.Script.{limit, lines, fault_from, fault_of}
-use Rattle.oidc_cli.specs.Report.{client_of, rest_of_report, report}
+use Rattle.oidc_cli.specs.Script.{limit, lines, fault_from}
+use Rattle.oidc_cli.specs.Report.{client_of, rest_of_report}
 use Rattle.oidc_cli.proofs.Passing.{prefix_front, on_err, on_ok_behind, on_err_behind}
 use Rattle.oidc_cli.proofs.Steps.{too_long_report, too_long_fault, fault_alone, no_lines_fault, no_client_fault, with_client_report, with_client_fault}
 use Rattle.oidc_cli.proofs.report.put_report.Goals as goal

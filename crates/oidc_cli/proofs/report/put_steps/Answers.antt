@@ -1,7 +1,7 @@
 use Rattle.std.proofs.Common.{◌≡◌, ◌+◌, [], refl, sym, ap, ◌∙◌, arith}
 use Rattle.oidc_cli.specs.Script.{lines, fault_from}
 use Rattle.oidc_cli.specs.ReportLines.{fault_line, pending_line}
-use Rattle.oidc_cli.specs.Report.{step_lines, store_after, rest_of_report}
+use Rattle.oidc_cli.specs.Report.{step_lines, store_after}
 use Rattle.oidc_cli.proofs.Passing.{put_more, put_all, put_prefix, put_last_prefix, prefix_so_far, on_err, on_ok_weaker, on_err_weaker}
 use Rattle.oidc_cli.proofs.Cuts.{lines_nil}
 use Rattle.oidc_cli.proofs.Steps.{first_step, step_first, later_fault, fault_here, rest_at_fault, rest_at_end, same_rest}

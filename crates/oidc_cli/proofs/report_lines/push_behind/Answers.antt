@@ -1,4 +1,4 @@
-use Rattle.std.proofs.Common.{◌≡◌, ◌++◌, sym, append_assoc, append-nil}
+use Rattle.std.proofs.Common.{append_assoc, append-nil}
 use Rattle.oidc_cli.proofs.report_lines.push_behind.Goals as goal
 
 pub returns : goal.returns

@@ -1,4 +1,4 @@
-use Rattle.std.proofs.Common.{◌≡◌, ◌++◌, sym, append_assoc}
+use Rattle.std.proofs.Common.{append_assoc}
 use Rattle.oidc_cli.proofs.report_lines.push_first.Goals as goal
 
 pub returns : goal.returns

@@ -1,4 +1,4 @@
-use Rattle.std.proofs.Common.{◌≡◌, sym, ◌∙◌, arith}
+use Rattle.std.proofs.Common.{sym, ◌∙◌, arith}
 use Rattle.std.proofs.lemmas.Bool.Decides.{nat_tests}
 use Rattle.oidc_cli.proofs.Cuts.{lines_at, lines_last}
 use Rattle.oidc_cli.proofs.script.first_line.Goals as goal

@@ -1,4 +1,4 @@
-use Rattle.std.proofs.Common.{◌≡◌, sym, ◌∙◌}
+use Rattle.std.proofs.Common.{sym, ◌∙◌}
 use Rattle.oidc_cli.proofs.Algorithms.{read_unknown, read_all, algorithms_of_none, algorithms_of_some}
 use Rattle.oidc_cli.proofs.script.values.algorithms_of.Goals as goal
 

@@ -1,4 +1,4 @@
-use Rattle.std.proofs.Common.{◌≡◌, Some, sym, ap, ◌∙◌}
+use Rattle.std.proofs.Common.{Some, sym, ap, ◌∙◌}
 use Rattle.oidc_cli.proofs.ContentTypes.{is_content_type, is_no_content_type}
 use Rattle.oidc_cli.proofs.script.values.content_type_of.Goals as goal
 

@@ -1,4 +1,4 @@
-use Rattle.std.proofs.Common.{◌≡◌, sym, ◌∙◌}
+use Rattle.std.proofs.Common.{sym}
 use Rattle.oidc_cli.proofs.Numbers.{parsed_seconds, plus_is_no_moment}
 use Rattle.oidc_cli.proofs.script.values.seconds_of.Goals as goal
 

@@ -1,4 +1,4 @@
-use Rattle.std.proofs.Common.{◌≡◌, Ok, Err, sym, ◌∙◌}
+use Rattle.std.proofs.Common.{sym}
 use Rattle.oidc_cli.proofs.Numbers.{other_length_is_no_status, plus_is_no_status, unread_is_no_status, read_status}
 use Rattle.oidc_cli.proofs.script.values.status_code_of.Goals as goal
 

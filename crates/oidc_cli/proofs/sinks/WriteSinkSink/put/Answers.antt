@@ -1,4 +1,4 @@
-use Rattle.std.proofs.Common.{◌≡◌, sym, ◌∙◌}
+use Rattle.std.proofs.Common.{sym, ◌∙◌}
 use Rattle.oidc_cli.proofs.Passing.{on_err}
 use Rattle.oidc_cli.proofs.Writing.{written_more, prefix_after, unfinished}
 use Rattle.oidc_cli.proofs.sinks.WriteSinkSink.put.Goals as goal

@@ -1,0 +1,14 @@
+use Rattle.oidc_login.proofs.Answers.{tokens_given, refusal_given, no_fault_given, of_token_spent}
+use Rattle.oidc_login.proofs.steps.tokens_in.Goals as goal
+
+pub returns-in-Ok-clause-gives : goal.returns-in-Ok-clause-gives
+returns-in-Ok-clause-gives g c = tokens_given _ _ c.in-Ok.ensures.answer
+
+pub returns-in-Err-clause-gives : goal.returns-in-Err-clause-gives
+returns-in-Err-clause-gives g c = rw c.of_token.ensures (refusal_given _ _ c.in-Err.ensures.answer)
+
+pub returns-in-Err-clause-no_fault : goal.returns-in-Err-clause-no_fault
+returns-in-Err-clause-no_fault g c = rw c.of_token.ensures (no_fault_given _ _ c.in-Err.ensures.answer)
+
+pub returns-in-Err-clause-spent : goal.returns-in-Err-clause-spent
+returns-in-Err-clause-spent g c = rw c.of_token.ensures (of_token_spent _)

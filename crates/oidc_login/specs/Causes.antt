@@ -1,0 +1,176 @@
+-- What each reply to a callback rests on, said without the table.
+use Rattle.std.specs.Prelude.{◌≡◌, ◌≢◌, ◌⊎◌, ℕ, List, [], None, Some, false, true, Ok, Err, codes}
+use Rattle.oidc_pairs.specs.Pairs.{pairs, values, only_of}
+use Rattle.oidc_oauth2.specs.Messages.{SeenRequest, SeenResponse, SeenAnswer}
+use Rattle.oidc_oauth2.specs.Transport.{first_of}
+use Rattle.oidc_oauth2.specs.TokenAnswers.{is_over_long}
+use Rattle.oidc_oauth2.specs.declared.token_answers.OtherCause.TheVariants as other
+use Rattle.oidc_oauth2.specs.declared.token_answers.RequestTokenError.TheVariants as token_error
+use Rattle.oidc_login.specs.Logins.{SeenLogin}
+use Rattle.oidc_login.specs.TokenRequest.{token_request}
+use Rattle.oidc_login.specs.TokenResponse.{Tokens, TokenError, tokens_or_refusal}
+use Rattle.oidc_login.specs.IdToken.{SeenIdToken, token_of}
+use Rattle.oidc_login.specs.Verification.{Accepts, first_failure}
+use Rattle.oidc_login.specs.SignedIn.{SeenSignedIn}
+use Rattle.oidc_login.specs.Errors.{Error}
+use Rattle.oidc_login.specs.Rows.{Attempt, login_named_by}
+use Rattle.oidc_login.specs.declared.errors.TooLong.{TooLong}
+use Rattle.oidc_login.specs.declared.errors.TooLong.TheVariants as place
+use Rattle.oidc_login.specs.declared.errors.LoginError.TheVariants as login
+use Rattle.oidc_login.specs.declared.tokens.verification.ClaimsVerificationError.{ClaimsVerificationError}
+
+-- ---- how far a callback came: each record rests on the one before
+
+module _ (a : Attempt) where
+  -- the query names this pending login by its one `state`
+  pub record Names (login : SeenLogin) : Type 0 where
+    pub login_named : login_named_by a.pending (pairs a.query) ≡ Some login
+
+  -- it has no `error` and one `code`
+  pub record HasCode (login : SeenLogin) (code : List ℕ) : Type 0 where
+    pub names : Names login
+    pub no_error : values a.query (codes "error") ≡ []
+    pub one_code : only_of (values a.query (codes "code")) ≡ Some code
+
+  -- for which this is the token request
+  pub record Asks (login : SeenLogin) (request : SeenRequest) : Type 0 where
+    pub code : List ℕ
+    pub has_code : HasCode login code
+    pub request_made : token_request a.client login code ≡ Some request
+
+  -- no pending login asks for a request by the query
+  abbrev pub AsksNothing : Type 0
+  AsksNothing = (login : SeenLogin) (request : SeenRequest) → Asks login request → ⊥
+
+  -- ---- refusals that rest on client, store and query alone
+
+  -- the query has an `error`
+  pub record HasError : Type 0 where
+    pub login : SeenLogin
+    pub names : Names login
+    pub some_error : values a.query (codes "error") ≢ []
+
+  -- it has no `error`, and not one `code`
+  pub record LacksCode : Type 0 where
+    pub login : SeenLogin
+    pub names : Names login
+    pub no_error : values a.query (codes "error") ≡ []
+    pub not_one_code : only_of (values a.query (codes "code")) ≡ None
+
+  -- no token request is made, since its address isn't one that is sent to
+  pub record HasNoRequest : Type 0 where
+    pub login : SeenLogin
+    pub code : List ℕ
+    pub has_code : HasCode login code
+    pub no_request : token_request a.client login code ≡ None
+
+-- a login, the tokens that came for it, and the ID token among them
+pub record Held : Type 0 where
+  pub login : SeenLogin
+  pub tokens : Tokens
+  pub token : SeenIdToken
+
+module _ (a : Attempt) (answers : List SeenAnswer) where
+  -- this response came to the token request
+  pub record Answered (login : SeenLogin) (response : SeenResponse) : Type 0 where
+    pub request : SeenRequest
+    pub asked : Asks a login request
+    pub response_came : first_of answers ≡ Some response
+    pub not_too_long : is_over_long response.body ≡ false
+
+  -- and holds these tokens
+  pub record Reads (login : SeenLogin) (tokens : Tokens) : Type 0 where
+    pub response : SeenResponse
+    pub answered : Answered login response
+    pub tokens_in_response : tokens_or_refusal response ≡ Ok tokens
+
+  -- with the text of an ID token
+  pub record HasText (login : SeenLogin) (tokens : Tokens) (text : List ℕ) : Type 0 where
+    pub reads : Reads login tokens
+    pub own_text : tokens.extra_fields.id_token ≡ Some text
+
+  -- which is this ID token
+  pub record Holds (h : Held) : Type 0 where
+    pub text : List ℕ
+    pub has_text : HasText h.login h.tokens text
+    pub own_id_token : token_of text ≡ Some h.token
+
+  -- ---- an Ok
+
+  -- A user who is signed in: the ID token came in the answer to the token request of the named
+  -- login, and is accepted with that login's nonce at this moment.
+  pub record IsSignedIn (signed : SeenSignedIn) : Type 0 where
+    pub held : Held
+    pub holds : Holds held
+    pub accepted : Accepts a.client held.login.nonce a.now held.token
+    pub own_id_token : signed.id_token ≡ held.token
+    pub own_access_token : signed.access_token ≡ held.tokens.access_token
+    pub own_refresh_token : signed.refresh_token ≡ held.tokens.refresh_token
+
+  -- ---- refusals by what came
+
+  -- the transport failed on the token request
+  pub record HasNoResponse : Type 0 where
+    pub login : SeenLogin
+    pub request : SeenRequest
+    pub asked : Asks a login request
+    pub no_response : first_of answers ≡ None
+
+  -- the body of its response is too long
+  pub record HasLongResponse : Type 0 where
+    pub login : SeenLogin
+    pub request : SeenRequest
+    pub asked : Asks a login request
+    pub response : SeenResponse
+    pub response_came : first_of answers ≡ Some response
+    pub too_long : is_over_long response.body ≡ true
+
+  -- its response is refused
+  pub record HasNoTokens (e : TokenError) : Type 0 where
+    pub login : SeenLogin
+    pub response : SeenResponse
+    pub answered : Answered login response
+    pub refused : tokens_or_refusal response ≡ Err e
+
+  -- the tokens have no ID token among them
+  pub record LacksIdToken : Type 0 where
+    pub login : SeenLogin
+    pub tokens : Tokens
+    pub reads : Reads login tokens
+    pub no_text : tokens.extra_fields.id_token ≡ None
+
+  -- the text of the ID token isn't plain
+  pub record HasOtherText : Type 0 where
+    pub login : SeenLogin
+    pub tokens : Tokens
+    pub text : List ℕ
+    pub has_text : HasText login tokens text
+    pub not_plain : token_of text ≡ None
+
+  -- this check of the ID token is the first that fails
+  pub record FailsCheck (kind : ClaimsVerificationError) : Type 0 where
+    pub held : Held
+    pub holds : Holds held
+    pub check_failed : first_failure a.client held.login.nonce a.now held.token ≡ Some kind
+
+  -- ---- the cause of each refusal
+
+  abbrev pub TooLongCause : TooLong → Type 0
+  TooLongCause place.TokenAnswer = HasLongResponse
+
+  abbrev pub TokenCause : TokenError → Type 0
+  TokenCause (token_error.Other other.Uri) = HasNoRequest a
+  TokenCause (token_error.Request cause) = HasNoResponse
+  TokenCause (token_error.TooLong body) = ⊥
+  TokenCause token_error.Memory = ⊥
+  TokenCause e = HasNoTokens e
+
+  abbrev pub Cause : Error → Type 0
+  Cause (login.TooLong at) = TooLongCause at
+  Cause login.State = login_named_by a.pending (pairs a.query) ≡ None
+  Cause login.Unbuilt = HasError a ⊎ HasOtherText
+  Cause login.Callback = LacksCode a
+  Cause (login.Token e) = TokenCause e
+  Cause login.NoIdToken = LacksIdToken
+  Cause (login.Claims kind) = FailsCheck kind
+  Cause (login.Memory spent) = ⊥

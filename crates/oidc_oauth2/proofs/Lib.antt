@@ -1,0 +1,8 @@
+pub mod Theorems
+mod Bearers
+mod Credentials
+mod Cuts
+mod Exchanged
+mod FaultCounts
+mod PairLists
+mod Unknown

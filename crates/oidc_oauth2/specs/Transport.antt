@@ -1,0 +1,58 @@
+-- What contracts say of a transport: what went over it, what it promises, and how often it failed.
+use Rattle.std.specs.Prelude.{◌≡◌, ◌⊎◌, ℕ, zero, suc, ◌-◌, ◌^◌, ◌<◌, List, [], ◌∷◌, ◌++◌, length, drop, Option, None, Some, Result, Ok, Err}
+use Rattle.http.specs.declared.response.Response.{Response}
+use Rattle.oidc_oauth2.specs.Messages.{SeenRequest, SeenAnswer, seen_response}
+use Rattle.oidc_oauth2.specs.declared.transport.CallError.{CallError}
+use Rattle.oidc_oauth2.specs.declared.transport.CallError.TheVariants.{Transport, Memory}
+
+-- the requests that were handed over, faulted ones too, and the answers that were given
+pub record Log : Type 0 where
+  pub requests : List SeenRequest
+  pub answers : List SeenAnswer
+
+-- the log behind further requests and answers, where there is one
+abbrev pub log_after : Option Log → List SeenRequest → List SeenAnswer → Option Log
+log_after None requests answers = None
+log_after (Some log) requests answers =
+    Some (record { requests = log.requests ++ requests; answers = log.answers ++ answers })
+
+abbrev pub CallResult : Type 0 → Type 0
+CallResult E = Result (Response (List ℕ)) (CallError E)
+
+-- A call hands over its request and gives one answer; for want of memory it does neither.
+abbrev pub IsLogged : {E : Type 0} → Option Log → Option Log → SeenRequest → CallResult E → Type 0
+IsLogged old new request (Ok response) = new ≡ log_after old (request ∷ []) (Some (seen_response response) ∷ [])
+IsLogged old new request (Err (Transport e)) = new ≡ log_after old (request ∷ []) (None ∷ [])
+IsLogged old new request (Err Memory) = new ≡ old
+
+-- ---- the answers of a list, one after another, and faults when it is at its end
+
+abbrev pub first_of : List SeenAnswer → SeenAnswer
+first_of [] = None
+first_of (answer ∷ later) = answer
+
+abbrev pub played : List SeenAnswer → ℕ → List SeenAnswer
+played script zero = []
+played script (suc n) = first_of script ∷ played (drop 1 script) n
+
+-- These answers are the next ones of a script, and the others are left. Without a script any may come.
+abbrev pub Plays : Option (List SeenAnswer) → List SeenAnswer → Option (List SeenAnswer) → Type 0
+Plays None answers left = left ≡ None
+Plays (Some script) answers left = (answers ≡ played script (length answers)) × (left ≡ Some (drop (length answers) script))
+
+-- the answer that a call gave, where it gave one
+abbrev pub answers_in : {E : Type 0} → CallResult E → List SeenAnswer
+answers_in (Ok response) = Some (seen_response response) ∷ []
+answers_in (Err (Transport e)) = None ∷ []
+answers_in (Err Memory) = []
+
+-- ---- faults
+
+-- a count has risen, or stands at the last value of 64 bits
+abbrev pub HasRisen : ℕ → ℕ → Type 0
+HasRisen before now = (before < now) ⊎ (now ≡ 2 ^ 64 - 1)
+
+-- A fault comes only where the count has risen, or stands at its last value.
+abbrev pub IsBlamed : {E : Type 0} → ℕ → ℕ → CallResult E → Type 0
+IsBlamed before now (Err (Transport e)) = HasRisen before now
+IsBlamed before now result = Unit {0}

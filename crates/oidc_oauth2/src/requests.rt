@@ -1,0 +1,292 @@
+//! The request that exchanges a code for tokens (RFC 6749 section 4.1.3).
+
+ghost use Rattle.std.specs.Prelude.{◌≡◌, ◌≤◌, ◌++◌, ◌∷◌, [], None, Some, IfOk, OnOk, map};
+ghost use Rattle.std.specs.List.{list_all};
+ghost use Rattle.std.specs.Option.{option_copied};
+ghost use Rattle.std.specs.String.{string_bytes};
+ghost use Rattle.url.specs.Parts.{serialize};
+ghost use Rattle.http_header.specs.FieldValue.{plain_value};
+ghost use Rattle.oidc_oauth2.specs.ClientAuth.{seen_client};
+ghost use Rattle.oidc_oauth2.specs.Exchanges.{Exchanges, IsRequestBlamed, known};
+ghost use Rattle.oidc_oauth2.specs.TokenAnswers.{token_answer as worth_of};
+ghost use Rattle.oidc_oauth2.specs.Requests as spec;
+
+use crate::client_auth::{ClientAuth, authorization, push_client, push_optional};
+use crate::error_response::ErrorResponse;
+use crate::token::OAuth2TokenResponse;
+use crate::token_answers::{OtherCause, RequestTokenError, token_answer};
+use crate::transport::{Body, CallError, HttpRequest, SyncHttpClient};
+use http::Method;
+use http_header::{ACCEPT, AUTHORIZATION, CONTENT_TYPE, HeaderMap, HeaderMapError, HeaderValue};
+use oidc_pairs::FormText;
+use oidc_types::{AuthorizationCode, PkceCodeVerifier, RedirectUrl, TokenUrl};
+use std::alloc::{AllocError, Global};
+use std::marker::{Model, PhantomData};
+use thiserror::Error;
+
+/// The most bytes that an address may have.
+const MAX_ADDRESS: usize = 65_534;
+
+/// Why a request isn't made.
+#[derive(Clone, Copy, Debug, Error, PartialEq, Eq)]
+pub enum PrepareError {
+    /// The endpoint's address is too long, or has other bytes than visible ASCII.
+    #[error("an address that is not sent to")]
+    Uri,
+    /// There was no memory.
+    #[error("out of memory")]
+    Memory,
+}
+
+impl From<AllocError> for PrepareError {
+    ghost use Rattle.std.specs.Prelude.{◌≡◌};
+    ghost use Rattle.oidc_oauth2.specs.declared.requests.PrepareError.TheVariants.{Memory};
+
+    ghost from_gives = { λ _ error. error ≡ Memory };
+
+    fn from(_refused: AllocError) -> PrepareError {
+        PrepareError::Memory
+    }
+}
+
+fn is_visible_byte(byte: u8) -> bool
+    ensures { result ≡ spec.is_visible_byte byte }
+{
+    0x21 <= byte && byte <= 0x7E
+}
+
+// Whether bytes are visible ASCII.
+fn is_visible(bytes: &[u8]) -> bool
+    ensures { result ≡ list_all spec.is_visible_byte bytes.now }
+{
+    bytes.iter().all(|byte| is_visible_byte(*byte))
+}
+
+// Whether requests are sent to an address.
+fn is_address(address: &str) -> bool
+    ensures { result ≡ spec.is_address address.now }
+{
+    address.len() <= MAX_ADDRESS && is_visible(address.as_bytes())
+}
+
+// The headers of a request, with any credentials.
+fn headers_with(
+    alloc: Global,
+    authorization: Option<HeaderValue>,
+) -> Result<HeaderMap, HeaderMapError>
+    ensures { IfOk result (λ headers. headers ≡ spec.headers_with authorization) }
+{
+    let mut headers = HeaderMap::new(alloc);
+    headers.insert(ACCEPT, HeaderValue::from_static("application/json"))?;
+    headers.insert(
+        CONTENT_TYPE,
+        HeaderValue::from_static("application/x-www-form-urlencoded"),
+    )?;
+    if let Some(credentials) = authorization {
+        headers.insert(AUTHORIZATION, credentials)?;
+    }
+    Ok(headers)
+}
+
+// The headers of a client's request.
+fn headers_for(alloc: Global, auth: &ClientAuth<'_>) -> Result<HeaderMap, AllocError>
+    ensures { IfOk result (λ headers. headers ≡ spec.request_headers (seen_client auth.now)) }
+{
+    let authorization = authorization(alloc, auth)?;
+    match headers_with(alloc, authorization) {
+        Ok(headers) => Ok(headers),
+        Err(_) => Err(AllocError),
+    }
+}
+
+// The POST of a form to an address.
+fn post(
+    alloc: Global,
+    address: &str,
+    auth: &ClientAuth<'_>,
+    form: FormText,
+) -> Result<HttpRequest, AllocError>
+    ensures { IfOk result
+        (λ request. request ≡ spec.post_of address.now (seen_client auth.now) form) }
+{
+    let address = String::from_str(alloc, address)?;
+    let headers = headers_for(alloc, auth)?;
+    let body = Body::new(form.into_string().into_bytes());
+    Ok(HttpRequest::new(Method::POST, address, headers, body))
+}
+
+// Adds each pair.
+fn push_all(form: &mut FormText, pairs: &[(String, String)]) -> Result<(), AllocError>
+    ensures { OnOk result
+        (form.new ≡ form.old ++ map (λ p. (string_bytes p.0, string_bytes p.1)) pairs.now) }
+{
+    for (name, value) in pairs {
+        form.push(name.as_str(), value.as_str())?;
+    }
+    Ok(())
+}
+
+/// The request that exchanges a code for tokens. `TE` is the error response, `TR` the token
+/// response. Contracts see its address, which is the text of the endpoint's parsed URL, the client,
+/// the code, its verifier, the text of the redirect, and the extra pairs.
+#[derive(Drop)]
+pub struct CodeTokenRequest<'a, TE, TR> {
+    endpoint: &'a TokenUrl,
+    auth: ClientAuth<'a>,
+    code: AuthorizationCode,
+    verifier: Option<PkceCodeVerifier>,
+    redirect_uri: Option<&'a RedirectUrl>,
+    extra_params: Vec<(String, String)>,
+    of: PhantomData<(TE, TR)>,
+}
+
+impl<'a, TE, TR> Model for CodeTokenRequest<'a, TE, TR> {
+    ghost use Rattle.std.specs.Prelude.{map, option_map};
+    ghost use Rattle.std.specs.Option.{option_copied};
+    ghost use Rattle.std.specs.String.{string_bytes};
+    ghost use Rattle.url.specs.Parts.{serialize};
+    ghost use Rattle.oidc_oauth2.specs.ClientAuth.{seen_client};
+    ghost use Rattle.oidc_oauth2.specs.Requests.{SeenCodeRequest};
+
+    ghost Value = { SeenCodeRequest };
+
+    ghost view = { λ r. record {
+      address = serialize r.endpoint.now.url;
+      client = seen_client r.auth;
+      code = r.code;
+      verifier = r.verifier;
+      redirect_uri = option_map (λ u. u.text) (option_copied r.redirect_uri);
+      extra = map (λ p. (string_bytes p.0, string_bytes p.1)) r.extra_params.items;
+    } };
+}
+
+impl<'a, TE, TR> CodeTokenRequest<'a, TE, TR> {
+    /// The request for a code, without verifier, redirect and extra pairs. It takes no memory.
+    pub fn new(
+        alloc: Global,
+        endpoint: &'a TokenUrl,
+        auth: ClientAuth<'a>,
+        code: AuthorizationCode,
+    ) -> Self
+        ensures kept { result ≡ record {
+          address = serialize endpoint.now.url;
+          client = seen_client auth.entry;
+          code = code;
+          verifier = None;
+          redirect_uri = None;
+          extra = [];
+        } }
+    {
+        CodeTokenRequest {
+            endpoint,
+            auth,
+            code,
+            verifier: None,
+            redirect_uri: None,
+            extra_params: Vec::new(alloc),
+            of: PhantomData,
+        }
+    }
+
+    /// With this verifier of the authorization request's challenge (RFC 7636 section 4.5).
+    pub fn set_pkce_verifier(mut self, verifier: PkceCodeVerifier) -> Self
+        ensures set { result ≡ record self.entry { verifier = Some verifier } }
+    {
+        self.verifier = Some(verifier);
+        self
+    }
+
+    /// With the redirect of the authorization request, which is sent as its text was given.
+    pub fn set_redirect_uri(mut self, redirect: &'a RedirectUrl) -> Self
+        ensures set { result ≡ record self.entry { redirect_uri = Some redirect.now.text } }
+    {
+        self.redirect_uri = Some(redirect);
+        self
+    }
+
+    /// With one more pair behind all others. `AllocError` is want of memory, the one error.
+    pub fn add_extra_param(mut self, name: String, value: String) -> Result<Self, AllocError>
+        ensures added { IfOk result (λ request. request ≡ record self.entry {
+          extra = self.entry.extra ++ (string_bytes name, string_bytes value) ∷ [];
+        }) }
+    {
+        self.extra_params.push((name, value))?;
+        Ok(self)
+    }
+
+    // The pairs of the request.
+    fn form(&self, alloc: Global) -> Result<FormText, AllocError>
+        ensures { IfOk result (λ form. form ≡ spec.code_pairs self.now) }
+    {
+        let mut form = FormText::new(alloc);
+        form.push("grant_type", "authorization_code")?;
+        form.push("code", self.code.secret())?;
+        push_optional(&mut form, "code_verifier", self.verifier_text())?;
+        push_client(&mut form, &self.auth)?;
+        push_optional(&mut form, "redirect_uri", self.redirect_text())?;
+        push_all(&mut form, &self.extra_params)?;
+        Ok(form)
+    }
+
+    fn verifier_text(&self) -> Option<&str>
+        ensures { option_copied result ≡ self.now.verifier }
+    {
+        match &self.verifier {
+            None => None,
+            Some(verifier) => Some(verifier.secret()),
+        }
+    }
+
+    fn redirect_text(&self) -> Option<&str>
+        ensures { option_copied result ≡ self.now.redirect_uri }
+    {
+        match self.redirect_uri {
+            None => None,
+            Some(redirect) => Some(redirect.as_str()),
+        }
+    }
+
+    /// The request as it is handed over: a POST to the endpoint. `Uri` exactly where its address has
+    /// more than 65,534 bytes, or one that isn't from 0x21 to 0x7E.
+    #[tactic(auto, unfolding(crate::specs::Requests::code_request))]
+    pub fn prepare(&self, alloc: Global) -> Result<HttpRequest, PrepareError>
+        ensures prepared { spec.Prepares result (spec.code_request self.now) }
+    {
+        let address = self.endpoint.url().as_str();
+        if !is_address(address) {
+            return Err(PrepareError::Uri);
+        }
+        let form = self.form(alloc)?;
+        let request = post(alloc, address, &self.auth, form)?;
+        Ok(request)
+    }
+}
+
+impl<'a, TE: ErrorResponse, TR: OAuth2TokenResponse> CodeTokenRequest<'a, TE, TR> {
+    /// Hands the request of `prepare` over, and answers what the response is worth. On `Uri` nothing
+    /// is handed over, and `Request` comes only where the transport failed.
+    pub fn request<C: SyncHttpClient>(
+        self,
+        alloc: Global,
+        http: &mut C,
+    ) -> Result<TR, RequestTokenError<C::Error, TE>>
+        requires { C.ready http.old }
+        ensures again { C.ready http.new }
+        ensures exchanges { let worth = worth_of TE.read_of TR.read_of in
+            let before = known (C.log http.old) (C.script http.old) in
+            let after = known (C.log http.new) (C.script http.new) in
+            Exchanges worth (spec.code_request self.entry) before after result }
+        ensures never_falls { C.faults http.old ≤ C.faults http.new }
+        ensures blamed { IsRequestBlamed (C.faults http.old) (C.faults http.new) result }
+    {
+        match self.prepare(alloc) {
+            Err(PrepareError::Uri) => Err(RequestTokenError::Other(OtherCause::Uri)),
+            Err(PrepareError::Memory) => Err(RequestTokenError::Memory),
+            Ok(request) => match http.call(alloc, request) {
+                Err(CallError::Memory) => Err(RequestTokenError::Memory),
+                Err(CallError::Transport(error)) => Err(RequestTokenError::Request(error)),
+                Ok(response) => token_answer(alloc, response),
+            },
+        }
+    }
+}

@@ -1,0 +1,147 @@
+//! What a response to a token request is worth (RFC 6749 sections 5.1 and 5.2).
+
+ghost use Rattle.std.specs.Prelude.{◌≡◌, ◌==◌};
+ghost use Rattle.oidc_members.specs.Answers.{Answers};
+ghost use Rattle.oidc_oauth2.specs.Messages.{seen_response};
+ghost use Rattle.oidc_oauth2.specs.TokenAnswers as spec;
+
+use crate::error_response::{ErrorResponse, StandardErrorResponse};
+use crate::error_types::CoreErrorResponseType;
+use crate::http_utils::check_content_type;
+use crate::token::OAuth2TokenResponse;
+use crate::transport::{Body, HttpResponse};
+use oidc_members::{Members, ParseError, Refusal};
+use std::alloc::Global;
+use thiserror::Error;
+
+/// The most bytes that a body may have.
+const MAX_BODY: usize = 1_048_576;
+
+/// Other causes for which there is no answer.
+#[derive(Clone, Copy, Debug, Error, PartialEq, Eq)]
+pub enum OtherCause {
+    /// The endpoint's address is too long, or has other bytes than visible ASCII. Nothing was handed
+    /// over.
+    #[error("an address that is not sent to")]
+    Uri,
+    /// The body is empty.
+    #[error("an empty body")]
+    EmptyBody,
+    /// The media type of a response of status 200 isn't that of JSON.
+    #[error("another media type than JSON")]
+    MediaType,
+}
+
+/// Why a request has no answer. `RE` is the transport's error, `T` the error response. `Debug` shows
+/// neither a body nor an error response of this crate.
+#[derive(Debug, Drop, Error)]
+pub enum RequestTokenError<RE, T> {
+    /// The server refused the request, and says why.
+    #[error("the server refused the request")]
+    ServerResponse(T),
+    /// The request, or its response, failed on its way.
+    #[error("the request failed")]
+    Request(RE),
+    /// The body doesn't read, for this reason.
+    #[error("the response does not read: {0}")]
+    Parse(Refusal, Body),
+    /// Another cause.
+    #[error("{0}")]
+    Other(OtherCause),
+    /// The body has more than 1,048,576 bytes.
+    #[error("the response is too long")]
+    TooLong(Body),
+    /// There was no memory.
+    #[error("out of memory")]
+    Memory,
+}
+
+/// Why a request to a token endpoint has no answer.
+pub type CoreRequestTokenError<RE> = RequestTokenError<
+    RE,
+    StandardErrorResponse<CoreErrorResponseType>,
+>;
+
+// Whether a response has no media type, or that of JSON.
+fn may_be_json(response: &HttpResponse) -> bool
+    ensures { result ≡ spec.may_be_json (seen_response response.now) }
+{
+    check_content_type(response.headers(), "application/json").is_ok()
+}
+
+// The error response that a body holds.
+fn error_in<TE: ErrorResponse>(alloc: Global, body: &Body) -> Result<TE, ParseError>
+    ensures { Answers (spec.record_in TE.read_of body.now) result }
+{
+    let members = Members::split(alloc, body.as_slice())?;
+    TE::read(alloc, &members)
+}
+
+// The token response that a body holds.
+fn response_in<TR: OAuth2TokenResponse>(alloc: Global, body: &Body) -> Result<TR, ParseError>
+    ensures { Answers (spec.record_in TR.read_of body.now) result }
+{
+    let members = Members::split(alloc, body.as_slice())?;
+    TR::read(alloc, &members)
+}
+
+// What an answer of another status than 200 is worth.
+#[tactic(auto, unfolding(crate::specs::TokenAnswers::refusal_in))]
+fn refusal_in<RE, TE: ErrorResponse>(alloc: Global, body: Body) -> RequestTokenError<RE, TE>
+    ensures { spec.GivesError result (spec.refusal_in TE.read_of body) }
+{
+    if body.as_slice().is_empty() {
+        return RequestTokenError::Other(OtherCause::EmptyBody);
+    }
+    match error_in::<TE>(alloc, &body) {
+        Ok(error) => RequestTokenError::ServerResponse(error),
+        Err(ParseError::Refused(refusal)) => RequestTokenError::Parse(refusal, body),
+        Err(ParseError::Memory) => RequestTokenError::Memory,
+    }
+}
+
+// What an answer of status 200 is worth.
+#[tactic(auto, unfolding(crate::specs::TokenAnswers::tokens_in))]
+fn tokens_in<RE, TE: ErrorResponse, TR: OAuth2TokenResponse>(
+    alloc: Global,
+    may_be_json: bool,
+    body: Body,
+) -> Result<TR, RequestTokenError<RE, TE>>
+    ensures { spec.Gives result (spec.tokens_in TR.read_of may_be_json body) }
+{
+    if !may_be_json {
+        return Err(RequestTokenError::Other(OtherCause::MediaType));
+    }
+    if body.as_slice().is_empty() {
+        return Err(RequestTokenError::Other(OtherCause::EmptyBody));
+    }
+    match response_in::<TR>(alloc, &body) {
+        Ok(response) => Ok(response),
+        Err(ParseError::Refused(refusal)) => Err(RequestTokenError::Parse(refusal, body)),
+        Err(ParseError::Memory) => Err(RequestTokenError::Memory),
+    }
+}
+
+/// What a response to a token request is worth: the token response, or the first of these that holds.
+/// `TooLong`: the body has more than 1,048,576 bytes. On another status than 200: `EmptyBody`; then
+/// `ServerResponse`, where the body reads as an error response; else `Parse`. On status 200:
+/// `MediaType`, where a media type is there and isn't `application/json`; `EmptyBody`; `Parse`.
+#[tactic(auto, unfolding(crate::specs::TokenAnswers::status_worth, crate::specs::TokenAnswers::token_answer))]
+pub fn token_answer<RE, TE: ErrorResponse, TR: OAuth2TokenResponse>(
+    alloc: Global,
+    response: HttpResponse,
+) -> Result<TR, RequestTokenError<RE, TE>>
+    ensures answer { let worth = spec.token_answer TE.read_of TR.read_of in
+        spec.Gives result (worth (seen_response response)) }
+{
+    let status = response.status().as_u16();
+    let may_be_json = may_be_json(&response);
+    let body = response.into_body();
+    if body.as_slice().len() > MAX_BODY {
+        return Err(RequestTokenError::TooLong(body));
+    }
+    if status != 200 {
+        return Err(refusal_in(alloc, body));
+    }
+    tokens_in(alloc, may_be_json, body)
+}

@@ -1,0 +1,172 @@
+//! Requests, responses, and what a transport promises (RFC 9110).
+
+ghost use Rattle.std.specs.Prelude.{◌≡◌, ◌≤◌, ℕ, List, Option, Some};
+ghost use Rattle.std.specs.String.{string_bytes};
+
+use http::Method;
+use http_header::HeaderMap;
+use std::alloc::Global;
+use std::fmt;
+use std::marker::Model;
+
+/// The bytes of a request or a response. Contracts see their list. `Debug` does not show them, since
+/// they are often secrets.
+#[derive(Drop)]
+pub struct Body {
+    bytes: Vec<u8>,
+}
+
+impl Model for Body {
+    ghost use Rattle.std.specs.Prelude.{List, ℕ};
+
+    ghost Value = { List ℕ };
+
+    ghost view = { λ b. b.bytes.items };
+}
+
+impl Body {
+    /// A body of these bytes.
+    pub fn new(bytes: Vec<u8>) -> Self
+        ensures bytes { result ≡ bytes.items }
+    {
+        Body { bytes }
+    }
+
+    /// The bytes.
+    pub fn as_slice(&self) -> &[u8]
+        ensures bytes { result.now ≡ self.now }
+    {
+        self.bytes.as_slice()
+    }
+}
+
+/// Prints `Body([redacted])`.
+impl fmt::Debug for Body {
+    fn fmt<W: fmt::Write>(&self, f: &mut fmt::Formatter<W>) -> fmt::Result {
+        f.write_str("Body([redacted])")
+    }
+}
+
+/// A request: a method, the text of an address, headers and a body. A transport builds what its own
+/// client needs from these four. It has no `Debug`, since it carries a client's credentials.
+#[derive(Drop)]
+pub struct HttpRequest {
+    method: Method,
+    address: String,
+    headers: HeaderMap,
+    body: Body,
+}
+
+impl Model for HttpRequest {
+    ghost use Rattle.std.specs.String.{string_bytes};
+    ghost use Rattle.oidc_oauth2.specs.Messages.{SeenRequest, seen_request_code};
+
+    ghost Value = { SeenRequest };
+
+    ghost coded = { seen_request_code };
+
+    ghost view = { λ r. record {
+      method = r.method;
+      address = string_bytes r.address;
+      headers = r.headers;
+      body = r.body;
+    } };
+}
+
+impl HttpRequest {
+    /// A request of these four parts.
+    pub fn new(method: Method, address: String, headers: HeaderMap, body: Body) -> Self
+        ensures method { result.method ≡ method }
+        ensures address { result.address ≡ string_bytes address }
+        ensures headers { result.headers ≡ headers }
+        ensures body { result.body ≡ body }
+    {
+        HttpRequest {
+            method,
+            address,
+            headers,
+            body,
+        }
+    }
+
+    /// The method.
+    pub fn method(&self) -> &Method
+        ensures method { result.now ≡ self.now.method }
+    {
+        &self.method
+    }
+
+    /// The text of the address.
+    pub fn address(&self) -> &str
+        ensures address { result.now ≡ self.now.address }
+    {
+        self.address.as_str()
+    }
+
+    /// The headers.
+    pub fn headers(&self) -> &HeaderMap
+        ensures headers { result.now ≡ self.now.headers }
+    {
+        &self.headers
+    }
+
+    /// The body.
+    pub fn body(&self) -> &Body
+        ensures body { result.now ≡ self.now.body }
+    {
+        &self.body
+    }
+}
+
+/// A response. Its status, its first `content-type` and its body are all that is read of it.
+pub type HttpResponse = http::Response<Body>;
+
+/// Why a call of a transport gave no response.
+#[derive(Debug, Drop)]
+pub enum CallError<E> {
+    /// The request was handed over and failed on its way, or its response did.
+    Transport(E),
+    /// There was no memory. Nothing was handed over.
+    Memory,
+}
+
+/// A transport: it hands a request over to its server and gives the answer.
+///
+/// Its meanings are the log of what went over it, the script of what it will answer, and the count
+/// of its faults. A transport over a network knows neither log nor script, and says `None` of both. No
+/// call changes whether they are known.
+pub trait SyncHttpClient {
+    ghost use Rattle.std.specs.Prelude.{◌≡◌, ◌≤◌, ℕ, List, Option};
+    ghost use Rattle.oidc_oauth2.specs.Messages.{SeenAnswer};
+    ghost use Rattle.oidc_oauth2.specs.Transport.{Log, IsLogged, Plays, answers_in, IsBlamed};
+
+    /// What a request fails with on its way.
+    type Error;
+
+    /// The requests that were handed over and the answers that were given, where they are known.
+    ghost log: { Self → Option Log };
+
+    /// The answers that are still to come, where they are known; behind the last one come faults.
+    ghost script: { Self → Option (List SeenAnswer) } = { λ _. Option.None };
+
+    /// How often it has failed.
+    ghost faults: { Self → ℕ };
+
+    /// Whether it may be called. By default it may. An `Adapter` may, where its closure has no
+    /// `requires`.
+    ghost ready: { Self → Type 0 } = { λ _. Unit {0} };
+
+    /// Hands the request over and gives the answer. `Transport` comes only where the count of faults
+    /// has risen or stands at its last value. On `Memory` nothing was handed over.
+    fn call(
+        &mut self,
+        alloc: Global,
+        request: HttpRequest,
+    ) -> Result<HttpResponse, CallError<Self::Error>>
+        requires { ready self.old }
+        ensures again { ready self.new }
+        ensures logged { IsLogged (log self.old) (log self.new) request result }
+        ensures plays { Plays (script self.old) (answers_in result) (script self.new) }
+        ensures never_falls { faults self.old ≤ faults self.new }
+        ensures blamed { IsBlamed (faults self.old) (faults self.new) result };
+}

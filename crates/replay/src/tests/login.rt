@@ -1,0 +1,324 @@
+//! Tests of oidc_login that no line of text can say: logins over transports of every kind, and bodies and
+//! addresses at their limits. The verifier is that of RFC 7636, appendix B.
+
+use crate::tests::oauth2::transports::{Down, Fleeting, TOKEN, echo};
+use http::StatusCode;
+use http_header::{CONTENT_TYPE, HeaderValue};
+use jiff::Timestamp;
+use oidc_login::{AuthorizationRequest, Client, LoginError, Logins, NewLoginsError, SignedIn};
+use oidc_oauth2::{
+    Adapter, Answer, Body, Fault, HttpRequest, HttpResponse, Recorded, SyncHttpClient,
+};
+use oidc_types::{
+    AuthUrl, ClientId, ClientSecret, CoreJwsSigningAlgorithm, CsrfToken, IssuerUrl, Nonce,
+    PkceCodeVerifier, TokenUrl,
+};
+use std::alloc::{AllocError, Global};
+use std::test::Fail;
+
+fn text(alloc: Global, text: &str) -> Result<String, Fail> {
+    Ok(String::from_str(alloc, text)?)
+}
+
+fn names(alloc: Global) -> Result<(ClientId, ClientSecret), Fail> {
+    let id = ClientId::new(text(alloc, "aaa")?);
+    let secret = ClientSecret::new(text(alloc, "bbb")?);
+    Ok((id, secret))
+}
+
+fn urls(alloc: Global) -> Result<(IssuerUrl, AuthUrl), Fail> {
+    let issuer = IssuerUrl::new(alloc, text(alloc, "https://example")?)?;
+    let endpoint = AuthUrl::new(alloc, text(alloc, "https://example/authorize")?)?;
+    Ok((issuer, endpoint))
+}
+
+// The client that the token is for, without a token endpoint. What is tried at a client stands in
+// functions that borrow it.
+fn client(alloc: Global) -> Result<Client, Fail> {
+    let (id, secret) = names(alloc)?;
+    let algorithms = [CoreJwsSigningAlgorithm::HmacSha256].to_vec(alloc)?;
+    let (issuer, endpoint) = urls(alloc)?;
+    Ok(Client::new(id, secret, issuer, endpoint, algorithms))
+}
+
+// The same client, with a token endpoint of so many bytes behind `https://example/`.
+fn client_with(alloc: Global, len: usize) -> Result<Client, Fail> {
+    let mut address = text(alloc, "https://example/")?;
+    for _ in 0..len {
+        address.push_str("a")?;
+    }
+    Ok(client(alloc)?.set_token_uri(TokenUrl::new(alloc, address)?))
+}
+
+// Begins a login.
+fn begin(alloc: Global, logins: &mut Logins<'_>) -> Result<(), Fail> {
+    let state = CsrfToken::new(text(alloc, "CSRF123")?);
+    let nonce = Nonce::new(text(alloc, "NONCE456")?);
+    let verifier = text(alloc, "dBjftJeZ4CVP-mB92K27uhbUJU1p1r_wW1gFWFOEjXk")?;
+    let verifier = PkceCodeVerifier::new(verifier);
+    let _ = logins.begin(AuthorizationRequest::new(state, nonce), verifier)?;
+    Ok(())
+}
+
+// A text, with white space behind it up to so many bytes.
+fn filled(alloc: Global, text: &str, len: usize) -> Result<Body, AllocError> {
+    let mut bytes = Vec::from_slice(alloc, text.as_bytes())?;
+    let blanks = len.saturating_sub(bytes.len());
+    bytes.extend_from_slice(vec![in alloc; b' '; blanks]?.as_slice())?;
+    Ok(Body::new(bytes))
+}
+
+// The plain answer with the token, in a body of so many bytes.
+fn plain(alloc: Global, status: u16, len: usize) -> Result<HttpResponse, Fail> {
+    let text = format!(in alloc;
+        "{{\"access_token\":\"abc\",\"token_type\":\"Bearer\",\"id_token\":\"{TOKEN}\"}}"
+    )?;
+    let mut response = http::Response::new(alloc, filled(alloc, text.as_str(), len)?);
+    *response.status_mut() = StatusCode::from_u16(status)?;
+    response
+        .headers_mut()
+        .insert(CONTENT_TYPE, HeaderValue::from_static("application/json"))?;
+    Ok(response)
+}
+
+// An answer of this status, whose body is so many bytes of white space.
+fn blank(alloc: Global, status: u16, len: usize) -> Result<HttpResponse, Fail> {
+    let mut response = http::Response::new(alloc, filled(alloc, "", len)?);
+    *response.status_mut() = StatusCode::from_u16(status)?;
+    Ok(response)
+}
+
+// What a transport in memory gives.
+#[derive(Clone, Copy)]
+enum Given {
+    Plain(u16, usize),
+    Blank(u16, usize),
+    Fault,
+    Nothing,
+}
+
+fn answers(alloc: Global, given: Given) -> Result<Vec<Answer>, Fail> {
+    let mut answers = Vec::new(alloc);
+    match given {
+        Given::Plain(status, len) => answers.push(Answer::Response(plain(alloc, status, len)?))?,
+        Given::Blank(status, len) => answers.push(Answer::Response(blank(alloc, status, len)?))?,
+        Given::Fault => answers.push(Answer::Fault)?,
+        Given::Nothing => {}
+    }
+    Ok(answers)
+}
+
+// What a refusal prints, and whether the login is gone.
+fn refusal<E: Drop>(alloc: Global, error: &LoginError<E>) -> Result<String, AllocError> {
+    let spent = error.spent();
+    format!(in alloc; "{error}; {spent}")
+}
+
+// What a callback answers, in words.
+fn answer<E: Drop>(
+    alloc: Global,
+    reply: Result<SignedIn, LoginError<E>>,
+) -> Result<String, AllocError> {
+    match reply {
+        Ok(signed) => {
+            let subject = signed.claims().subject().as_str();
+            let own = signed.id_token().as_str() == TOKEN;
+            let access = signed.access_token().secret();
+            format!(in alloc; "{subject} {access} {own}")
+        }
+        Err(error) => refusal(alloc, &error),
+    }
+}
+
+// The callback of the one login of a store.
+fn called_back<E: Drop, H: SyncHttpClient<Error = E>>(
+    alloc: Global,
+    logins: &mut Logins<'_>,
+    http: &mut H,
+) -> Result<String, Fail>
+    requires { H.ready http.old }
+    ensures { H.ready http.new }
+{
+    let now = Timestamp::from_second(1999)?;
+    let query = b"code=c1&state=CSRF123".as_slice();
+    Ok(answer(alloc, logins.callback(query, http, now))?)
+}
+
+// A login at this client over any transport, in one line: whether its state alone is pending before its
+// callback, whether it is pending after it, and what the callback answers.
+fn login<E: Drop, H: SyncHttpClient<Error = E>>(
+    alloc: Global,
+    client: &Client,
+    http: &mut H,
+) -> Result<String, Fail>
+    requires { H.ready http.old }
+    ensures { H.ready http.new }
+{
+    let mut logins = Logins::new(alloc, client)?;
+    begin(alloc, &mut logins)?;
+    let before = logins.is_pending("CSRF123") && !logins.is_pending("CSRF12");
+    let answered = called_back(alloc, &mut logins, http)?;
+    let after = logins.is_pending("CSRF123");
+    Ok(format!(in alloc; "{before} {after} {answered}")?)
+}
+
+// ---- in memory
+
+// How many requests are handed over at a login, and its line.
+fn login_in_memory(alloc: Global, len: usize, given: Given) -> Result<String, Fail> {
+    let client = client_with(alloc, len)?;
+    let mut http = Recorded::new(alloc, answers(alloc, given)?);
+    let line = login(alloc, &client, &mut http)?;
+    Ok(format!(in alloc; "{} {line}", http.requests().len())?)
+}
+
+// A fault, no answer at all, the longest address that is sent to, of 65,534 bytes, and the longest body
+// that is judged, of 1,048,576. After each the login is gone.
+static CASES: [(usize, Given, &str); 12] = [
+    (5, Given::Plain(200, 0), "1 true false u1 abc true"),
+    (
+        5,
+        Given::Fault,
+        "1 true false no tokens: the request failed; true",
+    ),
+    (
+        5,
+        Given::Nothing,
+        "1 true false no tokens: the request failed; true",
+    ),
+    (
+        65_518,
+        Given::Nothing,
+        "1 true false no tokens: the request failed; true",
+    ),
+    (
+        65_519,
+        Given::Nothing,
+        "0 true false no tokens: an address that is not sent to; true",
+    ),
+    (
+        5,
+        Given::Blank(200, 1_048_576),
+        "1 true false no tokens: the response does not read: no JSON object; true",
+    ),
+    (
+        5,
+        Given::Blank(200, 1_048_577),
+        "1 true false too long: the answer to the token request; true",
+    ),
+    (
+        5,
+        Given::Blank(400, 1_048_577),
+        "1 true false too long: the answer to the token request; true",
+    ),
+    (5, Given::Plain(200, 1_048_576), "1 true false u1 abc true"),
+    (
+        5,
+        Given::Plain(200, 1_048_577),
+        "1 true false too long: the answer to the token request; true",
+    ),
+    (
+        5,
+        Given::Plain(400, 1_048_576),
+        "1 true false no tokens: the response does not read: a missing member: `error`; true",
+    ),
+    (
+        5,
+        Given::Plain(400, 1_048_577),
+        "1 true false too long: the answer to the token request; true",
+    ),
+];
+
+#[test]
+fn callbacks_over_each_transport(rt: HostRuntime) -> Result<(), Fail> {
+    for (len, given, wanted) in &CASES {
+        assert_eq!(rt;
+            login_in_memory(rt.alloc(), *len, *given)?.as_str(),
+            *wanted,
+            "{wanted}"
+        );
+    }
+    Ok(())
+}
+
+// ---- over a closure, and over a transport of the test's own
+
+// A login over a closure that always answers, or never does, and how often it has failed.
+fn login_over_closure(alloc: Global, is_up: bool) -> Result<String, Fail> {
+    let client = client_with(alloc, 5)?;
+    let mut http = Adapter::new(move |request: HttpRequest| -> Result<HttpResponse, Down> {
+        if !is_up {
+            return Err(Down);
+        }
+        echo(alloc, &request).map_err(|_| Down)
+    });
+    let line = login(alloc, &client, &mut http)?;
+    Ok(format!(in alloc; "{line} {}", http.faults())?)
+}
+
+#[test]
+fn callbacks_over_closures(rt: HostRuntime) -> Result<(), Fail> {
+    for (is_up, want) in [
+        (true, "true false u1 POST https://example/aaaaa true 0"),
+        (false, "true false no tokens: the request failed; true 1"),
+    ] {
+        assert_eq!(rt; login_over_closure(rt.alloc(), is_up)?.as_str(), want);
+    }
+    Ok(())
+}
+
+// Two logins over a transport that answers one request alone, and its counts.
+fn logins_over_own(alloc: Global) -> Result<String, Fail> {
+    let client = client_with(alloc, 5)?;
+    let mut http = Fleeting::new();
+    let first = login(alloc, &client, &mut http)?;
+    let second = login(alloc, &client, &mut http)?;
+    Ok(format!(in alloc; "{first}, {second}, {:?}", http.counts())?)
+}
+
+#[test]
+fn callbacks_over_a_transport_of_ones_own(rt: HostRuntime) -> Result<(), Fail> {
+    let want =
+        "true false u1 POST https://example/aaaaa true, true false no tokens: the request failed; true, (2, 1)";
+    assert_eq!(rt; logins_over_own(rt.alloc())?.as_str(), want);
+    Ok(())
+}
+
+// ---- refusals
+
+// The refusal for want of memory, whether or not the login is gone; or for want of a login.
+fn refusal_line(alloc: Global, memory: Option<bool>) -> Result<String, AllocError> {
+    let error: LoginError<Fault> = match memory {
+        Some(spent) => LoginError::Memory { spent },
+        None => LoginError::State,
+    };
+    refusal(alloc, &error)
+}
+
+#[test]
+fn refusals_say_whether_the_login_is_gone(rt: HostRuntime) -> Result<(), Fail> {
+    for (memory, want) in [
+        (None, "the query names no pending login; false"),
+        (Some(false), "out of memory; false"),
+        (Some(true), "out of memory; true"),
+    ] {
+        assert_eq!(rt; refusal_line(rt.alloc(), memory)?.as_str(), want);
+    }
+    Ok(())
+}
+
+// ---- no store
+
+fn store_is_refused(alloc: Global) -> Result<bool, Fail> {
+    let client = client(alloc)?;
+    Ok(matches!(
+        Logins::new(alloc, &client),
+        Err(NewLoginsError::TokenEndpoint)
+    ))
+}
+
+#[test]
+fn no_store_without_a_token_endpoint(rt: HostRuntime) -> Result<(), Fail> {
+    assert!(rt; store_is_refused(rt.alloc())?);
+    Ok(())
+}

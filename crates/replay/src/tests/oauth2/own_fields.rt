@@ -1,0 +1,205 @@
+//! Extra fields and a type of tokens that aren't of oidc_oauth2.
+ghost use Rattle.std.specs.Prelude.{◌≡◌, List, Err, Ok, IfOk, length, nat_lt, codes, if◌then◌else◌};
+ghost use Rattle.oidc_members.specs.Answers.{Answers};
+ghost use Rattle.oidc_members.specs.Seen.{SeenMember};
+ghost use Rattle.oidc_members.specs.declared.refusal.ParseKind.TheVariants.{Additional};
+
+use oidc_members::{FieldName, Members, OutMember, ParseError, ParseKind, Refusal};
+use oidc_oauth2::{
+    DeviceAuthorizationResponse, ExtraDeviceAuthorizationFields, ExtraTokenFields,
+    OAuth2TokenResponse, StandardTokenResponse, TokenType,
+};
+use serde_json::Value;
+use std::alloc::{AllocError, Global};
+use std::test::Fail;
+
+// How many members a response has, those of the standard too. More than five are refused.
+#[derive(Clone, Copy, Debug, Drop)]
+struct Few {
+    members: usize,
+}
+
+fn few_of(alloc: Global, members: &Members) -> Result<Few, ParseError>
+    ensures { Answers (if nat_lt 5 (length members.now)
+        then Err (record { kind = Additional; field = codes "members" })
+        else Ok (record { members = length members.now })) result }
+{
+    if members.len() > 5 {
+        return Err(Refusal::of_field(alloc, ParseKind::Additional, "members")?.into());
+    }
+    Ok(Few {
+        members: members.len(),
+    })
+}
+
+impl ExtraTokenFields for Few {
+    ghost use Rattle.std.specs.Prelude.{[], ◌∷◌, Err, Ok, length, nat_lt, codes, if◌then◌else◌, true};
+    ghost use Rattle.serde_json.specs.Data.{boolean};
+    ghost use Rattle.oidc_members.specs.declared.refusal.ParseKind.TheVariants.{Additional};
+
+    ghost read_of = { λ members. if nat_lt 5 (length members)
+        then Err (record { kind = Additional; field = codes "members" })
+        else Ok (record { members = length members }) };
+
+    ghost write_of = { λ _. record { name = codes "few"; value = boolean true } ∷ [] };
+
+    fn read(alloc: Global, members: &Members) -> Result<Few, ParseError> {
+        few_of(alloc, members)
+    }
+
+    fn write(&self, alloc: Global) -> Result<Vec<OutMember>, AllocError> {
+        let name = FieldName::new(String::from_str(alloc, "few")?);
+        let value = Value::Bool(true);
+        let mut members = Vec::new(alloc);
+        members.push(OutMember { name, value })?;
+        Ok(members)
+    }
+}
+
+impl ExtraDeviceAuthorizationFields for Few {
+    ghost use Rattle.std.specs.Prelude.{Err, Ok, length, nat_lt, codes, if◌then◌else◌};
+    ghost use Rattle.oidc_members.specs.declared.refusal.ParseKind.TheVariants.{Additional};
+
+    ghost read_of = { λ members. if nat_lt 5 (length members)
+        then Err (record { kind = Additional; field = codes "members" })
+        else Ok (record { members = length members }) };
+
+    fn read(alloc: Global, members: &Members) -> Result<Few, ParseError> {
+        few_of(alloc, members)
+    }
+}
+
+// Whether the type of a token is `Bearer`, in this case of its letters.
+#[derive(Clone, Copy, Debug, Drop)]
+struct Scheme {
+    is_bearer: bool,
+}
+
+impl TokenType for Scheme {
+    ghost use Rattle.std.specs.Prelude.{codes, if◌then◌else◌};
+    ghost use Rattle.std.specs.Str.{bytes_eq};
+
+    ghost read_of = { λ text. record { is_bearer = bytes_eq text (codes "Bearer") } };
+
+    ghost as_ref = { λ scheme. if scheme.is_bearer then codes "Bearer" else codes "other" };
+
+    fn read(_alloc: Global, text: &str) -> Result<Scheme, AllocError> {
+        Ok(Scheme {
+            is_bearer: text == "Bearer",
+        })
+    }
+
+    fn as_ref(&self) -> &str {
+        if self.is_bearer { "Bearer" } else { "other" }
+    }
+}
+
+// The kind and the field of a refusal.
+fn refusal_line(alloc: Global, error: ParseError) -> Result<String, Fail> {
+    match error {
+        ParseError::Refused(refusal) => {
+            Ok(format!(in alloc; "{:?} {}", refusal.kind, refusal.field)?)
+        }
+        ParseError::Memory => Err(Fail::from("out of memory")),
+    }
+}
+
+// ---- token responses
+
+type Tokens = StandardTokenResponse<Few, Scheme>;
+
+fn tokens_in(alloc: Global, text: &str) -> Result<Tokens, ParseError> {
+    let members = Members::split(alloc, text.as_bytes())?;
+    Tokens::read(alloc, &members)
+}
+
+// How many members were read, and the response, written.
+fn written(alloc: Global, tokens: &Tokens) -> Result<String, Fail> {
+    let text = tokens.write(alloc)?;
+    let text = str::from_utf8(text.as_slice()).unwrap_or("no text");
+    Ok(format!(in alloc; "{} {text}", tokens.extra_fields().members)?)
+}
+
+fn tokens_line(alloc: Global, text: &str) -> Result<String, Fail> {
+    match tokens_in(alloc, text) {
+        Ok(tokens) => written(alloc, &tokens),
+        Err(error) => refusal_line(alloc, error),
+    }
+}
+
+// The extra fields see every member, and refuse behind the fields of the standard.
+#[test]
+fn a_caller_may_bring_token_fields_of_its_own(rt: HostRuntime) -> Result<(), Fail> {
+    for (text, want) in [
+        (
+            r#"{"x":1,"access_token":"a","token_type":"Bearer"}"#,
+            r#"3 {"access_token":"a","token_type":"Bearer","few":true}"#,
+        ),
+        (
+            r#"{"access_token":"a","token_type":"bearer"}"#,
+            r#"2 {"access_token":"a","token_type":"other","few":true}"#,
+        ),
+        (
+            r#"{"access_token":"a","token_type":"Bearer","b":1,"c":1,"d":1,"e":1}"#,
+            "Additional members",
+        ),
+        (
+            r#"{"access_token":"a","a":1,"b":1,"c":1,"d":1,"e":1}"#,
+            "Missing token_type",
+        ),
+        (
+            r#"{"expires_in":"1","a":1,"b":1,"c":1,"d":1,"e":1}"#,
+            "WrongType expires_in",
+        ),
+    ] {
+        assert_eq!(rt; tokens_line(rt.alloc(), text)?.as_str(), want, "{text}");
+    }
+    Ok(())
+}
+
+// ---- device authorization responses
+
+type Device = DeviceAuthorizationResponse<Few>;
+
+fn device_in(alloc: Global, text: &str) -> Result<Device, ParseError> {
+    let members = Members::split(alloc, text.as_bytes())?;
+    Device::read(alloc, &members)
+}
+
+// How many members were read, the page and the interval.
+fn device_line(alloc: Global, text: &str) -> Result<String, Fail> {
+    match device_in(alloc, text) {
+        Ok(device) => {
+            let page = device.verification_uri().as_str();
+            let interval = device.interval().as_secs();
+            Ok(format!(in alloc; "{} {page} {interval}", device.extra_fields().members)?)
+        }
+        Err(error) => refusal_line(alloc, error),
+    }
+}
+
+// The texts are those of RFC 8628 section 3.2, and variations of it.
+#[test]
+fn a_caller_may_bring_device_fields_of_its_own(rt: HostRuntime) -> Result<(), Fail> {
+    for (text, want) in [
+        (
+            r#"{"device_code":"G","user_code":"W","verification_uri":"https://example.com/device","expires_in":1800}"#,
+            "4 https://example.com/device 5",
+        ),
+        (
+            r#"{"device_code":"G","user_code":"W","verification_url":"https://example.com/device","expires_in":1800,"interval":7}"#,
+            "5 https://example.com/device 7",
+        ),
+        (
+            r#"{"device_code":"G","user_code":"W","verification_uri":"https://example.com/device","expires_in":1800,"a":1,"b":1}"#,
+            "Additional members",
+        ),
+        (
+            r#"{"device_code":"G","user_code":"W","expires_in":1800,"a":1,"b":1,"c":1}"#,
+            "Missing verification_uri",
+        ),
+    ] {
+        assert_eq!(rt; device_line(rt.alloc(), text)?.as_str(), want, "{text}");
+    }
+    Ok(())
+}
