@@ -1,0 +1,47 @@
+-- The hash of an access token or of a code that an ID token holds (OpenID Connect Core 1.0 sections
+-- 3.1.3.6 and 3.3.2.11).
+use Rattle.std.specs.Prelude.{ℕ, ◌/◌, List, length, take, Option, None, Some, option_map, Result, Ok, Err}
+use Rattle.std.specs.Option.{ok_or}
+use Rattle.oidc_keys.specs.Jwk.{digest_by}
+use Rattle.oidc_types.specs.declared.signing_error.SigningError.{SigningError}
+use Rattle.oidc_types.specs.declared.signing_error.SigningError.TheVariants.{UnsupportedAlg}
+use Rattle.oidc_tokens.specs.Steps.{◌>>=◌}
+use Rattle.oidc_tokens.specs.Issuing.{encoded}
+use Rattle.oidc_tokens.specs.OwnClaims.{SeenOwnClaims}
+use Rattle.oidc_tokens.specs.IdTokenClaims.{SeenIdTokenClaims}
+
+-- the first half of a digest, rounded down
+abbrev pub left_half : List ℕ → List ℕ
+left_half digest = take (length digest / 2) digest
+
+-- The base64url text of the first half of a text's digest, by the hash function that goes with the
+-- algorithm, where there is one.
+abbrev pub hash_text : Option (List ℕ → List ℕ) → List ℕ → Option (List ℕ)
+hash_text hash text = option_map (λ digest. encoded (left_half digest)) (digest_by hash text)
+
+-- An algorithm and the hash function that goes with it, where there is one.
+pub record Hashing : Type 0 where
+  pub alg_text : List ℕ
+  pub hash : Option (List ℕ → List ℕ)
+
+abbrev pub hashing : List ℕ → Option (List ℕ → List ℕ) → Hashing
+hashing alg_text hash = record { alg_text = alg_text; hash = hash }
+
+-- the hash, or the refusal that names the algorithm
+abbrev pub hash_of : Hashing → List ℕ → Result (List ℕ) SigningError
+hash_of by text = ok_or (hash_text by.hash text) (UnsupportedAlg by.alg_text)
+
+-- ---- in the claims of a token that is issued
+
+-- the hash of what is issued beside the token, or the claim as it was
+abbrev pub hash_or : Hashing → Option (List ℕ) → Option (List ℕ) → Result (Option (List ℕ)) SigningError
+hash_or by None claim = Ok claim
+hash_or by (Some text) claim = hash_of by text >>= λ hash. Ok (Some hash)
+
+-- the claims with the hashes of the access token and of the code
+unfoldable pub with_hashes : {AC GC : Type 0} → Hashing → Option (List ℕ) → Option (List ℕ)
+    → SeenIdTokenClaims AC GC → Result (SeenIdTokenClaims AC GC) SigningError
+with_hashes by access_token code claims = do
+  at_hash ← hash_or by access_token claims.own.access_token_hash
+  c_hash ← hash_or by code claims.own.code_hash
+  Ok (record claims { own = record claims.own { access_token_hash = at_hash; code_hash = c_hash } })
