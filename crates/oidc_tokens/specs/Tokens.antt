@@ -55,30 +55,42 @@ bytes_of parts = do
 abbrev pub message_in : Parts → List ℕ
 message_in parts = parts.header ++ codes "." ++ parts.payload
 
--- ---- the token of a text
+-- ---- what they hold
 
--- the header that is encoded
+-- the header that some bytes are
 unfoldable pub header_in : {JE JS : Type 0} → (List ℕ → Option JE) → (List ℕ → Option JS) → List ℕ
     → Result (TokenHeader JE JS) Refusal
 header_in encrypts signs bytes = split_of bytes >>= header_of encrypts signs
 
--- the payload that is encoded
+-- the payload that some bytes are
 unfoldable pub payload_in : {P : Type 0} → (List SeenMember → Result P Refusal) → List ℕ → Result P Refusal
 payload_in payload_read bytes = split_of bytes >>= payload_read
 
+pub record Contents (JE JS P : Type 0) : Type 0 where
+  pub header : TokenHeader JE JS
+  pub payload : P
+  pub signature : List ℕ
+
 module _ {JE JS P : Type 0} (encrypts : List ℕ → Option JE) (signs : List ℕ → Option JS)
     (payload_read : List SeenMember → Result P Refusal) where
-  -- A refusal of the text comes first, then one of the header, then one of the payload.
-  unfoldable pub token_of : List ℕ → Result (SeenToken JE JS P) Refusal
-  token_of text = do
-    parts ← parts_of text
+  -- A refusal of the parts' encoding comes first, then one of the header, then one of the payload.
+  unfoldable pub contents_of : Parts → Result (Contents JE JS P) Refusal
+  contents_of parts = do
     bytes ← bytes_of parts
     header ← header_in encrypts signs bytes.header
     payload ← payload_in payload_read bytes.payload
+    Ok (record { header = header; payload = payload; signature = bytes.signature })
+
+  -- ---- the token of a text
+
+  unfoldable pub token_of : List ℕ → Result (SeenToken JE JS P) Refusal
+  token_of text = do
+    parts ← parts_of text
+    said ← contents_of parts
     Ok (record {
       text = text;
-      header = header;
-      payload = payload;
+      header = said.header;
+      payload = said.payload;
       message = message_in parts;
-      signature = bytes.signature;
+      signature = said.signature;
     })

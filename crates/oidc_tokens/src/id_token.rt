@@ -21,9 +21,7 @@ mod written;
 pub use crate::id_token::claims::IdTokenClaims;
 pub use crate::id_token::fields::IdTokenFields;
 use crate::jwt::JsonWebToken;
-use crate::verification::{
-    ClaimsVerificationError, IdTokenVerifier, NonceVerifier, signing_alg,
-};
+use crate::verification::{ClaimsVerificationError, IdTokenVerifier, NonceVerifier, signing_alg};
 use jiff::Timestamp;
 use oidc_claims::{AdditionalClaims, GenderClaim};
 use oidc_keys::{JsonWebKey, SignatureVerificationError};
@@ -99,15 +97,15 @@ impl<
         now: Timestamp,
     ) -> Result<&IdTokenClaims<AC, GC>, ClaimsVerificationError>
         ensures judged { let k = meanings K.JsonWebKey K.KeyUse.JsonWebKeyUse K.SigningAlgorithm.JwsSigningAlgorithm.own
-          K.SigningAlgorithm.ClosedVocabulary K.SigningAlgorithm.KeyType.ClosedVocabulary in
+            K.SigningAlgorithm.ClosedVocabulary K.SigningAlgorithm.KeyType.ClosedVocabulary in
             let failure = verification.first_failure k verifier.now (N.allows nonce) now.nanosecond
             in Judges (failure self.now) result }
         ensures accepted { let k = meanings K.JsonWebKey K.KeyUse.JsonWebKeyUse K.SigningAlgorithm.JwsSigningAlgorithm.own
-          K.SigningAlgorithm.ClosedVocabulary K.SigningAlgorithm.KeyType.ClosedVocabulary in
+            K.SigningAlgorithm.ClosedVocabulary K.SigningAlgorithm.KeyType.ClosedVocabulary in
             let accepts = Accepts k verifier.now (N.allows nonce) now.nanosecond
             in IfOk result (λ claims. accepts self.now) }
         ensures refused { let k = meanings K.JsonWebKey K.KeyUse.JsonWebKeyUse K.SigningAlgorithm.JwsSigningAlgorithm.own
-          K.SigningAlgorithm.ClosedVocabulary K.SigningAlgorithm.KeyType.ClosedVocabulary in
+            K.SigningAlgorithm.ClosedVocabulary K.SigningAlgorithm.KeyType.ClosedVocabulary in
             let accepts = Accepts k verifier.now (N.allows nonce) now.nanosecond
             in accepts self.now → IfErr result (λ error. error ≡ ClaimsVerificationError.Memory) }
         ensures claims { IfOk result (λ claims. claims.now ≡ self.now.payload) }
@@ -127,15 +125,15 @@ impl<
         now: Timestamp,
     ) -> Result<IdTokenClaims<AC, GC>, ClaimsVerificationError>
         ensures judged { let k = meanings K.JsonWebKey K.KeyUse.JsonWebKeyUse K.SigningAlgorithm.JwsSigningAlgorithm.own
-          K.SigningAlgorithm.ClosedVocabulary K.SigningAlgorithm.KeyType.ClosedVocabulary in
+            K.SigningAlgorithm.ClosedVocabulary K.SigningAlgorithm.KeyType.ClosedVocabulary in
             let failure = verification.first_failure k verifier.now (N.allows nonce) now.nanosecond
             in Judges (failure self) result }
         ensures accepted { let k = meanings K.JsonWebKey K.KeyUse.JsonWebKeyUse K.SigningAlgorithm.JwsSigningAlgorithm.own
-          K.SigningAlgorithm.ClosedVocabulary K.SigningAlgorithm.KeyType.ClosedVocabulary in
+            K.SigningAlgorithm.ClosedVocabulary K.SigningAlgorithm.KeyType.ClosedVocabulary in
             let accepts = Accepts k verifier.now (N.allows nonce) now.nanosecond
             in IfOk result (λ claims. accepts self) }
         ensures refused { let k = meanings K.JsonWebKey K.KeyUse.JsonWebKeyUse K.SigningAlgorithm.JwsSigningAlgorithm.own
-          K.SigningAlgorithm.ClosedVocabulary K.SigningAlgorithm.KeyType.ClosedVocabulary in
+            K.SigningAlgorithm.ClosedVocabulary K.SigningAlgorithm.KeyType.ClosedVocabulary in
             let accepts = Accepts k verifier.now (N.allows nonce) now.nanosecond
             in accepts self → IfErr result (λ error. error ≡ ClaimsVerificationError.Memory) }
         ensures claims { IfOk result (λ claims. claims ≡ self.payload) }
@@ -163,7 +161,7 @@ impl<
         verifier: &'s IdTokenVerifier<'s, K>,
     ) -> Result<&'s K, SignatureVerificationError>
         ensures key { let k = meanings K.JsonWebKey K.KeyUse.JsonWebKeyUse K.SigningAlgorithm.JwsSigningAlgorithm.own
-          K.SigningAlgorithm.ClosedVocabulary K.SigningAlgorithm.KeyType.ClosedVocabulary in
+            K.SigningAlgorithm.ClosedVocabulary K.SigningAlgorithm.KeyType.ClosedVocabulary in
             behind result ≡ signatures.key_of k verifier.now self.now }
     {
         let alg = self.signing_alg()?;

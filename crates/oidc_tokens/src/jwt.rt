@@ -10,10 +10,10 @@ ghost use Rattle.oidc_tokens.specs.Issuing as issuing;
 ghost use Rattle.oidc_tokens.specs.Issuing.{Issues, IsRefusedBy, IsNamed, ComesBack};
 
 use crate::header::{JsonWebTokenAlgorithm, TokenHeader, header_members};
-use crate::parts::{bytes_of, header_in, parts_of, payload_in};
+use crate::parts::{Contents, contents_of, parts_of};
 use crate::payload::Payload;
-use oidc_keys::{JsonWebKey, PrivateSigningKey};
 use base64::engine::general_purpose::URL_SAFE_NO_PAD;
+use oidc_keys::{JsonWebKey, PrivateSigningKey};
 use oidc_members::{OutMember, ParseError, write_object};
 use oidc_oauth2::Body;
 use oidc_types::{ClosedVocabulary, JsonWebKeyId, JwsSigningAlgorithm, SigningError};
@@ -142,20 +142,28 @@ impl<JE: ClosedVocabulary, JS: ClosedVocabulary, P: Payload> JsonWebToken<JE, JS
     ///
     /// It is refused as `Token` where it hasn't such parts, then as its header is refused, then as its
     /// payload is.
+    #[tactic(auto, unfolding(crate::specs::Tokens::token_of))]
     pub fn read(alloc: Global, text: &str) -> Result<Self, ParseError>
         ensures answer { Answers (token_of JE.from_str JS.from_str P.read_of text.now) result }
     {
         let parts = parts_of(alloc, text)?;
-        let bytes = bytes_of(alloc, &parts)?;
-        let header = header_in(alloc, bytes.header())?;
-        let payload = payload_in(alloc, bytes.payload())?;
+        let contents = match contents_of::<JE, JS, P>(alloc, &parts) {
+            Ok(contents) => contents,
+            Err(error) => return Err(error),
+        };
         let text = String::from_str(alloc, text)?;
+        let message_len = parts.message_len();
+        let Contents {
+            header,
+            payload,
+            signature,
+        } = contents;
         Ok(JsonWebToken {
             text,
             header,
             payload,
-            message_len: parts.message_len(),
-            signature: bytes.into_signature(),
+            message_len,
+            signature,
         })
     }
 }
@@ -221,7 +229,7 @@ impl<JE: ClosedVocabulary, JS: JwsSigningAlgorithm, P: Payload> JsonWebToken<JE,
         ensures reads_back { IsNamed JS.as_ref JS.from_str alg.now
             → ComesBack P.read_of P.write_of payload
             → IfOk result (λ token.
-                token_of JE.from_str JS.from_str P.read_of token.text ≡ Ok token) }
+            token_of JE.from_str JS.from_str P.read_of token.text ≡ Ok token) }
     {
         let checker = key.as_verification_key(alloc)?;
         let header = header_members(alloc, alg.as_ref(), checker.key_id())?;
@@ -245,10 +253,7 @@ impl<JE: ClosedVocabulary, JS: JwsSigningAlgorithm, P: Payload> JsonWebToken<JE,
     }
 }
 
-fn copied_id(
-    alloc: Global,
-    id: Option<&JsonWebKeyId>,
-) -> Result<Option<JsonWebKeyId>, AllocError>
+fn copied_id(alloc: Global, id: Option<&JsonWebKeyId>) -> Result<Option<JsonWebKeyId>, AllocError>
     ensures { IfOk result (λ copy. copy ≡ option_copied id.entry) }
 {
     match id {

@@ -23,5 +23,5 @@ pub fn accepted_where_no_check_fails<
     JE: JweContentEncryptionAlgorithm,
 >()
     ensures { let k = meanings K.JsonWebKey K.KeyUse.JsonWebKeyUse K.SigningAlgorithm.JwsSigningAlgorithm.own
-          K.SigningAlgorithm.ClosedVocabulary K.SigningAlgorithm.KeyType.ClosedVocabulary in FailsUnlessAccepted k JE AC GC }
+        K.SigningAlgorithm.ClosedVocabulary K.SigningAlgorithm.KeyType.ClosedVocabulary in FailsUnlessAccepted k JE AC GC }
 {}

@@ -119,7 +119,7 @@ fn decoded(alloc: Global, part: &str) -> Result<Body, ParseError>
 
 // What the parts of a text encode.
 #[derive(Drop)]
-pub(crate) struct PartBytes {
+struct PartBytes {
     header: Body,
     payload: Body,
     signature: Body,
@@ -138,19 +138,19 @@ impl Model for PartBytes {
 }
 
 impl PartBytes {
-    pub(crate) fn header(&self) -> &[u8]
+    fn header(&self) -> &[u8]
         ensures { result.now ≡ self.now.header }
     {
         self.header.as_slice()
     }
 
-    pub(crate) fn payload(&self) -> &[u8]
+    fn payload(&self) -> &[u8]
         ensures { result.now ≡ self.now.payload }
     {
         self.payload.as_slice()
     }
 
-    pub(crate) fn into_signature(self) -> Body
+    fn into_signature(self) -> Body
         ensures { result ≡ self.signature }
     {
         self.signature
@@ -159,7 +159,7 @@ impl PartBytes {
 
 // The bytes of each part.
 #[tactic(auto, unfolding(crate::specs::Tokens::bytes_of))]
-pub(crate) fn bytes_of(alloc: Global, parts: &Parts<'_>) -> Result<PartBytes, ParseError>
+fn bytes_of(alloc: Global, parts: &Parts<'_>) -> Result<PartBytes, ParseError>
     ensures { Answers (spec.bytes_of parts.now) result }
 {
     let header = decoded(alloc, parts.header)?;
@@ -176,7 +176,7 @@ pub(crate) fn bytes_of(alloc: Global, parts: &Parts<'_>) -> Result<PartBytes, Pa
 
 // The header that some bytes are.
 #[tactic(auto, unfolding(crate::specs::Tokens::header_in))]
-pub(crate) fn header_in<JE: ClosedVocabulary, JS: ClosedVocabulary>(
+fn header_in<JE: ClosedVocabulary, JS: ClosedVocabulary>(
     alloc: Global,
     bytes: &[u8],
 ) -> Result<TokenHeader<JE, JS>, ParseError>
@@ -188,9 +188,46 @@ pub(crate) fn header_in<JE: ClosedVocabulary, JS: ClosedVocabulary>(
 
 // The payload that some bytes are.
 #[tactic(auto, unfolding(crate::specs::Tokens::payload_in))]
-pub(crate) fn payload_in<P: Payload>(alloc: Global, bytes: &[u8]) -> Result<P, ParseError>
+fn payload_in<P: Payload>(alloc: Global, bytes: &[u8]) -> Result<P, ParseError>
     ensures { Answers (payload_that_is P.read_of bytes.now) result }
 {
     let members = Members::split(alloc, bytes)?;
     P::read(alloc, &members)
+}
+
+// What the parts of a text say.
+#[derive(Drop)]
+pub(crate) struct Contents<JE, JS, P> {
+    pub(crate) header: TokenHeader<JE, JS>,
+    pub(crate) payload: P,
+    pub(crate) signature: Body,
+}
+
+impl<JE, JS, P> Model for Contents<JE, JS, P> {
+    ghost use Rattle.oidc_tokens.specs.Tokens.{Contents as SeenContents};
+
+    ghost Value = { SeenContents JE JS P };
+
+    ghost view = { λ c. record {
+      header = c.header;
+      payload = c.payload;
+      signature = c.signature;
+    } };
+}
+
+#[tactic(auto, unfolding(crate::specs::Tokens::contents_of))]
+pub(crate) fn contents_of<JE: ClosedVocabulary, JS: ClosedVocabulary, P: Payload>(
+    alloc: Global,
+    parts: &Parts<'_>,
+) -> Result<Contents<JE, JS, P>, ParseError>
+    ensures { Answers (spec.contents_of JE.from_str JS.from_str P.read_of parts.now) result }
+{
+    let bytes = bytes_of(alloc, parts)?;
+    let header = header_in(alloc, bytes.header())?;
+    let payload = payload_in(alloc, bytes.payload())?;
+    Ok(Contents {
+        header,
+        payload,
+        signature: bytes.into_signature(),
+    })
 }

@@ -182,7 +182,7 @@ impl<'a, K: JsonWebKey> IdTokenVerifier<'a, K> {
         now: Timestamp,
     ) -> Result<(), ClaimsVerificationError>
         ensures { let k = meanings K.JsonWebKey K.KeyUse.JsonWebKeyUse K.SigningAlgorithm.JwsSigningAlgorithm.own
-          K.SigningAlgorithm.ClosedVocabulary K.SigningAlgorithm.KeyType.ClosedVocabulary in
+            K.SigningAlgorithm.ClosedVocabulary K.SigningAlgorithm.KeyType.ClosedVocabulary in
             Judges (first_failure k self.now (N.allows nonce.now) now.nanosecond token.now) result }
     {
         let claims = token.unverified_payload();

@@ -103,8 +103,8 @@ impl<AC: AdditionalClaims, GC: GenderClaim> IdTokenClaims<AC, GC> {
 
     /// The additional claims, to be changed.
     pub fn additional_claims_mut(&mut self) -> &mut AC
-        ensures { result.entry.now ≡ self.old.additional_claims }
-        ensures { self.new ≡ record self.old { additional_claims = result.exit.now } }
+        ensures before { result.entry ≡ self.old.additional_claims }
+        ensures after { self.new ≡ record self.old { additional_claims = result.exit } }
     {
         &mut self.additional_claims
     }
@@ -213,7 +213,10 @@ impl<AC: AdditionalClaims, GC: GenderClaim> IdTokenClaims<AC, GC> {
     }
 
     /// Changes `acr` alone.
-    pub fn set_auth_context_ref(mut self, auth_context_ref: Option<AuthenticationContextClass>) -> Self
+    pub fn set_auth_context_ref(
+        mut self,
+        auth_context_ref: Option<AuthenticationContextClass>,
+    ) -> Self
         ensures { let own = record self.own { auth_context_ref = auth_context_ref } in
             result ≡ record self { own = own } }
     {
@@ -232,7 +235,10 @@ impl<AC: AdditionalClaims, GC: GenderClaim> IdTokenClaims<AC, GC> {
     }
 
     /// Changes `amr` alone.
-    pub fn set_auth_method_refs(mut self, auth_method_refs: Option<Vec<AuthenticationMethodReference>>) -> Self
+    pub fn set_auth_method_refs(
+        mut self,
+        auth_method_refs: Option<Vec<AuthenticationMethodReference>>,
+    ) -> Self
         ensures { let own = record self.own { auth_method_refs = option_map (λ texts. texts.items) auth_method_refs } in
             result ≡ record self { own = own } }
     {

@@ -128,8 +128,10 @@ impl<
     ghost fault = { judged (spec.id_token (token_of JE.from_str JS.from_str
         (id_token_claims_of AC.read_of GC.read_of))) };
 
-    ghost state = { λ members. record { id_token = slot (spec.id_token (token_of JE.from_str JS.from_str
-        (id_token_claims_of AC.read_of GC.read_of))) members } };
+    ghost state = { λ members. record {
+      id_token = slot (spec.id_token (token_of JE.from_str JS.from_str
+          (id_token_claims_of AC.read_of GC.read_of))) members;
+    } };
 
     fn take(&mut self, alloc: Global, member: &Member) -> Result<(), ParseError> {
         self.id_token.take(alloc, "id_token", member)

@@ -18,7 +18,8 @@ use crate::jwt::{JsonWebToken, JsonWebTokenError};
 use oidc_claims::{AdditionalClaims, GenderClaim};
 use oidc_keys::{JsonWebKey, PrivateSigningKey};
 use oidc_types::{
-    AccessToken, AuthorizationCode, JweContentEncryptionAlgorithm, JwsSigningAlgorithm, SigningError,
+    AccessToken, AuthorizationCode, JweContentEncryptionAlgorithm, JwsSigningAlgorithm,
+    SigningError,
 };
 use std::alloc::Global;
 
@@ -46,30 +47,30 @@ impl<
         S::VerificationKey: JsonWebKey<SigningAlgorithm = JS>,
         ensures issued { let checker = S.verification_key key.now in
             let hashed = with_hashes (hashing (JS.as_ref alg) (S.VerificationKey.hash_of checker alg))
-              (option_copied access_token.entry) (option_copied code.entry) claims
+            (option_copied access_token.entry) (option_copied code.entry) claims
             in any_float (AC.write_of claims.additional_claims) ≡ false
             → Issues (hashed >>= issued JS.as_ref (id_token_members AC.write_of GC.write_of)
-              (S.signs key.now alg) (S.VerificationKey.key_id checker) alg) result }
+            (S.signs key.now alg) (S.VerificationKey.key_id checker) alg) result }
 
         // Whatever the additional claims hold.
         ensures claims { let checker = S.verification_key key.now in
             let hashed = with_hashes (hashing (JS.as_ref alg) (S.VerificationKey.hash_of checker alg))
-              (option_copied access_token.entry) (option_copied code.entry) claims
+            (option_copied access_token.entry) (option_copied code.entry) claims
             in IfOk result (λ token. hashed ≡ Ok token.payload) }
         ensures signed { IfOk result (λ token.
             S.signs key.now alg token.message ≡ Ok token.signature) }
         ensures refused { let checker = S.verification_key key.now in
             let hashed = with_hashes (hashing (JS.as_ref alg) (S.VerificationKey.hash_of checker alg))
-              (option_copied access_token.entry) (option_copied code.entry) claims
+            (option_copied access_token.entry) (option_copied code.entry) claims
             in IfErr result (IsUnissued hashed (S.signs key.now alg)) }
 
         // What is issued is read back as it is, and whoever expects these claims accepts it.
         ensures reads_back { IsNamed JS.as_ref JS.from_str alg → IsIssuable AC.write_of claims
             → IfOk result (λ token. token_of JE.from_str JS.from_str
-              (id_token_claims_of AC.read_of GC.read_of) token.text ≡ Ok token) }
+            (id_token_claims_of AC.read_of GC.read_of) token.text ≡ Ok token) }
         ensures accepted { let k = meanings S.VerificationKey.JsonWebKey S.VerificationKey.KeyUse.JsonWebKeyUse
-          S.VerificationKey.SigningAlgorithm.JwsSigningAlgorithm.own S.VerificationKey.SigningAlgorithm.ClosedVocabulary
-          S.VerificationKey.SigningAlgorithm.KeyType.ClosedVocabulary in
+            S.VerificationKey.SigningAlgorithm.JwsSigningAlgorithm.own S.VerificationKey.SigningAlgorithm.ClosedVocabulary
+            S.VerificationKey.SigningAlgorithm.KeyType.ClosedVocabulary in
             (v : SeenVerifier S.VerificationKey JS) (allows : Option (List ℕ) → Bool) (now : ℤ)
             → Expects k v allows now alg (S.verification_key key.now) claims
             → IfOk result (λ token. Accepts k v allows now token) }

@@ -147,7 +147,9 @@ impl<AC: AdditionalClaims, GC: GenderClaim> IdTokenClaims<AC, GC> {
         ensures { let standard = record self.standard_claims { preferred_username = preferred_username } in
             result ≡ record self { standard_claims = standard } }
     {
-        let standard_claims = self.standard_claims.set_preferred_username(preferred_username);
+        let standard_claims = self
+            .standard_claims
+            .set_preferred_username(preferred_username);
         IdTokenClaims {
             own: self.own,
             standard_claims,
@@ -387,7 +389,9 @@ impl<AC: AdditionalClaims, GC: GenderClaim> IdTokenClaims<AC, GC> {
         ensures { let standard = record self.standard_claims { phone_number_verified = phone_number_verified } in
             result ≡ record self { standard_claims = standard } }
     {
-        let standard_claims = self.standard_claims.set_phone_number_verified(phone_number_verified);
+        let standard_claims = self
+            .standard_claims
+            .set_phone_number_verified(phone_number_verified);
         IdTokenClaims {
             own: self.own,
             standard_claims,

@@ -132,12 +132,7 @@ fn texts_value<M: Marker>(alloc: Global, texts: &[Text<M>]) -> Result<Value, All
 }
 
 // Appends a member. It is UTF-8, as a `String` and the texts of a `Value` are.
-fn push(
-    alloc: Global,
-    out: &mut Vec<OutMember>,
-    name: &str,
-    value: Value,
-) -> Result<(), AllocError>
+fn push(alloc: Global, out: &mut Vec<OutMember>, name: &str, value: Value) -> Result<(), AllocError>
     ensures members { OnOk result
         (out.new.items ≡ out.old.items ++ one_member name.now (view value)) }
     ensures texts { OnOk result (KeepsUtf8 out.old.items out.new.items) }

@@ -3,9 +3,9 @@
 ghost use Rattle.std.specs.Prelude.{◌≡◌, List, ℕ, Bool, Option};
 ghost use Rattle.std.specs.Option.{option_copied};
 
-use oidc_types::{Audience, IssuerUrl, Nonce};
 use crate::id_token::IdTokenClaims;
 use oidc_claims::{AdditionalClaims, GenderClaim};
+use oidc_types::{Audience, IssuerUrl, Nonce};
 
 /// Claims that may say whom they are for (`aud`, RFC 7519 section 4.1.3).
 pub trait AudiencesClaim {

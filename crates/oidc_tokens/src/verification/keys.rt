@@ -78,7 +78,7 @@ fn find<'a, K: JsonWebKey>(
     kid: Option<&JsonWebKeyId>,
 ) -> Result<&'a K, SignatureVerificationError>
     ensures { let k = meanings K.JsonWebKey K.KeyUse.JsonWebKeyUse K.SigningAlgorithm.JwsSigningAlgorithm.own
-          K.SigningAlgorithm.ClosedVocabulary K.SigningAlgorithm.KeyType.ClosedVocabulary in
+        K.SigningAlgorithm.ClosedVocabulary K.SigningAlgorithm.KeyType.ClosedVocabulary in
         IsTheOneOf (spec.fits k alg.now (option_copied kid.entry)) keys.now (behind result) }
 {
     let mut found: Option<&'a K> = None;
@@ -104,7 +104,7 @@ impl<'a, K: JsonWebKey> IdTokenVerifier<'a, K> {
         alg: &K::SigningAlgorithm,
     ) -> Result<&'s K, SignatureVerificationError>
         ensures { let k = meanings K.JsonWebKey K.KeyUse.JsonWebKeyUse K.SigningAlgorithm.JwsSigningAlgorithm.own
-          K.SigningAlgorithm.ClosedVocabulary K.SigningAlgorithm.KeyType.ClosedVocabulary in
+            K.SigningAlgorithm.ClosedVocabulary K.SigningAlgorithm.KeyType.ClosedVocabulary in
             behind result ≡ key_that_is_for k self.now (option_copied kid.entry) alg.now }
     {
         if alg.uses_shared_secret() {
@@ -120,7 +120,7 @@ impl<'a, K: JsonWebKey> IdTokenVerifier<'a, K> {
     // Whether an algorithm is among those that are allowed.
     fn is_allowed(&self, alg: &K::SigningAlgorithm) -> bool
         ensures { let k = meanings K.JsonWebKey K.KeyUse.JsonWebKeyUse K.SigningAlgorithm.JwsSigningAlgorithm.own
-          K.SigningAlgorithm.ClosedVocabulary K.SigningAlgorithm.KeyType.ClosedVocabulary in result ≡ spec.is_allowed k self.now alg.now }
+            K.SigningAlgorithm.ClosedVocabulary K.SigningAlgorithm.KeyType.ClosedVocabulary in result ≡ spec.is_allowed k self.now alg.now }
     {
         match &self.allowed_algs {
             Some(algs) => algs.iter().any(|allowed| is_same_word(allowed, alg)),
@@ -135,7 +135,7 @@ impl<'a, K: JsonWebKey> IdTokenVerifier<'a, K> {
         token: &JsonWebToken<JE, K::SigningAlgorithm, P>,
     ) -> Result<(), SignatureVerificationError>
         ensures { let k = meanings K.JsonWebKey K.KeyUse.JsonWebKeyUse K.SigningAlgorithm.JwsSigningAlgorithm.own
-          K.SigningAlgorithm.ClosedVocabulary K.SigningAlgorithm.KeyType.ClosedVocabulary in
+            K.SigningAlgorithm.ClosedVocabulary K.SigningAlgorithm.KeyType.ClosedVocabulary in
             GivesVerdict (said_of_signature k self.now token.now) result }
     {
         let alg = signing_alg(&token.header().alg)?;
