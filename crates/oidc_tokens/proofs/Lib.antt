@@ -1,1 +1,2 @@
 mod PartsOf
+mod Accepted

@@ -11,7 +11,9 @@ use Rattle.std.specs.Prelude.{◌<◌, get_or, Result, Ok, Err, IsCharBoundary}
 use Rattle.std.specs.Option.{ok_or}
 use Rattle.std.proofs.Math.Seq.{get_or-append_seam}
 use Rattle.std.proofs.lemmas.Str.{IsCharBoundary-before_ascii}
+use Rattle.oidc_members.specs.Seen.{SeenMember}
 use Rattle.oidc_members.specs.declared.refusal.Refusal.{Refusal}
+use Rattle.oidc_readers.specs.Records.{◌>>=◌}
 use Rattle.oidc_tokens.specs.Tokens.{Parts, SeenToken, Contents, three, parts_of, no_token, message_in, contents_of, token_of}
 
 abbrev pub pieces : List ℕ → List (List ℕ)
@@ -69,3 +71,13 @@ message_bounded text p h =
     ∙ ap (λ k. get_or ((p.header ++ 46 ∷ p.payload) ++ 46 ∷ p.signature) k 0) (sym n)
     ∙ get_or-append_seam (p.header ++ 46 ∷ p.payload) 46 p.signature 0 in
     IsCharBoundary-before_ascii text _ within (omega (arith, dot))
+
+module _ {JE JS P : Type 0} (encrypts : List ℕ → Option JE) (signs : List ℕ → Option JS) (payload_read : List SeenMember → Result P Refusal) where
+  -- what is read of a text's parts is the token of the text
+  pub token_back : (text given : List ℕ) (n : ℕ) (p : Parts) (x : Contents JE JS P) → given ≡ text → n ≡ length p.header + 1 + length p.payload
+      → parts_of text ≡ Ok p → contents_of encrypts signs payload_read p ≡ Ok x
+      → token_of encrypts signs payload_read text ≡ Ok (record { text = given; header = x.header; payload = x.payload; message = take n given; signature = x.signature })
+  unfolding token_of
+  token_back text given n p x is len parts said =
+      rw (is, len, message_before text p parts)
+      (rw parts (ap (λ o. o >>= λ x. Ok (record { text = text; header = x.header; payload = x.payload; message = message_in p; signature = x.signature })) said))
