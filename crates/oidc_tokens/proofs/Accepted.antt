@@ -19,7 +19,7 @@ use Rattle.oidc_tokens.specs.declared.verification.refusals.ClaimsVerificationEr
 use Rattle.oidc_tokens.specs.Steps.{◌>>=◌}
 use Rattle.oidc_tokens.specs.Tokens.{SeenToken}
 use Rattle.oidc_tokens.specs.IdTokenClaims.{SeenIdTokenClaims}
-use Rattle.oidc_tokens.specs.Signatures.{KeyMeanings, SeenVerifier, signing_alg, is_allowed, if_allowed, key_for, signature_of}
+use Rattle.oidc_tokens.specs.Signatures.{KeyMeanings, SeenVerifier, signing_alg, is_allowed, if_allowed, key_for, verdict_on}
 use Rattle.oidc_tokens.specs.Verification.{is_token_type, is_encrypted, is_supported, is_alone_in, Accepts, unless, refused_as, first_of, first_failure, FailsUnlessAccepted}
 
 -- ---- one check
@@ -115,12 +115,12 @@ module _ {Key Use Algorithm Type' : Type 0} (k : KeyMeanings Key Use Algorithm T
   named_of v token (algorithm.Encryption alg) signed h = absurd cc
   named_of v token algorithm.None signed h = absurd cc
 
-  good : (v : SeenVerifier Key Algorithm) (token : SeenToken JE Algorithm P) → signature_of k v token ≡ Ok tt → Good v token
-  unfolding signature_of
+  good : (v : SeenVerifier Key Algorithm) (token : SeenToken JE Algorithm P) → verdict_on k v token ≡ Ok tt → Good v token
+  unfolding verdict_on
   good v token h = named_of v token token.header.alg refl h
 
-  good_back : (v : SeenVerifier Key Algorithm) (token : SeenToken JE Algorithm P) → Good v token → signature_of k v token ≡ Ok tt
-  unfolding signature_of
+  good_back : (v : SeenVerifier Key Algorithm) (token : SeenToken JE Algorithm P) → Good v token → verdict_on k v token ≡ Ok tt
+  unfolding verdict_on
   good_back v token g = rw (g.signed, g.allowed, g.chosen) g.verified
 
 -- ---- all of them
@@ -159,10 +159,10 @@ module _ {Key Use Algorithm Type' : Type 0} (k : KeyMeanings Key Use Algorithm T
   accepts v allows now token h =
       let own = token.payload.own in
       let six = all_six (unless (is_supported token.header) Unsupported) (unless (bytes_eq own.issuer.text v.issuer.text) InvalidIssuer) (unless (is_alone_in v.client_id own.audiences) InvalidAudience)
-      (refused_as SignatureVerification (signature_of k v token)) (unless (int_lt now own.expiration) Expired) (unless (allows own.nonce) InvalidNonce) h in
+      (refused_as SignatureVerification (verdict_on k v token)) (unless (int_lt now own.expiration) Expired) (unless (allows own.nonce) InvalidNonce) h in
       let header = supported_parts token.header (passes (is_supported token.header) Unsupported six.0) in
       let audience = alone v.client_id own.audiences (passes (is_alone_in v.client_id own.audiences) InvalidAudience six.2) in
-      let signed = good k v token (passed (signature_of k v token) six.3) in
+      let signed = good k v token (passed (verdict_on k v token) six.3) in
       record {
         no_extension = header.0;
         no_inner_token = header.1;

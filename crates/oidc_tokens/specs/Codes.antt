@@ -1,4 +1,4 @@
--- How the logic stores tokens and their claims: as the tuples of their fields. No clause speaks of it.
+-- How the logic stores the claims of a token: as the tuples of their fields. No clause speaks of it.
 use Rattle.std.specs.Prelude.{ℕ, ℤ, List, Option, refl}
 use Rattle.std.specs.Coded.{Coded, code_by, coded×, coded_option, coded_list, coded_ℕ, coded_ℤ}
 use Rattle.oidc_types.specs.UrlText.{TextAndUrl, text_and_url_code}

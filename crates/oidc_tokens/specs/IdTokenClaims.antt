@@ -1,5 +1,7 @@
 -- The claims of an ID token, read and written (OpenID Connect Core 1.0 sections 2, 5.1 and 5.1.2).
 use Rattle.std.specs.Prelude.{ℕ, List, ◌++◌, filter, Bool, Result, Ok}
+use Rattle.std.specs.List.{list_any}
+use Rattle.std.specs.Str.{bytes_eq}
 use Rattle.serde_json.specs.Data.{Data}
 use Rattle.oidc_members.specs.Seen.{SeenMember, OutSeen}
 use Rattle.oidc_members.specs.declared.refusal.Refusal.{Refusal}
@@ -16,13 +18,17 @@ pub record SeenIdTokenClaims (AC GC : Type 0) : Type 0 where
   pub standard_claims : SeenClaims GC
   pub additional_claims : AC
 
--- A claim beside the fields of an ID token and the standard claims.
-abbrev pub is_beside : List ℕ → Bool
-is_beside name = is_additional_home (home_of name id_token_fields)
+-- A name of one of an ID token's own fields.
+abbrev pub is_own_field : List ℕ → Bool
+is_own_field name = list_any (λ field. bytes_eq field name) id_token_fields
+
+-- A name of no own field and no standard claim.
+abbrev pub is_additional_claim : List ℕ → Bool
+is_additional_claim name = is_additional_home (home_of name id_token_fields)
 
 -- the additional members, in their order
-abbrev pub beside : List SeenMember → List SeenMember
-beside members = filter (λ m. is_beside m.name) members
+abbrev pub additional_members : List SeenMember → List SeenMember
+additional_members members = filter (λ m. is_additional_claim m.name) members
 
 module _ {AC GC : Type 0} (additional_read : List SeenMember → Result AC Refusal)
     (gender_read : SeenMember → Result GC Refusal) where
@@ -30,13 +36,13 @@ module _ {AC GC : Type 0} (additional_read : List SeenMember → Result AC Refus
   abbrev pub id_token_rule : Rule
   id_token_rule = either_rule own_rule (fault_at gender_read)
 
-  -- What members say none of which is faulty. A missing `iss`, `exp`, `iat` or `sub` refuses them, in
+  -- What members say, none of which is faulty. A missing `iss`, `exp`, `iat` or `sub` refuses them, in
   -- this order, and then the additional claims may.
   unfoldable pub parts_in : List SeenMember → Result (SeenIdTokenClaims AC GC) Refusal
   parts_in members = do
     own ← own_of members
     standard ← faultless_claims gender_read members
-    additional ← additional_read (beside members)
+    additional ← additional_read (additional_members members)
     Ok (record { own = own; standard_claims = standard; additional_claims = additional })
 
   -- The first faulty member refuses the list.

@@ -22,17 +22,17 @@ abbrev pub id_token : {Token : Type 0} → (List ℕ → Result Token Refusal) �
 id_token read_token = field (codes "id_token") (or_null (token_kind read_token))
 
 -- A member `id_token` is refused as its token is, before the other fields may refuse the response.
-unfoldable pub id_token_fields_of : {Token Extra : Type 0} → (List ℕ → Result Token Refusal)
+unfoldable pub response_fields_of : {Token Extra : Type 0} → (List ℕ → Result Token Refusal)
     → (List SeenMember → Result Extra Refusal) → List SeenMember
     → Result (SeenIdTokenFields Token Extra) Refusal
-id_token_fields_of read_token extra_read members = do
+response_fields_of read_token extra_read members = do
   u ← faultless (judged (id_token read_token)) members
   extra ← extra_read members
   Ok (record { id_token = optional (id_token read_token) members; extra_fields = extra })
 
 -- the token's text as it was read or made, then the other fields
-abbrev pub id_token_fields_out : {JE JS P Extra : Type 0} → (Extra → List OutSeen)
+abbrev pub response_fields_out : {JE JS P Extra : Type 0} → (Extra → List OutSeen)
     → SeenIdTokenFields (SeenToken JE JS P) Extra → List OutSeen
-id_token_fields_out extra_out fields =
+response_fields_out extra_out fields =
     text_member (codes "id_token") (option_map (λ token. token.text) fields.id_token)
     ++ extra_out fields.extra_fields

@@ -6,7 +6,7 @@ use Rattle.base64.specs.Engines.{url_safe_no_pad}
 use Rattle.oidc_members.specs.Seen.{SeenMember, OutSeen}
 use Rattle.oidc_members.specs.Write.{object_text}
 use Rattle.oidc_members.specs.declared.refusal.Refusal.{Refusal}
-use Rattle.oidc_readers.specs.WrittenBack.{MayStand, as_read}
+use Rattle.oidc_readers.specs.WrittenBack.{MayStand, IsUtf8Member, as_read}
 use Rattle.oidc_types.specs.declared.signing_error.SigningError.{SigningError}
 use Rattle.oidc_types.specs.declared.signing_error.SigningError.TheVariants as signing
 use Rattle.oidc_tokens.specs.declared.header.JsonWebTokenAlgorithm.{JsonWebTokenAlgorithm}
@@ -69,8 +69,8 @@ abbrev pub IsRefusedBy : (List ℕ → Result (List ℕ) SigningError) → JsonW
 IsRefusedBy signs (token_error.SigningError refusal) = (message : List ℕ) × (signs message ≡ Err refusal)
 IsRefusedBy signs token_error.Memory = Unit {0}
 
--- Something that is to be issued doesn't exist for this cause, or a signer refuses some message so; or
--- there was no memory.
+-- A hash that is wanted doesn't exist, and this is why; or a signer refuses some message so; or there was
+-- no memory.
 abbrev pub IsUnissued : {P : Type 0} → Result P SigningError → (List ℕ → Result (List ℕ) SigningError)
     → JsonWebTokenError → Type 0
 IsUnissued payload signs (token_error.SigningError refusal) =
@@ -82,19 +82,15 @@ abbrev pub issue_error : SigningError → JsonWebTokenError
 issue_error signing.Memory = token_error.Memory
 issue_error refusal = token_error.SigningError refusal
 
--- The answer is the text or the refusal that is meant, or `Memory`.
-abbrev pub Hashes : {T : Type 0} → Result T SigningError → Result T SigningError → Type 0
-Hashes meant (Err signing.Memory) = Unit {0}
-Hashes meant answer = answer ≡ meant
-
 -- An algorithm whose text is read as it, and isn't `none`.
 pub record IsNamed {JS : Type 0} (text_of : JS → List ℕ) (word_of : List ℕ → Option JS) (alg : JS)
     : Type 0 where
   pub read_back : word_of (text_of alg) ≡ Some alg
   pub signs : text_of alg ≢ codes "none"
 
--- What is written is an object's members, and reads back.
+-- What is written may stand in an object, and reads back where its texts are UTF-8, as a program's are.
 pub record ComesBack {P : Type 0} (payload_read : List SeenMember → Result P Refusal)
     (payload_out : P → List OutSeen) (payload : P) : Type 0 where
   pub values : All (λ (m : OutSeen). MayStand m.value) (payload_out payload)
-  pub same : payload_read (map as_read (payload_out payload)) ≡ Ok payload
+  pub same : All IsUtf8Member (payload_out payload)
+      → payload_read (map as_read (payload_out payload)) ≡ Ok payload

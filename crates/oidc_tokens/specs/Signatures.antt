@@ -98,8 +98,8 @@ module _ {Key Use Algorithm Type' : Type 0} (k : KeyMeanings Key Use Algorithm T
       && may_verify k.uses (k.keys.key_use key)
       && has_id kid (k.keys.key_id key)
 
-  -- The key that checks a signature: for an algorithm whose key both sides have, that of the client's
-  -- secret; else the one key of the issuer that fits.
+  -- The key that checks a signature: for a shared-secret algorithm that of the client's secret, else the one
+  -- key of the issuer that fits.
   abbrev pub key_for : SeenVerifier Key Algorithm → Option (List ℕ) → Algorithm
       → Result Key SignatureVerificationError
   key_for v kid alg =
@@ -119,14 +119,14 @@ module _ {Key Use Algorithm Type' : Type 0} (k : KeyMeanings Key Use Algorithm T
 
   module _ {JE P : Type 0} where
     -- the key that checks a token's signature
-    abbrev pub key_of : SeenVerifier Key Algorithm → SeenToken JE Algorithm P
+    abbrev pub checking_key : SeenVerifier Key Algorithm → SeenToken JE Algorithm P
         → Result Key SignatureVerificationError
-    key_of v token = signing_alg token.header.alg >>= key_for v token.header.kid
+    checking_key v token = signing_alg token.header.alg >>= key_for v token.header.kid
 
     -- what is said of a token's signature
-    unfoldable pub signature_of : SeenVerifier Key Algorithm → SeenToken JE Algorithm P
+    unfoldable pub verdict_on : SeenVerifier Key Algorithm → SeenToken JE Algorithm P
         → Result (Unit {0}) SignatureVerificationError
-    signature_of v token = do
+    verdict_on v token = do
       named ← signing_alg token.header.alg
       alg ← if_allowed v named
       key ← key_for v token.header.kid alg

@@ -12,7 +12,7 @@ use Rattle.oidc_tokens.specs.declared.verification.refusals.ClaimsVerificationEr
 use Rattle.oidc_tokens.specs.declared.verification.refusals.ClaimsVerificationError.TheVariants.{Unsupported, InvalidIssuer, InvalidAudience, SignatureVerification, Expired, InvalidNonce, Memory}
 use Rattle.oidc_tokens.specs.Tokens.{SeenToken}
 use Rattle.oidc_tokens.specs.IdTokenClaims.{SeenIdTokenClaims}
-use Rattle.oidc_tokens.specs.Signatures.{KeyMeanings, SeenVerifier, is_allowed, key_for, signature_of}
+use Rattle.oidc_tokens.specs.Signatures.{KeyMeanings, SeenVerifier, is_allowed, key_for, verdict_on}
 
 -- ---- the header (RFC 7515 sections 4.1.9 to 4.1.11, RFC 7519 sections 5.1 and 5.2)
 
@@ -83,7 +83,7 @@ module _ {Key Use Algorithm Type' : Type 0} (k : KeyMeanings Key Use Algorithm T
 abbrev pub unless : Bool → ClaimsVerificationError → Option ClaimsVerificationError
 unless holds refusal = if holds then None else Some refusal
 
--- no refusal where there is a verdict
+-- none where the verdict is Ok
 abbrev pub refused_as : (SignatureVerificationError → ClaimsVerificationError)
     → Result (Unit {0}) SignatureVerificationError → Option ClaimsVerificationError
 refused_as wrap (Ok u) = None
@@ -103,7 +103,7 @@ module _ {Key Use Algorithm Type' : Type 0} (k : KeyMeanings Key Use Algorithm T
       (unless (is_supported token.header) Unsupported
       ∷ unless (bytes_eq own.issuer.text v.issuer.text) InvalidIssuer
       ∷ unless (is_alone_in v.client_id own.audiences) InvalidAudience
-      ∷ refused_as SignatureVerification (signature_of k v token)
+      ∷ refused_as SignatureVerification (verdict_on k v token)
       ∷ unless (int_lt now own.expiration) Expired
       ∷ unless (allows own.nonce) InvalidNonce
       ∷ [])

@@ -3,8 +3,8 @@
 ghost use Rattle.std.specs.Prelude.{◌≡◌, List, ℕ, Ok, Err, IfOk, IfErr};
 ghost use Rattle.std.specs.String.{string_bytes};
 ghost use Rattle.oidc_types.specs.declared.signing_error.SigningError.TheVariants.{UnsupportedAlg};
-ghost use Rattle.oidc_tokens.specs.Issuing.{Hashes, encoded};
-ghost use Rattle.oidc_tokens.specs.Hashes.{hashing, hash_of as hash_that_is, left_half};
+ghost use Rattle.oidc_tokens.specs.Issuing.{encoded};
+ghost use Rattle.oidc_tokens.specs.Hashes.{GivesHash, hashing, hash_or_refusal, left_half};
 
 use base64::engine::general_purpose::URL_SAFE_NO_PAD;
 use oidc_keys::{HashError, JsonWebKey};
@@ -26,7 +26,7 @@ pub fn from_token<K: JsonWebKey>(
     key: &K,
 ) -> Result<AccessTokenHash, SigningError>
     ensures hash { let by = hashing (K.SigningAlgorithm.as_ref alg.now) (K.hash_of key.now alg.now)
-        in Hashes (hash_that_is by token.now) result }
+        in GivesHash (hash_or_refusal by token.now) result }
 {
     match hash_of(alloc, token.secret(), alg, key) {
         Ok(hash) => Ok(AccessTokenHash::new(hash)),
@@ -43,7 +43,7 @@ pub fn from_code<K: JsonWebKey>(
     key: &K,
 ) -> Result<AuthorizationCodeHash, SigningError>
     ensures hash { let by = hashing (K.SigningAlgorithm.as_ref alg.now) (K.hash_of key.now alg.now)
-        in Hashes (hash_that_is by code.now) result }
+        in GivesHash (hash_or_refusal by code.now) result }
 {
     match hash_of(alloc, code.secret(), alg, key) {
         Ok(hash) => Ok(AuthorizationCodeHash::new(hash)),
@@ -53,7 +53,7 @@ pub fn from_code<K: JsonWebKey>(
 
 // The refusal of an algorithm that has no hash.
 fn unsupported<A: ClosedVocabulary>(alloc: Global, alg: &A) -> SigningError
-    ensures { Hashes {T = List ℕ} (Err (UnsupportedAlg (A.as_ref alg.now))) (Err result) }
+    ensures { GivesHash {T = List ℕ} (Err (UnsupportedAlg (A.as_ref alg.now))) (Err result) }
 {
     match String::from_str(alloc, alg.as_ref()) {
         Ok(text) => SigningError::UnsupportedAlg(FieldName::new(text)),
@@ -74,9 +74,9 @@ fn hash_of<K: JsonWebKey>(
     key: &K,
 ) -> Result<String, SigningError>
     ensures ok { let by = hashing (K.SigningAlgorithm.as_ref alg.now) (K.hash_of key.now alg.now)
-        in IfOk result (λ hash. hash_that_is by text.now ≡ Ok (string_bytes hash)) }
+        in IfOk result (λ hash. hash_or_refusal by text.now ≡ Ok (string_bytes hash)) }
     ensures refused { let by = hashing (K.SigningAlgorithm.as_ref alg.now) (K.hash_of key.now alg.now)
-        in IfErr result (λ refusal. Hashes (hash_that_is by text.now) (Err refusal)) }
+        in IfErr result (λ refusal. GivesHash (hash_or_refusal by text.now) (Err refusal)) }
 {
     match key.hash_bytes(alloc, text.as_bytes(), alg) {
         Ok(digest) => match half_encoded(alloc, digest.as_slice()) {

@@ -10,7 +10,7 @@ ghost use Rattle.oidc_tokens.specs.Verification.{Judges, Accepts};
 ghost use Rattle.oidc_tokens.specs.Signatures as signatures;
 ghost use Rattle.oidc_tokens.specs.Signatures.{behind, meanings};
 
-mod beside;
+mod additional;
 mod claims;
 mod fields;
 mod issue;
@@ -96,16 +96,19 @@ impl<
         nonce: N,
         now: Timestamp,
     ) -> Result<&IdTokenClaims<AC, GC>, ClaimsVerificationError>
-        ensures judged { let k = meanings K.JsonWebKey K.KeyUse.JsonWebKeyUse K.SigningAlgorithm.JwsSigningAlgorithm.own
-            K.SigningAlgorithm.ClosedVocabulary K.SigningAlgorithm.KeyType.ClosedVocabulary in
+        ensures judged { let k = meanings K.JsonWebKey K.KeyUse.JsonWebKeyUse
+            K.SigningAlgorithm.JwsSigningAlgorithm.own K.SigningAlgorithm.ClosedVocabulary
+            K.SigningAlgorithm.KeyType.ClosedVocabulary in
             let failure = verification.first_failure k verifier.now (N.allows nonce) now.nanosecond
             in Judges (failure self.now) result }
-        ensures accepted { let k = meanings K.JsonWebKey K.KeyUse.JsonWebKeyUse K.SigningAlgorithm.JwsSigningAlgorithm.own
-            K.SigningAlgorithm.ClosedVocabulary K.SigningAlgorithm.KeyType.ClosedVocabulary in
+        ensures accepted { let k = meanings K.JsonWebKey K.KeyUse.JsonWebKeyUse
+            K.SigningAlgorithm.JwsSigningAlgorithm.own K.SigningAlgorithm.ClosedVocabulary
+            K.SigningAlgorithm.KeyType.ClosedVocabulary in
             let accepts = Accepts k verifier.now (N.allows nonce) now.nanosecond
             in IfOk result (λ claims. accepts self.now) }
-        ensures refused { let k = meanings K.JsonWebKey K.KeyUse.JsonWebKeyUse K.SigningAlgorithm.JwsSigningAlgorithm.own
-            K.SigningAlgorithm.ClosedVocabulary K.SigningAlgorithm.KeyType.ClosedVocabulary in
+        ensures refused { let k = meanings K.JsonWebKey K.KeyUse.JsonWebKeyUse
+            K.SigningAlgorithm.JwsSigningAlgorithm.own K.SigningAlgorithm.ClosedVocabulary
+            K.SigningAlgorithm.KeyType.ClosedVocabulary in
             let accepts = Accepts k verifier.now (N.allows nonce) now.nanosecond
             in accepts self.now → IfErr result (λ error. error ≡ ClaimsVerificationError.Memory) }
         ensures claims { IfOk result (λ claims. claims.now ≡ self.now.payload) }
@@ -124,16 +127,19 @@ impl<
         nonce: N,
         now: Timestamp,
     ) -> Result<IdTokenClaims<AC, GC>, ClaimsVerificationError>
-        ensures judged { let k = meanings K.JsonWebKey K.KeyUse.JsonWebKeyUse K.SigningAlgorithm.JwsSigningAlgorithm.own
-            K.SigningAlgorithm.ClosedVocabulary K.SigningAlgorithm.KeyType.ClosedVocabulary in
+        ensures judged { let k = meanings K.JsonWebKey K.KeyUse.JsonWebKeyUse
+            K.SigningAlgorithm.JwsSigningAlgorithm.own K.SigningAlgorithm.ClosedVocabulary
+            K.SigningAlgorithm.KeyType.ClosedVocabulary in
             let failure = verification.first_failure k verifier.now (N.allows nonce) now.nanosecond
             in Judges (failure self) result }
-        ensures accepted { let k = meanings K.JsonWebKey K.KeyUse.JsonWebKeyUse K.SigningAlgorithm.JwsSigningAlgorithm.own
-            K.SigningAlgorithm.ClosedVocabulary K.SigningAlgorithm.KeyType.ClosedVocabulary in
+        ensures accepted { let k = meanings K.JsonWebKey K.KeyUse.JsonWebKeyUse
+            K.SigningAlgorithm.JwsSigningAlgorithm.own K.SigningAlgorithm.ClosedVocabulary
+            K.SigningAlgorithm.KeyType.ClosedVocabulary in
             let accepts = Accepts k verifier.now (N.allows nonce) now.nanosecond
             in IfOk result (λ claims. accepts self) }
-        ensures refused { let k = meanings K.JsonWebKey K.KeyUse.JsonWebKeyUse K.SigningAlgorithm.JwsSigningAlgorithm.own
-            K.SigningAlgorithm.ClosedVocabulary K.SigningAlgorithm.KeyType.ClosedVocabulary in
+        ensures refused { let k = meanings K.JsonWebKey K.KeyUse.JsonWebKeyUse
+            K.SigningAlgorithm.JwsSigningAlgorithm.own K.SigningAlgorithm.ClosedVocabulary
+            K.SigningAlgorithm.KeyType.ClosedVocabulary in
             let accepts = Accepts k verifier.now (N.allows nonce) now.nanosecond
             in accepts self → IfErr result (λ error. error ≡ ClaimsVerificationError.Memory) }
         ensures claims { IfOk result (λ claims. claims ≡ self.payload) }
@@ -145,7 +151,7 @@ impl<
     }
 
     /// The algorithm that the token is signed by. `UnsupportedAlg` where it is encrypted, `NoSignature`
-    /// where it is neither.
+    /// where it is neither signed nor encrypted.
     pub fn signing_alg(&self) -> Result<&JS, SignatureVerificationError>
         ensures alg { behind result ≡ signatures.signing_alg self.now.header.alg }
     {
@@ -160,9 +166,10 @@ impl<
         &self,
         verifier: &'s IdTokenVerifier<'s, K>,
     ) -> Result<&'s K, SignatureVerificationError>
-        ensures key { let k = meanings K.JsonWebKey K.KeyUse.JsonWebKeyUse K.SigningAlgorithm.JwsSigningAlgorithm.own
-            K.SigningAlgorithm.ClosedVocabulary K.SigningAlgorithm.KeyType.ClosedVocabulary in
-            behind result ≡ signatures.key_of k verifier.now self.now }
+        ensures key { let k = meanings K.JsonWebKey K.KeyUse.JsonWebKeyUse
+            K.SigningAlgorithm.JwsSigningAlgorithm.own K.SigningAlgorithm.ClosedVocabulary
+            K.SigningAlgorithm.KeyType.ClosedVocabulary in
+            behind result ≡ signatures.checking_key k verifier.now self.now }
     {
         let alg = self.signing_alg()?;
         verifier.key_for(self.token.header().kid.as_ref(), alg)

@@ -218,6 +218,8 @@ impl<JE: ClosedVocabulary, JS: JwsSigningAlgorithm, P: Payload> JsonWebToken<JE,
             (S.VerificationKey.key_id (S.verification_key key.now)) alg.now payload) result }
 
         // Whatever the values hold.
+        ensures header { let key_id = S.VerificationKey.key_id (S.verification_key key.now) in
+            IfOk result (λ token. token.header ≡ issuing.signed_with alg.now key_id) }
         ensures payload { IfOk result (λ token. token.payload ≡ payload) }
         ensures signed { IfOk result (λ token.
             S.signs key.now alg.now token.message ≡ Ok token.signature) }

@@ -76,8 +76,8 @@ impl<'a, K: JsonWebKey> IdTokenVerifier<'a, K> {
         }
     }
 
-    /// The verifier of a client with a secret, whose bytes are the key of algorithms by which both sides
-    /// sign. It allows RS256 alone. `AllocError` is want of memory, the one error.
+    /// The verifier of a client with a secret, whose bytes are the key of shared-secret
+    /// algorithms. It allows RS256 alone. `AllocError` is want of memory, the one error.
     pub fn new_confidential_client(
         alloc: Global,
         client_id: &'a ClientId,
@@ -181,8 +181,9 @@ impl<'a, K: JsonWebKey> IdTokenVerifier<'a, K> {
         nonce: &N,
         now: Timestamp,
     ) -> Result<(), ClaimsVerificationError>
-        ensures { let k = meanings K.JsonWebKey K.KeyUse.JsonWebKeyUse K.SigningAlgorithm.JwsSigningAlgorithm.own
-            K.SigningAlgorithm.ClosedVocabulary K.SigningAlgorithm.KeyType.ClosedVocabulary in
+        ensures { let k = meanings K.JsonWebKey K.KeyUse.JsonWebKeyUse
+            K.SigningAlgorithm.JwsSigningAlgorithm.own K.SigningAlgorithm.ClosedVocabulary
+            K.SigningAlgorithm.KeyType.ClosedVocabulary in
             Judges (first_failure k self.now (N.allows nonce.now) now.nanosecond token.now) result }
     {
         let claims = token.unverified_payload();

@@ -4,12 +4,14 @@ ghost use Rattle.std.specs.Prelude.{◌≡◌, None, IfOk, option_map, false};
 ghost use Rattle.std.specs.List.{All};
 ghost use Rattle.std.specs.Option.{option_copied};
 ghost use Rattle.oidc_members.specs.Answers.{Answers};
-ghost use Rattle.oidc_readers.specs.Records.{faultless};
+ghost use Rattle.oidc_members.specs.Write.{any_float};
+ghost use Rattle.oidc_readers.specs.WrittenBack.{IsUtf8Member};
 ghost use Rattle.oidc_claims.specs.Reader.{reader_of};
 ghost use Rattle.oidc_tokens.specs.IdTokenClaims as spec;
 ghost use Rattle.oidc_tokens.specs.OwnFields.{own_fields};
+ghost use Rattle.oidc_tokens.specs.RoundTrip.{IsInRange, GivesClaims};
 
-use crate::id_token::beside::read_beside;
+use crate::id_token::additional::read_additional;
 use crate::id_token::own::{OwnClaims, OwnFields};
 use crate::id_token::written::own_members;
 use crate::payload::Payload;
@@ -312,7 +314,7 @@ impl<AC: AdditionalClaims, GC: GenderClaim> IdTokenClaims<AC, GC> {
     {
         let own = own.finish(alloc, members)?;
         let standard_claims = standard.finish(alloc)?;
-        let additional_claims = read_beside(alloc, members.as_slice())?;
+        let additional_claims = read_additional(alloc, members.as_slice())?;
         Ok(IdTokenClaims {
             own,
             standard_claims,
@@ -346,7 +348,20 @@ impl<AC: AdditionalClaims, GC: GenderClaim> Payload for IdTokenClaims<AC, GC> {
     /// The claims as members: the token's own fields in the order of their getters, the standard claims,
     /// then the additional ones. Absent claims are left out, `aud` is an array, and moments are whole
     /// seconds, rounded down.
-    fn write(&self, alloc: Global) -> Result<Vec<OutMember>, AllocError> {
+    ///
+    /// Claims are read back from the object's text of what is written, where they are in range:
+    /// the issuer's URL is that of its text, moments are at whole seconds, the standard claims are in
+    /// the range of `write_standard`, and the additional claims give values that an object may have
+    /// and no name of an own field.
+    fn write(&self, alloc: Global) -> Result<Vec<OutMember>, AllocError>
+        ensures members { let written = spec.id_token_members AC.write_of GC.write_of self.now in
+            IfOk result (λ out. out.items ≡ written) }
+        ensures texts { IfOk result (λ out. All IsUtf8Member out.items) }
+        ensures no_float { any_float (AC.write_of self.now.additional_claims) ≡ false
+            → IfOk result (λ out. any_float out.items ≡ false) }
+        ensures reads_back { IsInRange AC.write_of self.now
+            → IfOk result (λ out. GivesClaims AC.read_of GC.read_of out.items self.now) }
+    {
         let mut out = own_members(alloc, &self.own)?;
         let mut standard = write_standard(alloc, &self.standard_claims)?;
         out.append(&mut standard)?;

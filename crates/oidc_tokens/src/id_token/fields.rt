@@ -147,12 +147,12 @@ impl<
     JE: JweContentEncryptionAlgorithm,
     JS: JwsSigningAlgorithm,
 > ExtraTokenFields for IdTokenFields<AC, EF, GC, JE, JS> {
-    ghost read_of = { spec.id_token_fields_of (token_of JE.from_str JS.from_str
+    ghost read_of = { spec.response_fields_of (token_of JE.from_str JS.from_str
         (id_token_claims_of AC.read_of GC.read_of)) EF.read_of };
 
-    ghost write_of = { spec.id_token_fields_out EF.write_of };
+    ghost write_of = { spec.response_fields_out EF.write_of };
 
-    #[tactic(auto, unfolding(crate::specs::IdTokenFields::id_token_fields_of, oidc_readers::specs::Slots::slot))]
+    #[tactic(auto, unfolding(crate::specs::IdTokenFields::response_fields_of, oidc_readers::specs::Slots::slot))]
     fn read(alloc: Global, members: &Members) -> Result<Self, ParseError> {
         let slot: IdTokenSlot<AC, GC, JE, JS> = IdTokenSlot {
             id_token: Once::new(),

@@ -1,4 +1,4 @@
-// What a verifier asks of claims, and of whoever expects a nonce.
+// What a verifier asks of claims, and what a client asks of a token's nonce.
 
 ghost use Rattle.std.specs.Prelude.{◌≡◌, List, ℕ, Bool, Option};
 ghost use Rattle.std.specs.Option.{option_copied};
@@ -9,8 +9,6 @@ use oidc_types::{Audience, IssuerUrl, Nonce};
 
 /// Claims that may say whom they are for (`aud`, RFC 7519 section 4.1.3).
 pub trait AudiencesClaim {
-    ghost use Rattle.oidc_types.specs.{TextAndUrl};
-
     /// The audiences, where they are said.
     ghost audiences: { Self → Option (List (List ℕ)) };
 
@@ -71,7 +69,7 @@ impl<AC: AdditionalClaims, GC: GenderClaim> IssuerClaim for &IdTokenClaims<AC, G
     }
 }
 
-/// Whoever expects a nonce (OpenID Connect Core 1.0 section 3.1.3.7).
+/// What a client asks of a token's nonce (OpenID Connect Core 1.0 section 3.1.3.7).
 pub trait NonceVerifier: Drop {
     /// Whether a nonce, or that there is none, is allowed.
     ghost allows: { Self → Option (List ℕ) → Bool };

@@ -5,7 +5,7 @@ ghost use Rattle.std.specs.Option.{option_copied};
 ghost use Rattle.std.specs.Str.{bytes_eq};
 ghost use Rattle.oidc_keys.specs.Jwk.{GivesVerdict};
 ghost use Rattle.oidc_tokens.specs.Signatures as spec;
-ghost use Rattle.oidc_tokens.specs.Signatures.{behind, IsTheOneOf, meanings, signing_alg as signing_alg_of, key_for as key_that_is_for, signature_of as said_of_signature};
+ghost use Rattle.oidc_tokens.specs.Signatures.{behind, IsTheOneOf, meanings, signing_alg as signing_alg_of, key_for as key_that_is_for, verdict_on};
 
 use crate::header::JsonWebTokenAlgorithm;
 use crate::jwt::JsonWebToken;
@@ -77,8 +77,9 @@ fn find<'a, K: JsonWebKey>(
     alg: &K::SigningAlgorithm,
     kid: Option<&JsonWebKeyId>,
 ) -> Result<&'a K, SignatureVerificationError>
-    ensures { let k = meanings K.JsonWebKey K.KeyUse.JsonWebKeyUse K.SigningAlgorithm.JwsSigningAlgorithm.own
-        K.SigningAlgorithm.ClosedVocabulary K.SigningAlgorithm.KeyType.ClosedVocabulary in
+    ensures { let k = meanings K.JsonWebKey K.KeyUse.JsonWebKeyUse
+        K.SigningAlgorithm.JwsSigningAlgorithm.own K.SigningAlgorithm.ClosedVocabulary
+        K.SigningAlgorithm.KeyType.ClosedVocabulary in
         IsTheOneOf (spec.fits k alg.now (option_copied kid.entry)) keys.now (behind result) }
 {
     let mut found: Option<&'a K> = None;
@@ -103,8 +104,9 @@ impl<'a, K: JsonWebKey> IdTokenVerifier<'a, K> {
         kid: Option<&JsonWebKeyId>,
         alg: &K::SigningAlgorithm,
     ) -> Result<&'s K, SignatureVerificationError>
-        ensures { let k = meanings K.JsonWebKey K.KeyUse.JsonWebKeyUse K.SigningAlgorithm.JwsSigningAlgorithm.own
-            K.SigningAlgorithm.ClosedVocabulary K.SigningAlgorithm.KeyType.ClosedVocabulary in
+        ensures { let k = meanings K.JsonWebKey K.KeyUse.JsonWebKeyUse
+            K.SigningAlgorithm.JwsSigningAlgorithm.own K.SigningAlgorithm.ClosedVocabulary
+            K.SigningAlgorithm.KeyType.ClosedVocabulary in
             behind result ≡ key_that_is_for k self.now (option_copied kid.entry) alg.now }
     {
         if alg.uses_shared_secret() {
@@ -119,8 +121,9 @@ impl<'a, K: JsonWebKey> IdTokenVerifier<'a, K> {
 
     // Whether an algorithm is among those that are allowed.
     fn is_allowed(&self, alg: &K::SigningAlgorithm) -> bool
-        ensures { let k = meanings K.JsonWebKey K.KeyUse.JsonWebKeyUse K.SigningAlgorithm.JwsSigningAlgorithm.own
-            K.SigningAlgorithm.ClosedVocabulary K.SigningAlgorithm.KeyType.ClosedVocabulary in result ≡ spec.is_allowed k self.now alg.now }
+        ensures { let k = meanings K.JsonWebKey K.KeyUse.JsonWebKeyUse
+            K.SigningAlgorithm.JwsSigningAlgorithm.own K.SigningAlgorithm.ClosedVocabulary
+            K.SigningAlgorithm.KeyType.ClosedVocabulary in result ≡ spec.is_allowed k self.now alg.now }
     {
         match &self.allowed_algs {
             Some(algs) => algs.iter().any(|allowed| is_same_word(allowed, alg)),
@@ -129,14 +132,15 @@ impl<'a, K: JsonWebKey> IdTokenVerifier<'a, K> {
     }
 
     // What is said of a token's signature.
-    #[tactic(auto, unfolding(crate::specs::Verification::signature_of))]
+    #[tactic(auto, unfolding(crate::specs::Signatures::verdict_on))]
     pub(crate) fn check_signature<JE, P>(
         &self,
         token: &JsonWebToken<JE, K::SigningAlgorithm, P>,
     ) -> Result<(), SignatureVerificationError>
-        ensures { let k = meanings K.JsonWebKey K.KeyUse.JsonWebKeyUse K.SigningAlgorithm.JwsSigningAlgorithm.own
-            K.SigningAlgorithm.ClosedVocabulary K.SigningAlgorithm.KeyType.ClosedVocabulary in
-            GivesVerdict (said_of_signature k self.now token.now) result }
+        ensures { let k = meanings K.JsonWebKey K.KeyUse.JsonWebKeyUse
+            K.SigningAlgorithm.JwsSigningAlgorithm.own K.SigningAlgorithm.ClosedVocabulary
+            K.SigningAlgorithm.KeyType.ClosedVocabulary in
+            GivesVerdict (verdict_on k self.now token.now) result }
     {
         let alg = signing_alg(&token.header().alg)?;
         if !self.is_allowed(alg) {

@@ -8,6 +8,6 @@ invariant_of-result g c = rw (c.in_ok-text.ensures.ok, c.message_len-message_len
 pub returns : goal.returns
 returns g c = record {
   answer = token_back g.JE.ClosedVocabulary.from_str g.JS.ClosedVocabulary.from_str g.P.Payload.read_of c.args.text.now _ _ c.in_ok-parts.parts
-  (record { header = c.contents.inside.header; payload = c.contents.inside.payload; signature = c.contents.inside.signature })
-  c.in_ok-text.ensures.ok c.message_len-message_len.ensures c.in_ok-parts.ensures (c.in-Ok.ensures ∙ ap Ok (sym c.contents.view_is));
+      (record { header = c.contents.inside.header; payload = c.contents.inside.payload; signature = c.contents.inside.signature })
+      c.in_ok-text.ensures.ok c.message_len-message_len.ensures c.in_ok-parts.ensures (c.in-Ok.ensures ∙ ap Ok (sym c.contents.view_is));
 }
