@@ -11,11 +11,13 @@ pub mod Verification
 pub mod IdTokenFields
 pub mod RoundTrip
 pub mod Homes
+pub mod Lending
 -- lower words that these cite
 pub mod Steps
 pub use Rattle.oidc_members.specs.Answers
 pub use Rattle.oidc_members.specs.Seen
 -- what no public clause cites
 pub mod HeaderFields
+pub mod Encoded
 pub mod OwnFields
 pub mod Codes

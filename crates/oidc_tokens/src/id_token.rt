@@ -49,10 +49,14 @@ impl<
     JE: JweContentEncryptionAlgorithm,
     JS: JwsSigningAlgorithm,
 > Model for IdToken<AC, GC, JE, JS> {
+    ghost use Rattle.std.specs.Coded.{codes};
+    ghost use Rattle.oidc_tokens.specs.Codes.{id_token_claims_code};
     ghost use Rattle.oidc_tokens.specs.Tokens.{SeenToken};
     ghost use Rattle.oidc_tokens.specs.IdTokenClaims.{SeenIdTokenClaims};
 
     ghost Value = { SeenToken JE JS (SeenIdTokenClaims AC GC) };
+
+    ghost coded = { Prim.hlevel (codes, id_token_claims_code AC.code GC.code) };
 
     ghost view = { λ t. t.token };
 }

@@ -1,9 +1,10 @@
 //! JSON Web Tokens in the compact serialization (RFC 7515 section 7.1, RFC 7519 section 3).
 
-ghost use Rattle.std.specs.Prelude.{◌≡◌, Ok, Err, IfOk, IfErr, false};
+ghost use Rattle.std.specs.Prelude.{◌≡◌, ◌++◌, List, ℕ, codes, Ok, Err, IfOk, IfErr, false};
 ghost use Rattle.std.specs.Option.{option_copied};
 ghost use Rattle.oidc_members.specs.Answers.{Answers};
-ghost use Rattle.oidc_members.specs.Write.{any_float};
+ghost use Rattle.oidc_members.specs.Write.{any_float, object_text};
+ghost use Rattle.oidc_tokens.specs.Encoded.{Encodes, IsMessage};
 ghost use Rattle.oidc_tokens.specs.Tokens.{token_of};
 ghost use Rattle.std.specs.String.{string_bytes};
 ghost use Rattle.oidc_tokens.specs.Issuing as issuing;
@@ -174,8 +175,8 @@ fn message_of(
     header: &[OutMember],
     payload: &[OutMember],
 ) -> Result<String, AllocError>
-    ensures { any_float header.now ≡ false → any_float payload.now ≡ false
-        → IfOk result (λ message. string_bytes message ≡ issuing.message_of header.now payload.now) }
+    ensures { any_float header.now ≡ false → any_float payload.now ≡ false → IfOk result (λ message.
+        IsMessage (string_bytes message) (object_text header.now) (object_text payload.now)) }
 {
     let mut message = encoded(alloc, write_object(alloc, header)?.as_slice())?;
     message.push('.')?;
@@ -184,14 +185,15 @@ fn message_of(
 }
 
 fn encoded(alloc: Global, bytes: &[u8]) -> Result<String, AllocError>
-    ensures { IfOk result (λ text. string_bytes text ≡ issuing.encoded bytes.now) }
+    ensures { IfOk result (λ text. Encodes (string_bytes text) bytes.now) }
 {
     URL_SAFE_NO_PAD.encode(alloc, bytes)
 }
 
 // The text of a token: the message, a dot, and the signature, encoded.
 fn compact(alloc: Global, message: &str, signature: &[u8]) -> Result<String, AllocError>
-    ensures { IfOk result (λ text. string_bytes text ≡ issuing.compact message.now signature.now) }
+    ensures { IfOk result (λ text. (last : List ℕ) × Encodes last signature.now
+        × (string_bytes text ≡ message.now ++ codes "." ++ last)) }
 {
     let mut text = String::from_str(alloc, message)?;
     text.push('.')?;

@@ -105,7 +105,7 @@ impl<'a, K: JsonWebKey> IdTokenVerifier<'a, K> {
 
     /// Allows these algorithms alone.
     pub fn set_allowed_algs(mut self, algs: Vec<K::SigningAlgorithm>) -> Self
-        ensures { result ≡ record self { allowed = Some algs.items } }
+        ensures { result ≡ record self.entry { allowed = Some algs.items } }
     {
         self.allowed_algs = Some(algs);
         self

@@ -51,6 +51,9 @@ impl<AC: AdditionalClaims, GC: GenderClaim> Model for IdTokenClaims<AC, GC> {
 }
 
 impl<AC: AdditionalClaims, GC: GenderClaim> IdTokenClaims<AC, GC> {
+    ghost use Rattle.std.specs.Borrow.{sem};
+    ghost use Rattle.oidc_tokens.specs.Lending.{lends_additional};
+
     /// Claims with these and no others of an ID token's own. It takes no memory.
     pub fn new(
         issuer: IssuerUrl,
@@ -105,8 +108,9 @@ impl<AC: AdditionalClaims, GC: GenderClaim> IdTokenClaims<AC, GC> {
 
     /// The additional claims, to be changed.
     pub fn additional_claims_mut(&mut self) -> &mut AC
-        ensures before { result.entry ≡ self.old.additional_claims }
-        ensures after { self.new ≡ record self.old { additional_claims = result.exit } }
+        ensures value { result.now ≡ self.old.additional_claims }
+        ensures* writes_back { sem 𝓛 (lends_additional AC.row GC.row
+            AC.AdditionalClaims GC.GenderClaim self.entry result) }
     {
         &mut self.additional_claims
     }
@@ -184,7 +188,8 @@ impl<AC: AdditionalClaims, GC: GenderClaim> IdTokenClaims<AC, GC> {
 
     /// Changes `auth_time` alone.
     pub fn set_auth_time(mut self, auth_time: Option<Timestamp>) -> Self
-        ensures { let own = record self.own { auth_time = option_map (λ moment. moment.nanosecond) auth_time } in
+        ensures { let auth_time = option_map (λ moment. moment.nanosecond) auth_time in
+            let own = record self.own { auth_time = auth_time } in
             result ≡ record self { own = own } }
     {
         self.own.auth_time = auth_time;
@@ -241,7 +246,8 @@ impl<AC: AdditionalClaims, GC: GenderClaim> IdTokenClaims<AC, GC> {
         mut self,
         auth_method_refs: Option<Vec<AuthenticationMethodReference>>,
     ) -> Self
-        ensures { let own = record self.own { auth_method_refs = option_map (λ texts. texts.items) auth_method_refs } in
+        ensures { let texts = option_map (λ texts. texts.items) auth_method_refs in
+            let own = record self.own { auth_method_refs = texts } in
             result ≡ record self { own = own } }
     {
         self.own.auth_method_refs = auth_method_refs;

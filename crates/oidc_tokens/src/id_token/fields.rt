@@ -57,11 +57,15 @@ impl<
     JE: JweContentEncryptionAlgorithm,
     JS: JwsSigningAlgorithm,
 > Model for IdTokenFields<AC, EF, GC, JE, JS> {
+    ghost use Rattle.std.specs.Coded.{codes};
+    ghost use Rattle.oidc_tokens.specs.Codes.{id_token_claims_code};
     ghost use Rattle.oidc_tokens.specs.Tokens.{SeenToken};
     ghost use Rattle.oidc_tokens.specs.IdTokenClaims.{SeenIdTokenClaims};
     ghost use Rattle.oidc_tokens.specs.IdTokenFields.{SeenIdTokenFields};
 
     ghost Value = { SeenIdTokenFields (SeenToken JE JS (SeenIdTokenClaims AC GC)) EF };
+
+    ghost coded = { Prim.hlevel (codes, id_token_claims_code AC.code GC.code) };
 
     ghost view = { λ f. record { id_token = f.id_token; extra_fields = f.extra_fields } };
 }

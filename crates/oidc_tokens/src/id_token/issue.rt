@@ -4,7 +4,7 @@ ghost use Rattle.std.specs.Prelude.{◌≡◌, ℕ, ℤ, List, Bool, Option, Ok,
 ghost use Rattle.std.specs.Option.{option_copied};
 ghost use Rattle.oidc_members.specs.Write.{any_float};
 ghost use Rattle.oidc_tokens.specs.Tokens.{token_of};
-ghost use Rattle.oidc_tokens.specs.Steps.{◌>>=◌};
+ghost use Rattle.oidc_tokens.specs.Steps.{and_then};
 ghost use Rattle.oidc_tokens.specs.Issuing.{Issues, IsUnissued, IsNamed, issued, signed_with, compact};
 ghost use Rattle.oidc_tokens.specs.IdTokenClaims.{id_token_claims_of, id_token_members};
 ghost use Rattle.oidc_tokens.specs.Hashes as spec;
@@ -47,17 +47,20 @@ impl<
     where
         S::VerificationKey: JsonWebKey<SigningAlgorithm = JS>,
         ensures issued { let checker = S.verification_key key.now in
-            let hashed = spec.with_hashes (hashing (JS.as_ref alg) (S.VerificationKey.hash_of checker alg))
-            (option_copied access_token.entry) (option_copied code.entry) claims
-            in any_float (AC.write_of claims.additional_claims) ≡ false
-            → Issues (hashed >>= issued JS.as_ref (id_token_members AC.write_of GC.write_of)
-            (S.signs key.now alg) (S.VerificationKey.key_id checker) alg) result }
+            let by = hashing (JS.as_ref alg) (S.VerificationKey.hash_of checker alg) in
+            let token = option_copied access_token.entry in
+            let hashed = spec.with_hashes by token (option_copied code.entry) claims in
+            let issue = issued JS.as_ref (id_token_members AC.write_of GC.write_of)
+            (S.signs key.now alg) (S.VerificationKey.key_id checker) alg in
+            any_float (AC.write_of claims.additional_claims) ≡ false
+            → Issues (and_then hashed issue) result }
 
         // Whatever the additional claims hold.
         ensures claims { let checker = S.verification_key key.now in
-            let hashed = spec.with_hashes (hashing (JS.as_ref alg) (S.VerificationKey.hash_of checker alg))
-            (option_copied access_token.entry) (option_copied code.entry) claims
-            in IfOk result (λ token. hashed ≡ Ok token.payload) }
+            let by = hashing (JS.as_ref alg) (S.VerificationKey.hash_of checker alg) in
+            let token = option_copied access_token.entry in
+            let hashed = spec.with_hashes by token (option_copied code.entry) claims in
+            IfOk result (λ token. hashed ≡ Ok token.payload) }
         ensures signed { IfOk result (λ token.
             S.signs key.now alg token.message ≡ Ok token.signature) }
         ensures header { let key_id = S.VerificationKey.key_id (S.verification_key key.now) in
@@ -65,16 +68,19 @@ impl<
         ensures text { IfOk result (λ token.
             token.text ≡ compact token.message token.signature) }
         ensures refused { let checker = S.verification_key key.now in
-            let hashed = spec.with_hashes (hashing (JS.as_ref alg) (S.VerificationKey.hash_of checker alg))
-            (option_copied access_token.entry) (option_copied code.entry) claims
-            in IfErr result (IsUnissued hashed (S.signs key.now alg)) }
+            let by = hashing (JS.as_ref alg) (S.VerificationKey.hash_of checker alg) in
+            let token = option_copied access_token.entry in
+            let hashed = spec.with_hashes by token (option_copied code.entry) claims in
+            IfErr result (IsUnissued hashed (S.signs key.now alg)) }
 
         // What is issued is read back as it is, and whoever expects these claims accepts it.
         ensures reads_back { IsNamed JS.as_ref JS.from_str alg → IsInRange AC.write_of claims
             → IfOk result (λ token. token_of JE.from_str JS.from_str
             (id_token_claims_of AC.read_of GC.read_of) token.text ≡ Ok token) }
-        ensures accepted { let k = meanings S.VerificationKey.JsonWebKey S.VerificationKey.KeyUse.JsonWebKeyUse
-            S.VerificationKey.SigningAlgorithm.JwsSigningAlgorithm.own S.VerificationKey.SigningAlgorithm.ClosedVocabulary
+        ensures accepted { let k = meanings S.VerificationKey.JsonWebKey
+            S.VerificationKey.KeyUse.JsonWebKeyUse
+            S.VerificationKey.SigningAlgorithm.JwsSigningAlgorithm.own
+            S.VerificationKey.SigningAlgorithm.ClosedVocabulary
             S.VerificationKey.SigningAlgorithm.KeyType.ClosedVocabulary in
             (v : SeenVerifier S.VerificationKey JS) (allows : Option (List ℕ) → Bool) (now : ℤ)
             → Expects k v allows now alg (S.verification_key key.now) claims

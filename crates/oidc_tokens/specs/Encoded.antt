@@ -1,0 +1,18 @@
+-- What is known of texts that were encoded. No public clause cites this.
+use Rattle.std.specs.Prelude.{◌≡◌, ℕ, ◌==◌, false, List, ◌++◌, All, Result, Ok, codes}
+use Rattle.oidc_tokens.specs.Tokens.{decoded}
+use Rattle.oidc_tokens.specs.Issuing.{encoded}
+
+-- A text encodes these bytes: it is decoded as them, and has no dot.
+pub record Encodes (text bytes : List ℕ) : Type 0 where
+  pub same : text ≡ encoded bytes
+  pub back : decoded text ≡ Ok bytes
+  pub undotted : All (λ b. (b == 46) ≡ false) text
+
+-- A message encodes the bytes of a header and those of a payload.
+pub record IsMessage (message header payload : List ℕ) : Type 0 where
+  pub first : List ℕ
+  pub second : List ℕ
+  pub head : Encodes first header
+  pub body : Encodes second payload
+  pub joined : message ≡ first ++ codes "." ++ second
