@@ -1,8 +1,11 @@
 mod PartsOf
 mod Undotted
+mod Encoded
 mod Issued
 mod HeaderBack
 mod TokenBack
+mod Reads
 mod Found
 mod Accepted
+mod TokenTypes
 mod Homes

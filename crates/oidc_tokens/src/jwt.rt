@@ -187,7 +187,8 @@ fn message_of(
 fn encoded(alloc: Global, bytes: &[u8]) -> Result<String, AllocError>
     ensures { IfOk result (λ text. Encodes (string_bytes text) bytes.now) }
 {
-    URL_SAFE_NO_PAD.encode(alloc, bytes)
+    let text = URL_SAFE_NO_PAD.encode(alloc, bytes)?;
+    Ok(text)
 }
 
 // The text of a token: the message, a dot, and the signature, encoded.

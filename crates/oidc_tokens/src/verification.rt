@@ -3,7 +3,7 @@
 ghost use Rattle.std.specs.Prelude.{◌≡◌, None, Some, IfOk};
 ghost use Rattle.std.specs.Option.{option_copied};
 ghost use Rattle.std.specs.List.{list_any, list_all};
-ghost use Rattle.std.specs.Str.{bytes_eq};
+ghost use Rattle.std.specs.Str.{bytes_eq, str_eq_ignore_ascii_case};
 ghost use Rattle.oidc_tokens.specs.Verification as spec;
 ghost use Rattle.oidc_tokens.specs.Verification.{Judges, first_failure};
 ghost use Rattle.oidc_tokens.specs.Signatures.{meanings};
@@ -124,15 +124,32 @@ fn is_token_type(typ: Option<&FieldName>) -> bool
     }
 }
 
+// The media types of tokens, with and without the prefix that may be left out (RFC 7515 section 4.1.9).
+const TOKEN_TYPES: [&str; 6] = [
+    "jwt",
+    "jose",
+    "jose+json",
+    "application/jwt",
+    "application/jose",
+    "application/jose+json",
+];
+
+fn is_same_type(typ: &str, known: &str) -> bool
+    ensures { result ≡ str_eq_ignore_ascii_case typ.now known.now }
+{
+    typ.eq_ignore_ascii_case(known)
+}
+
+fn is_among(typ: &str, known: &[&str]) -> bool
+    ensures { result ≡ list_any (λ name. str_eq_ignore_ascii_case typ.now name.now) known.now }
+{
+    known.iter().any(|name| is_same_type(typ, name))
+}
+
 fn is_media_type_of_token(typ: &str) -> bool
     ensures { result ≡ spec.is_token_type (Some typ.now) }
 {
-    typ.eq_ignore_ascii_case("jwt")
-        || typ.eq_ignore_ascii_case("jose")
-        || typ.eq_ignore_ascii_case("jose+json")
-        || typ.eq_ignore_ascii_case("application/jwt")
-        || typ.eq_ignore_ascii_case("application/jose")
-        || typ.eq_ignore_ascii_case("application/jose+json")
+    is_among(typ, &TOKEN_TYPES)
 }
 
 fn is_encrypted<JE, JS>(alg: &JsonWebTokenAlgorithm<JE, JS>) -> bool

@@ -318,14 +318,21 @@ impl<AC: AdditionalClaims, GC: GenderClaim> IdTokenClaims<AC, GC> {
         requires standard { standard ≡ reader_of GC.read_of members.now }
         ensures { Answers (spec.parts_in AC.read_of GC.read_of members.now) result }
     {
-        let own = own.finish(alloc, members)?;
-        let standard_claims = standard.finish(alloc)?;
-        let additional_claims = read_additional(alloc, members.as_slice())?;
-        Ok(IdTokenClaims {
-            own,
-            standard_claims,
-            additional_claims,
-        })
+        match own.finish(alloc, members) {
+            Err(error) => Err(error),
+            Ok(own) => match standard.finish(alloc) {
+                Err(error) => Err(error),
+                Ok(standard_claims) => match read_additional(alloc, members.as_slice()) {
+                    Err(ParseError::Refused(refusal)) => Err(ParseError::Refused(refusal)),
+                    Err(ParseError::Memory) => Err(ParseError::Memory),
+                    Ok(additional_claims) => Ok(IdTokenClaims {
+                        own,
+                        standard_claims,
+                        additional_claims,
+                    }),
+                },
+            },
+        }
     }
 }
 

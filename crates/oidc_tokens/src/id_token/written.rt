@@ -137,7 +137,8 @@ fn push(alloc: Global, out: &mut Vec<OutMember>, name: &str, value: Value) -> Re
         (out.new.items ≡ out.old.items ++ one_member name.now (view value)) }
     ensures texts { OnOk result (KeepsUtf8 out.old.items out.new.items) }
 {
-    let name = FieldName::new(String::from_str(alloc, name)?);
+    let text = String::from_str(alloc, name)?;
+    let name = FieldName::new(text);
     out.push(OutMember { name, value })?;
     Ok(())
 }

@@ -5,4 +5,4 @@ use Rattle.oidc_tokens.proofs.id_token.written.texts_value.Given as goal
 
 -- the texts so far are values
 abbrev pub invariant-loop-text : goal.invariant-loop-text
-invariant-loop-text l = map view l.values.items ≡ map string (take l.text-index l.texts)
+invariant-loop-text g l = map view l.values.items ≡ map string (take l.text-index l.texts)

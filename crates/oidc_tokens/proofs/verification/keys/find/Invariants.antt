@@ -7,5 +7,5 @@ use Rattle.oidc_tokens.proofs.verification.keys.find.Given as goal
 abbrev pub invariant-loop-key : goal.invariant-loop-key
 invariant-loop-key g l =
     let k = meanings g.K.JsonWebKey g.K.KeyUse.JsonWebKeyUse g.K.SigningAlgorithm.JwsSigningAlgorithm g.K.SigningAlgorithm.ClosedVocabulary g.K.SigningAlgorithm.KeyType.ClosedVocabulary in
-    let p = fits k l.alg.now (option_copied l.kid)
+    let p = fits k l.alg (option_copied l.kid)
     in the_one (found_first (option_copied l.found) (filter p (drop l.key-index l.keys))) ≡ the_one (filter p l.keys)
