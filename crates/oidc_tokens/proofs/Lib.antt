@@ -4,8 +4,9 @@ mod Encoded
 mod Issued
 mod HeaderBack
 mod TokenBack
-mod Reads
+mod ReadSteps
 mod Found
 mod Accepted
 mod TokenTypes
 mod Homes
+mod OneHome

@@ -30,12 +30,12 @@ is_additional_claim name = is_additional_home (home_of name id_token_fields)
 abbrev pub additional_members : List SeenMember → List SeenMember
 additional_members members = filter (λ m. is_additional_claim m.name) members
 
+-- why a member is faulty, after all those before it: by its own field's row, or as a standard claim
+abbrev pub id_token_rule : {GC : Type 0} → (SeenMember → Result GC Refusal) → Rule
+id_token_rule gender_read = either_rule own_rule (fault_at gender_read)
+
 module _ {AC GC : Type 0} (additional_read : List SeenMember → Result AC Refusal)
     (gender_read : SeenMember → Result GC Refusal) where
-  -- why a member is faulty, after all those before it: by its own field's row, or as a standard claim
-  abbrev pub id_token_rule : Rule
-  id_token_rule = either_rule own_rule (fault_at gender_read)
-
   -- What members say, none of which is faulty. A missing `iss`, `exp`, `iat` or `sub` refuses them, in
   -- this order, and then the additional claims may.
   unfoldable pub parts_in : List SeenMember → Result (SeenIdTokenClaims AC GC) Refusal
@@ -48,7 +48,7 @@ module _ {AC GC : Type 0} (additional_read : List SeenMember → Result AC Refus
   -- The first faulty member refuses the list.
   unfoldable pub id_token_claims_of : List SeenMember → Result (SeenIdTokenClaims AC GC) Refusal
   id_token_claims_of members = do
-    u ← faultless id_token_rule members
+    u ← faultless (id_token_rule gender_read) members
     parts_in members
 
 -- the own fields, the standard claims, then the additional claims

@@ -3,7 +3,7 @@ use Rattle.oidc_readers.specs.Records.{◌>>=◌}
 use Rattle.oidc_claims.specs.Standard.{faultless_claims}
 use Rattle.oidc_tokens.specs.OwnClaims.{own_of}
 use Rattle.oidc_tokens.specs.IdTokenClaims.{additional_members, parts_in}
-use Rattle.oidc_tokens.proofs.Reads.{stops, gives}
+use Rattle.oidc_tokens.proofs.ReadSteps.{stops, gives}
 use Rattle.oidc_tokens.proofs.id_token.claims.IdTokenClaims.finish.Goals as goal
 
 pub returns-in-Err : goal.returns-in-Err
