@@ -1,5 +1,8 @@
 -- What is known of texts that were encoded. No public clause cites this.
 use Rattle.std.specs.Prelude.{◌≡◌, ℕ, ◌==◌, false, List, ◌++◌, All, Result, Ok, codes}
+use Rattle.oidc_members.specs.Seen.{OutSeen}
+use Rattle.oidc_members.specs.Write.{any_float, object_text}
+use Rattle.oidc_readers.specs.WrittenBack.{IsUtf8Member}
 use Rattle.oidc_tokens.specs.Tokens.{decoded}
 use Rattle.oidc_tokens.specs.Issuing.{encoded}
 
@@ -16,3 +19,10 @@ pub record IsMessage (message header payload : List ℕ) : Type 0 where
   pub head : Encodes first header
   pub body : Encodes second payload
   pub joined : message ≡ first ++ codes "." ++ second
+
+-- A message is ready to be signed: it is that of these members, where no value holds a float, and they are
+-- UTF-8.
+pub record IsReady (header payload : List OutSeen) (message : List ℕ) : Type 0 where
+  pub of_members : any_float payload ≡ false → IsMessage message (object_text header) (object_text payload)
+  pub header_texts : All IsUtf8Member header
+  pub payload_texts : All IsUtf8Member payload

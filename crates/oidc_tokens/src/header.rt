@@ -2,14 +2,15 @@
 
 ghost use Rattle.std.specs.Prelude.{◌≡◌, [], IfOk};
 ghost use Rattle.std.specs.Option.{option_copied};
+ghost use Rattle.std.specs.List.{All};
 ghost use Rattle.oidc_members.specs.Answers.{Answers};
+ghost use Rattle.oidc_readers.specs.WrittenBack.{IsUtf8Member};
 ghost use Rattle.oidc_tokens.specs.Header as spec;
 ghost use Rattle.oidc_tokens.specs.HeaderFields.{header_fields};
 
+use crate::members::push_text;
 use oidc_members::{FieldName, Member, Members, OutMember, ParseError, ParseKind};
-use oidc_readers::{
-    FieldValue, MemberReader, Once, Present, put_optional_text, put_text, read_fields, refused,
-};
+use oidc_readers::{FieldValue, MemberReader, Once, Present, read_fields, refused};
 use oidc_types::{ClosedVocabulary, JsonWebKeyId};
 use std::alloc::{AllocError, Global};
 
@@ -138,12 +139,13 @@ pub(crate) fn header_members(
     alg: &str,
     key_id: Option<&JsonWebKeyId>,
 ) -> Result<Vec<OutMember>, AllocError>
-    ensures { IfOk result (λ members.
+    ensures members { IfOk result (λ members.
         members.items ≡ spec.written_header alg.now (option_copied key_id.entry)) }
+    ensures texts { IfOk result (λ members. All IsUtf8Member members.items) }
 {
     let mut members = Vec::new(alloc);
-    put_text(alloc, &mut members, "alg", alg)?;
-    put_optional_text(alloc, &mut members, "kid", text_of(key_id))?;
+    push_text(alloc, &mut members, "alg", Some(alg))?;
+    push_text(alloc, &mut members, "kid", text_of(key_id))?;
     Ok(members)
 }
 

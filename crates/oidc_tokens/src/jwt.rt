@@ -4,7 +4,8 @@ ghost use Rattle.std.specs.Prelude.{◌≡◌, ◌++◌, List, ℕ, codes, Ok, E
 ghost use Rattle.std.specs.Option.{option_copied};
 ghost use Rattle.oidc_members.specs.Answers.{Answers};
 ghost use Rattle.oidc_members.specs.Write.{any_float, object_text};
-ghost use Rattle.oidc_tokens.specs.Encoded.{Encodes, IsMessage};
+ghost use Rattle.oidc_tokens.specs.Encoded.{Encodes, IsMessage, IsReady};
+ghost use Rattle.oidc_tokens.specs.Header.{written_header};
 ghost use Rattle.oidc_tokens.specs.Tokens.{token_of};
 ghost use Rattle.std.specs.String.{string_bytes};
 ghost use Rattle.oidc_tokens.specs.Issuing as issuing;
@@ -236,25 +237,51 @@ impl<JE: ClosedVocabulary, JS: JwsSigningAlgorithm, P: Payload> JsonWebToken<JE,
             → IfOk result (λ token.
             token_of JE.from_str JS.from_str P.read_of token.text ≡ Ok token) }
     {
-        let checker = key.as_verification_key(alloc)?;
-        let header = header_members(alloc, alg.as_ref(), checker.key_id())?;
-        let message = message_of(alloc, header.as_slice(), payload.write(alloc)?.as_slice())?;
-        let signature = key.sign(alloc, alg, message.as_bytes())?;
-        let text = compact(alloc, message.as_str(), signature.as_slice())?;
-        let kid = copied_id(alloc, checker.key_id())?;
+        let unsigned = Unsigned::of(alloc, &payload, key, alg.as_ref())?;
+        let signature = key.sign(alloc, alg, unsigned.message.as_bytes())?;
+        let text = compact(alloc, unsigned.message.as_str(), signature.as_slice())?;
         Ok(JsonWebToken {
             text,
             header: TokenHeader {
                 alg: JsonWebTokenAlgorithm::Signature(*alg),
                 typ: None,
                 cty: None,
-                kid,
+                kid: unsigned.key_id,
                 crit: false,
             },
             payload,
-            message_len: message.len(),
+            message_len: unsigned.message.len(),
             signature: Body::new(signature),
         })
+    }
+}
+
+// A token that isn't signed yet: its message, and the id of the key that is to check it.
+#[derive(Drop)]
+struct Unsigned {
+    message: String,
+    key_id: Option<JsonWebKeyId>,
+}
+
+impl Unsigned {
+    fn of<S: PrivateSigningKey, P: Payload>(
+        alloc: Global,
+        payload: &P,
+        key: &S,
+        alg: &str,
+    ) -> Result<Self, AllocError>
+        ensures key_id { IfOk result (λ unsigned.
+            unsigned.key_id ≡ S.VerificationKey.key_id (S.verification_key key.now)) }
+        ensures ready { let key_id = S.VerificationKey.key_id (S.verification_key key.now) in
+            let header = written_header alg.now key_id in IfOk result (λ unsigned.
+            IsReady header (P.write_of payload.now) (string_bytes unsigned.message)) }
+    {
+        let checker = key.as_verification_key(alloc)?;
+        let header = header_members(alloc, alg, checker.key_id())?;
+        let payload = payload.write(alloc)?;
+        let message = message_of(alloc, header.as_slice(), payload.as_slice())?;
+        let key_id = copied_id(alloc, checker.key_id())?;
+        Ok(Unsigned { message, key_id })
     }
 }
 

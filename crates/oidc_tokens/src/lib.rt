@@ -31,6 +31,7 @@ pub mod header;
 pub mod id_token;
 pub mod jwt;
 pub mod laws;
+mod members;
 mod parts;
 pub mod payload;
 pub mod token;

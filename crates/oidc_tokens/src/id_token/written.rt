@@ -5,13 +5,14 @@ ghost use Rattle.std.specs.List.{All};
 ghost use Rattle.std.specs.Option.{option_copied};
 ghost use Rattle.serde_json.specs.View.{view};
 ghost use Rattle.oidc_readers.specs.WrittenBack.{IsUtf8Member};
-ghost use Rattle.oidc_readers.specs.Writing.{one_member, text_member, moment_member};
+ghost use Rattle.oidc_readers.specs.Writing.{moment_member};
 ghost use Rattle.oidc_claims.specs.Write.{KeepsUtf8};
 ghost use Rattle.oidc_tokens.specs.OwnClaims.{own_members as members_of_own, texts_data, texts_member};
 
 use crate::id_token::own::OwnClaims;
+use crate::members::{push, push_text};
 use jiff::Timestamp;
-use oidc_members::{FieldName, OutMember};
+use oidc_members::OutMember;
 use oidc_readers::seconds_value;
 use oidc_types::{Marker, Nonce, Text};
 use serde_json::Value;
@@ -68,27 +69,6 @@ fn slice_of<M: Marker>(texts: &Option<Vec<Text<M>>>) -> Option<&[Text<M>]>
 
 // ---- one field of each kind
 
-fn push_text(
-    alloc: Global,
-    out: &mut Vec<OutMember>,
-    name: &str,
-    text: Option<&str>,
-) -> Result<(), AllocError>
-    ensures members { OnOk result
-        (out.new.items ≡ out.old.items ++ text_member name.now (option_copied text.entry)) }
-    ensures texts { OnOk result (KeepsUtf8 out.old.items out.new.items) }
-{
-    match text {
-        None => Ok(()),
-        Some(text) => push(
-            alloc,
-            out,
-            name,
-            Value::String(String::from_str(alloc, text)?),
-        ),
-    }
-}
-
 fn push_moment(
     alloc: Global,
     out: &mut Vec<OutMember>,
@@ -129,16 +109,4 @@ fn texts_value<M: Marker>(alloc: Global, texts: &[Text<M>]) -> Result<Value, All
         values.push(Value::String(String::from_str(alloc, text.as_str())?))?;
     }
     Ok(Value::Array(values))
-}
-
-// Appends a member. It is UTF-8, as a `String` and the texts of a `Value` are.
-fn push(alloc: Global, out: &mut Vec<OutMember>, name: &str, value: Value) -> Result<(), AllocError>
-    ensures members { OnOk result
-        (out.new.items ≡ out.old.items ++ one_member name.now (view value)) }
-    ensures texts { OnOk result (KeepsUtf8 out.old.items out.new.items) }
-{
-    let text = String::from_str(alloc, name)?;
-    let name = FieldName::new(text);
-    out.push(OutMember { name, value })?;
-    Ok(())
 }
