@@ -10,3 +10,9 @@ mod Accepted
 mod TokenTypes
 mod Homes
 mod OneHome
+mod Passing
+mod Entries
+mod OwnRule
+mod OwnBack
+mod ClaimsBack
+mod FloatFree

@@ -44,10 +44,10 @@ any_same : (f g : Claim → Bool) → ((c : Claim) → f c ≡ g c) → (cs : Li
 any_same f g same [] = refl
 any_same f g same (c ∷ cs) = λ i. same c i || any_same f g same cs i
 
-standard_name : List ℕ → Bool
+abbrev pub standard_name : List ℕ → Bool
 standard_name name = list_any (λ claim. bytes_eq (base_of name) (name_of claim)) all_claims
 
-is_claim : (m : SeenMember) → is_some (claim_of (key_of m.name).0) ≡ is_standard m
+pub is_claim : (m : SeenMember) → is_some (claim_of (key_of m.name).0) ≡ is_standard m
 is_claim m = found (λ claim. bytes_eq (name_of claim) (base_of m.name)) all_claims ∙ any_same _ _ (λ claim. turned (name_of claim) (base_of m.name)) all_claims
 
 not_true : (b : Bool) → not b ≡ true → b ≡ false
@@ -55,7 +55,7 @@ not_true true h = absurd (false≢true h)
 not_true false h = refl
 
 -- no field has the name of a claim
-no_claim : (fields : List (List ℕ)) (name : List ℕ) → list_all (λ field. not (standard_name field)) fields ≡ true → list_any (λ field. bytes_eq field name) fields ≡ true → standard_name name ≡ false
+pub no_claim : (fields : List (List ℕ)) (name : List ℕ) → list_all (λ field. not (standard_name field)) fields ≡ true → list_any (λ field. bytes_eq field name) fields ≡ true → standard_name name ≡ false
 no_claim [] name all h = absurd (false≢true h)
 no_claim (field ∷ fields) name all h =
     let parts = and_parts (not (standard_name field)) (list_all (λ field. not (standard_name field)) fields) all in
@@ -97,10 +97,10 @@ within_fields : (name : List ℕ) → is_own_field name ≡ true → (m : SeenMe
 within_fields name known m h = ap is_own_field ((bytes_eq-Decides m.name name).0 h) ∙ known
 
 module _ (ms : List SeenMember) where
-  field_same : (name : List ℕ) → is_own_field name ≡ true → filter (λ m. bytes_eq m.name name) (filter is_field ms) ≡ filter (λ m. bytes_eq m.name name) ms
+  pub field_same : (name : List ℕ) → is_own_field name ≡ true → filter (λ m. bytes_eq m.name name) (filter is_field ms) ≡ filter (λ m. bytes_eq m.name name) ms
   field_same name known = narrowed (λ m. bytes_eq m.name name) is_field (within_fields name known) ms
 
-  own_same : own_of (filter is_field ms) ≡ own_of ms
+  pub own_same : own_of (filter is_field ms) ≡ own_of ms
   unfolding own_of needed_of
   own_same = rw (
     field_same (codes "iss") refl,
@@ -123,10 +123,10 @@ claim_within cs claim m known h =
     ap (λ base. list_any (λ c. bytes_eq base (name_of c)) cs) ((bytes_eq-Decides (base_of m.name) (name_of claim)).0 h) ∙ known
 
 module _ {GC : Type 0} (gender_read : SeenMember → Result GC Refusal) (ms : List SeenMember) where
-  claim_same : (claim : Claim) → list_any (λ c. bytes_eq (name_of claim) (name_of c)) all_claims ≡ true → claim_members claim (filter is_standard ms) ≡ claim_members claim ms
+  pub claim_same : (claim : Claim) → list_any (λ c. bytes_eq (name_of claim) (name_of c)) all_claims ≡ true → claim_members claim (filter is_standard ms) ≡ claim_members claim ms
   claim_same claim known = narrowed (is_of claim) is_standard (λ m h. claim_within all_claims claim m known h) ms
 
-  standard_same : faultless_claims gender_read (filter is_standard ms) ≡ faultless_claims gender_read ms
+  pub standard_same : faultless_claims gender_read (filter is_standard ms) ≡ faultless_claims gender_read ms
   unfolding with_subject
   standard_same = rw (
     claim_same Subject refl,
