@@ -16,3 +16,4 @@ mod OwnRule
 mod OwnBack
 mod ClaimsBack
 mod FloatFree
+mod IssuedAccepted
