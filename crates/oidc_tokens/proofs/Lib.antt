@@ -17,3 +17,4 @@ mod OwnBack
 mod ClaimsBack
 mod FloatFree
 mod IssuedAccepted
+mod Causes
