@@ -18,3 +18,5 @@ mod ClaimsBack
 mod FloatFree
 mod IssuedAccepted
 mod Causes
+mod IssuedToken
+mod Judged
