@@ -122,9 +122,9 @@ module _ {JE JS GC : Type 0} (encrypts : List ℕ → Option JE) (signs : List �
   pub response_free : {Extra : Type 0} (extra_read : List SeenMember → Result Extra Refusal) (members : List SeenMember) (fields : SeenIdTokenFields (SeenToken JE JS (SeenIdTokenClaims Others GC)) Extra)
       (token : SeenToken JE JS (SeenIdTokenClaims Others GC)) → response_fields_of reads extra_read members ≡ Ok fields → fields.id_token ≡ Some token → any_float (list_of token.payload.additional_claims) ≡ false
   unfolding response_fields_of
-  response_free extra_read members fields token h there =
+  response_free extra_read members fields token h has =
       let first = first_step (faultless (judged (id_token reads)) members) _ fields h in
       let extra = first_step (extra_read members) _ fields first.2 in
       let given : optional (id_token reads) members ≡ fields.id_token = ap (λ f. f.id_token) (same_ok _ fields extra.2) in
-      let text = value_read (own (id_token reads) members) token (given ∙ there) in
+      let text = value_read (own (id_token reads) members) token (given ∙ has) in
       token_free text.0 token text.1
