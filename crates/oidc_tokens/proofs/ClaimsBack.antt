@@ -316,7 +316,7 @@ texts_whole (text ∷ texts) = (tt, texts_whole texts)
 
 texts_shallow : (texts : List (List ℕ)) → items_depth (items_of (map string texts)) ≤ 0
 texts_shallow [] = omega arith
-texts_shallow (text ∷ texts) = texts_shallow texts
+texts_shallow (text ∷ texts) = let rest = texts_shallow texts in omega arith
 
 texts_stand : (texts : List (List ℕ)) → MayStand (texts_data texts)
 texts_stand texts = (texts_whole texts, let shallow = texts_shallow texts in omega arith)
