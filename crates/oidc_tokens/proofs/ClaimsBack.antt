@@ -292,7 +292,6 @@ module _ {GC : Type 0} (gender_read : SeenMember → Result GC Refusal) where
   claims_by (Some fault) ms s h = absurd cc
   claims_by None ms s h = (refl, placed_ok (faultless_claims gender_read ms) (length ms) s h)
 
-
 module _ (P : OutSeen → Type 0) where
   behind : (xs ys : List OutSeen) → All P (xs ++ ys) → All P ys
   behind [] ys h = h
@@ -408,8 +407,8 @@ module _
   fields_kept =
       kept_in is_own_field
       ∙ (λ i. all_kept is_own_field first_part (fields_named c.own) i ++ (
-        none_kept is_own_field second_part (weaker _ _ (λ m h. standard_not_field m.name _ refl h) second_part (standard_named gender_data c.standard_claims)) i
-            ++ none_kept is_own_field third_part (weaker _ _ (λ m h. (and_parts (not (is_own_field m.name)) (not (standard_name m.name)) h).0) third_part thirds) i
+      none_kept is_own_field second_part (weaker _ _ (λ m h. standard_not_field m.name _ refl h) second_part (standard_named gender_data c.standard_claims)) i
+      ++ none_kept is_own_field third_part (weaker _ _ (λ m h. (and_parts (not (is_own_field m.name)) (not (standard_name m.name)) h).0) third_part thirds) i
       ))
       ∙ append-nil (map as_read first_part)
 
@@ -417,8 +416,8 @@ module _
   standard_kept =
       kept_in standard_name
       ∙ (λ i. none_kept standard_name first_part (weaker _ _ (λ m h. field_not_standard m.name h) first_part (fields_named c.own)) i ++ (
-        all_kept standard_name second_part (standard_named gender_data c.standard_claims) i
-            ++ none_kept standard_name third_part (weaker _ _ (λ m h. (and_parts (not (is_own_field m.name)) (not (standard_name m.name)) h).1) third_part thirds) i
+      all_kept standard_name second_part (standard_named gender_data c.standard_claims) i
+      ++ none_kept standard_name third_part (weaker _ _ (λ m h. (and_parts (not (is_own_field m.name)) (not (standard_name m.name)) h).1) third_part thirds) i
       ))
       ∙ append-nil (map as_read second_part)
 
@@ -426,8 +425,8 @@ module _
   additional_kept =
       kept_in is_additional_claim
       ∙ (λ i. none_kept is_additional_claim first_part (weaker _ _ (λ m h. field_not_additional m.name h) first_part (fields_named c.own)) i ++ (
-        none_kept is_additional_claim second_part (weaker _ _ (λ m h. standard_not_additional m.name h) second_part (standard_named gender_data c.standard_claims)) i
-            ++ all_kept is_additional_claim third_part (weaker _ _ (λ m h. additional_by m.name ∙ h) third_part thirds) i
+      none_kept is_additional_claim second_part (weaker _ _ (λ m h. standard_not_additional m.name h) second_part (standard_named gender_data c.standard_claims)) i
+      ++ all_kept is_additional_claim third_part (weaker _ _ (λ m h. additional_by m.name ∙ h) third_part thirds) i
       ))
 
   pub values_stand : All (λ (m : OutSeen). MayStand m.value) (id_token_members additional_out gender_data c)

@@ -16,3 +16,7 @@ mod OwnRule
 mod OwnBack
 mod ClaimsBack
 mod FloatFree
+mod IssuedAccepted
+mod Causes
+mod IssuedToken
+mod Judged

@@ -158,7 +158,16 @@ module _
   pub own_back : own_of (seen (entries c)) ≡ Ok c
   unfolding own_of
   own_back =
-      rw (needed_back, aud_alone c, auth_time_alone c, nonce_alone c, acr_alone c, amr_alone c, azp_alone c, at_hash_alone c, c_hash_alone c,
+      rw (
+        needed_back,
+        aud_alone c,
+        auth_time_alone c,
+        nonce_alone c,
+        acr_alone c,
+        amr_alone c,
+        azp_alone c,
+        at_hash_alone c,
+        c_hash_alone c,
         texts_back c.audiences,
         optional_moment (codes "auth_time") c.auth_time authenticated,
         optional_text (codes "nonce") c.nonce,
@@ -166,7 +175,8 @@ module _
         optional_texts (codes "amr") c.auth_method_refs,
         optional_text (codes "azp") c.authorized_party,
         optional_text (codes "at_hash") c.access_token_hash,
-        optional_text (codes "c_hash") c.code_hash) refl
+        optional_text (codes "c_hash") c.code_hash,
+      ) refl
 
   -- ---- none of them is faulty
 
@@ -223,10 +233,28 @@ module _
   all_good : AllGood (entries c)
   all_good = (
     good_iss,
-    (good_aud, (good_exp, (good_iat, (good_auth_time c.auth_time authenticated, (good_text (codes "nonce") good_nonce c.nonce, (good_text (codes "acr") good_acr c.auth_context_ref, (
-      good_amr c.auth_method_refs,
-      (good_text (codes "azp") good_azp c.authorized_party, (good_text (codes "at_hash") good_at_hash c.access_token_hash, (good_text (codes "c_hash") good_c_hash c.code_hash, tt))),
-    ))))))),
+    (
+      good_aud,
+      (
+        good_exp,
+        (
+          good_iat,
+          (
+            good_auth_time c.auth_time authenticated,
+            (
+              good_text (codes "nonce") good_nonce c.nonce,
+              (
+                good_text (codes "acr") good_acr c.auth_context_ref,
+                (
+                  good_amr c.auth_method_refs,
+                  (good_text (codes "azp") good_azp c.authorized_party, (good_text (codes "at_hash") good_at_hash c.access_token_hash, (good_text (codes "c_hash") good_c_hash c.code_hash, tt))),
+                ),
+              ),
+            ),
+          ),
+        ),
+      ),
+    ),
   )
 
   pub own_clean : first_by own_rule [] (seen (entries c)) ≡ None
