@@ -10,7 +10,7 @@ use Rattle.oidc_oauth2.specs.declared.error_types.CoreErrorResponseType.{CoreErr
 use Rattle.oidc_oauth2.specs.declared.token_answers.RequestTokenError.{RequestTokenError}
 use Rattle.oidc_oauth2.specs.declared.token_answers.RequestTokenError.TheVariants as token
 use Rattle.oidc_oauth2.proofs.Theorems.{IsJudged, status_worth-judged}
-use Rattle.oidc_login.specs.TokenResponse.{Tokens, TokenError, id_token_field_of, tokens_or_refusal}
+use Rattle.oidc_login.specs.TokenResponse.{Tokens, TokenError, fields_of, tokens_or_refusal}
 use Rattle.oidc_login.specs.Errors.{Gives, faulted, spent_of}
 use Rattle.oidc_login.specs.Steps.{of_token}
 use Rattle.oidc_login.specs.Rows.{Meant, tokens_in}
@@ -22,7 +22,7 @@ CoreError = SeenError CoreErrorResponseType
 
 pub judged : (r : SeenResponse) → IsJudged Tokens CoreError (tokens_or_refusal r)
 unfolding tokens_or_refusal
-judged r = status_worth-judged Tokens CoreError (error_response_of error_of) (tokens_of token_type_of id_token_field_of) r
+judged r = status_worth-judged Tokens CoreError (error_response_of error_of) (tokens_of token_type_of fields_of) r
 
 -- ---- the step on a response
 
@@ -72,7 +72,7 @@ module _ {E : Type 0} where
   no_fault long body meant token.Memory own is = refl
 
   abbrev Answered : SeenResponse → Result Tokens (RequestTokenError E CoreError) → Type 0
-  Answered r result = GivesTokens result (token_answer (error_response_of error_of) (tokens_of token_type_of id_token_field_of) r)
+  Answered r result = GivesTokens result (token_answer (error_response_of error_of) (tokens_of token_type_of fields_of) r)
 
   pub refusal_given : (r : SeenResponse) (e : RequestTokenError E CoreError) → Answered r (Err e) → Gives {A = Tokens} (Err (of_token e)) (tokens_in r)
   unfolding token_answer tokens_in tokens_or_refusal
@@ -90,6 +90,6 @@ module _ {E : Type 0} where
   of_token_spent (token.TooLong b) = refl
   of_token_spent token.Memory = refl
 
-pub tokens_given : (r : SeenResponse) (tokens : Tokens) → token_answer (error_response_of error_of) (tokens_of token_type_of id_token_field_of) r ≡ Ok tokens → tokens_in r ≡ Ok tokens
+pub tokens_given : (r : SeenResponse) (tokens : Tokens) → token_answer (error_response_of error_of) (tokens_of token_type_of fields_of) r ≡ Ok tokens → tokens_in r ≡ Ok tokens
 unfolding token_answer tokens_in tokens_or_refusal
 tokens_given r tokens is = ok_row (is_over_long r.body) r.body (tokens_or_refusal r) tokens is

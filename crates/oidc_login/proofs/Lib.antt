@@ -2,10 +2,8 @@ pub mod Theorems
 pub mod Entries
 pub mod Extended
 pub mod Begun
-pub mod Refused
-pub mod NoFloat
 pub mod Verification
-pub mod TokenParts
+pub mod TokenHash
 pub mod Walks
 pub mod Answers
 pub mod Rows

@@ -1,0 +1,61 @@
+-- The hash beside an accepted ID token is that of its algorithm under its key, and what its rows say.
+use Rattle.std.proofs.Common.{◌≡◌, ◌≢◌, ℕ, List, Bool, true, false, Option, None, Some, Result, Ok, Err, refl, sym, ap, ◌∙◌}
+use Rattle.std.specs.Prelude.{not}
+use Rattle.std.specs.Option.{ok_or}
+use Rattle.std.specs.Str.{bytes_eq}
+use Rattle.std.proofs.lemmas.Slice.Eq.{bytes_eq-Decides}
+use Rattle.oidc_types.specs.{signing_text}
+use Rattle.oidc_types.specs.declared.signing_error.SigningError.{SigningError}
+use Rattle.oidc_types.specs.declared.signing_error.SigningError.TheVariants.{UnsupportedAlg}
+use Rattle.oidc_types.specs.declared.core_algorithms.CoreJwsSigningAlgorithm.{CoreJwsSigningAlgorithm}
+use Rattle.oidc_keys.specs.CoreJwk.{SymmetricKey}
+use Rattle.oidc_tokens.specs.declared.header.JsonWebTokenAlgorithm.TheVariants as algorithm
+use Rattle.oidc_tokens.specs.Hashes.{hashing, hash_or_refusal}
+use Rattle.oidc_tokens.specs.Signatures.{signing_alg, key_for}
+use Rattle.oidc_tokens.specs.Steps.{◌>>=◌}
+use Rattle.oidc_login.specs.IdTokens.{SeenIdToken, CoreVerifier, core_keys}
+use Rattle.oidc_login.specs.TokenHash.{hash_under, hashing_found, or_no_hash, hash_beside}
+use Rattle.oidc_login.specs.Errors.{Error}
+use Rattle.oidc_login.specs.Rows.{Meant, hash_rows}
+use Rattle.oidc_login.specs.declared.errors.LoginError.TheVariants as login
+
+module _ (v : CoreVerifier) (token : SeenIdToken) (alg : CoreJwsSigningAlgorithm) (key : SymmetricKey)
+    (signed : token.header.alg ≡ algorithm.Signature alg) (chosen : key_for core_keys v token.header.kid alg ≡ Ok key) where
+  found : hashing_found v token ≡ Ok (hashing (signing_text alg) (core_keys.keys.hash_of key alg))
+  found =
+      ap (λ said. signing_alg said >>= λ named. (signing_alg said >>= key_for core_keys v token.header.kid) >>= λ key. Ok (hashing (signing_text named) (core_keys.keys.hash_of key named))) signed
+      ∙ ap (λ r. r >>= λ key. Ok (hashing (signing_text alg) (core_keys.keys.hash_of key alg))) chosen
+
+  -- the hash, or the refusal that names the algorithm
+  pub beside : (access_token : List ℕ) → hash_beside v token access_token ≡ ok_or (hash_under key alg access_token) (UnsupportedAlg (signing_text alg))
+  unfolding hash_beside
+  beside access_token = ap (λ r. hash_or_refusal (or_no_hash r) access_token) found
+
+-- ---- the rows on a claim
+
+differ_by : (xs ys : List ℕ) → xs ≢ ys → (b : Bool) → bytes_eq xs ys ≡ b → b ≡ false
+differ_by xs ys other true is = absurd (other ((bytes_eq-Decides xs ys).0 is))
+differ_by xs ys other false is = refl
+
+pub differ : (xs ys : List ℕ) → xs ≢ ys → bytes_eq xs ys ≡ false
+differ xs ys other = differ_by xs ys other _ refl
+
+pub differ_back : (xs ys : List ℕ) → not (bytes_eq xs ys) ≡ true → xs ≢ ys
+differ_back xs ys is same = let equal : bytes_eq xs ys ≡ true = (bytes_eq-Decides xs ys).1 same in let both = sym is ∙ ap not equal in cc
+
+pub same_back : (xs ys : List ℕ) → not (bytes_eq xs ys) ≡ false → xs ≡ ys
+same_back xs ys is = same_by (bytes_eq xs ys) refl is where
+  same_by : (b : Bool) → bytes_eq xs ys ≡ b → not b ≡ false → xs ≡ ys
+  same_by true equal is = (bytes_eq-Decides xs ys).0 equal
+  same_by false equal is = cc
+
+abbrev when_other : Bool → Meant (Unit {0})
+when_other equal = elim (not equal) as (λ _. Meant (Unit {0})) [ true ↦ Err login.TokenHash | false ↦ Ok tt ]
+
+-- another hash is claimed
+pub other_claim : (claim hash : List ℕ) → hash ≢ claim → hash_rows (Some claim) (Ok hash) ≡ Err login.TokenHash
+other_claim claim hash other = ap when_other (differ hash claim other)
+
+-- the own hash is claimed
+pub own_claim : (claim : List ℕ) → hash_rows (Some claim) (Ok claim) ≡ Ok tt
+own_claim claim = ap when_other ((bytes_eq-Decides claim claim).1 refl)
