@@ -43,11 +43,12 @@ differ xs ys other = differ_by xs ys other _ refl
 pub differ_back : (xs ys : List ℕ) → not (bytes_eq xs ys) ≡ true → xs ≢ ys
 differ_back xs ys is same = let equal : bytes_eq xs ys ≡ true = (bytes_eq-Decides xs ys).1 same in let both = sym is ∙ ap not equal in cc
 
+same_by : (xs ys : List ℕ) (b : Bool) → bytes_eq xs ys ≡ b → not b ≡ false → xs ≡ ys
+same_by xs ys true equal is = (bytes_eq-Decides xs ys).0 equal
+same_by xs ys false equal is = cc
+
 pub same_back : (xs ys : List ℕ) → not (bytes_eq xs ys) ≡ false → xs ≡ ys
-same_back xs ys is = same_by (bytes_eq xs ys) refl is where
-  same_by : (b : Bool) → bytes_eq xs ys ≡ b → not b ≡ false → xs ≡ ys
-  same_by true equal is = (bytes_eq-Decides xs ys).0 equal
-  same_by false equal is = cc
+same_back xs ys is = same_by xs ys (bytes_eq xs ys) refl is
 
 abbrev when_other : Bool → Meant (Unit {0})
 when_other equal = elim (not equal) as (λ _. Meant (Unit {0})) [ true ↦ Err login.TokenHash | false ↦ Ok tt ]
