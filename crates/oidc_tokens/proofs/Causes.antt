@@ -44,16 +44,14 @@ too_much_by false None true false h = absurd (true≢false h)
 -- ---- the signature
 
 module _ {Key Use Algorithm Type' : Type 0} (k : KeyMeanings Key Use Algorithm Type') {JE P : Type 0} (v : SeenVerifier Key Algorithm) (token : SeenToken JE Algorithm P) where
-  SignatureCause : SignatureVerificationError → Type 0
+  abbrev SignatureCause : SignatureVerificationError → Type 0
   SignatureCause r = KeyIsAtFault k v token r ⊎ KeySays k v token r
 
   verdict_cause : (alg : Algorithm) → token.header.alg ≡ algorithm.Signature alg → (key : Key) → key_for k v token.header.kid alg ≡ Ok key
       → (r : SignatureVerificationError) → k.keys.verdict key alg token.message token.signature ≡ Err r → SignatureCause r
-  unfolding SignatureCause
   verdict_cause alg signed key chosen r h = inr (alg, key, signed, chosen, h)
 
   one_cause : (alg : Algorithm) → token.header.alg ≡ algorithm.Signature alg → (keys : List Key) → filter (fits k alg token.header.kid) v.keys ≡ keys → (r : SignatureVerificationError) → the_one keys ≡ Err r → SignatureCause r
-  unfolding SignatureCause
   one_cause alg signed [] are r h =
       let cause : SignatureCause refusal.NoMatchingKey = inl (alg, signed, are) in subst SignatureCause (same_err (the_one {A = Key} []) refusal.NoMatchingKey r refl h) cause
   one_cause alg signed (key ∷ []) are r h = absurd cc
@@ -62,7 +60,6 @@ module _ {Key Use Algorithm Type' : Type 0} (k : KeyMeanings Key Use Algorithm T
 
   secret_cause : (alg : Algorithm) → token.header.alg ≡ algorithm.Signature alg → IsTrue (k.algorithms.uses_shared_secret alg) → (secret : Option Key) → v.secret_key ≡ secret
       → (r : SignatureVerificationError) → ok_or secret refusal.DisallowedAlg ≡ Err r → SignatureCause r
-  unfolding SignatureCause
   secret_cause alg signed shared None is r h =
       let cause : SignatureCause refusal.DisallowedAlg = inl (alg, signed, inr (shared, is)) in
       subst SignatureCause (same_err (ok_or {T = Key} None refusal.DisallowedAlg) refusal.DisallowedAlg r refl h) cause
@@ -80,7 +77,6 @@ module _ {Key Use Algorithm Type' : Type 0} (k : KeyMeanings Key Use Algorithm T
 
   allowed_cause : (alg : Algorithm) → token.header.alg ≡ algorithm.Signature alg → (allowed : Bool) → is_allowed k v alg ≡ allowed → (r : SignatureVerificationError)
       → ((if allowed then Ok alg else Err refusal.DisallowedAlg) >>= λ alg. key_for k v token.header.kid alg >>= λ key. k.keys.verdict key alg token.message token.signature) ≡ Err r → SignatureCause r
-  unfolding SignatureCause
   allowed_cause alg signed true is r h = chosen_cause alg signed (key_for k v token.header.kid alg) refl r h
   allowed_cause alg signed false is r h =
       let cause : SignatureCause refusal.DisallowedAlg = inl (alg, signed, inl is) in
@@ -89,7 +85,6 @@ module _ {Key Use Algorithm Type' : Type 0} (k : KeyMeanings Key Use Algorithm T
 
   named_cause : (named : JsonWebTokenAlgorithm JE Algorithm) → token.header.alg ≡ named → is_encrypted named ≡ false → (r : SignatureVerificationError)
       → (signing_alg named >>= λ named. if_allowed k v named >>= λ alg. key_for k v token.header.kid alg >>= λ key. k.keys.verdict key alg token.message token.signature) ≡ Err r → SignatureCause r
-  unfolding SignatureCause
   named_cause (algorithm.Signature alg) signed plain r h = allowed_cause alg signed (is_allowed k v alg) refl r h
   named_cause (algorithm.Encryption alg) signed plain r h = absurd (true≢false plain)
   named_cause algorithm.None signed plain r h =

@@ -20,3 +20,6 @@ mod IssuedAccepted
 mod Causes
 mod IssuedToken
 mod Judged
+mod NeverMemory
+mod ReadFree
+pub mod Theorems
