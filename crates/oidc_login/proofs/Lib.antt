@@ -5,6 +5,7 @@ pub mod Begun
 pub mod Verification
 pub mod TokenHash
 pub mod Walks
+pub mod NoFloat
 pub mod Answers
 pub mod Rows
 pub mod Causes
