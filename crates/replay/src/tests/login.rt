@@ -40,14 +40,7 @@ fn client(alloc: Global) -> Result<Client, Fail> {
     let algorithms = [CoreJwsSigningAlgorithm::HmacSha256].to_vec(alloc)?;
     let (issuer, endpoint) = urls(alloc)?;
     let keys = CoreJsonWebKeySet::new(Vec::new(alloc));
-    Ok(Client::new(
-        id,
-        Some(secret),
-        issuer,
-        keys,
-        endpoint,
-        algorithms,
-    ))
+    Ok(Client::new(id, Some(secret), issuer, keys, endpoint, algorithms))
 }
 
 // The same client, with a token endpoint of so many bytes behind `https://example/`.
