@@ -7,6 +7,7 @@ use Rattle.oidc_types.specs.declared.signing_error.SigningError.TheVariants.{Uns
 use Rattle.oidc_pairs.specs.Pairs.{pairs, values, first_of as first_value}
 use Rattle.oidc_oauth2.specs.Messages.{SeenRequest, SeenResponse, SeenAnswer}
 use Rattle.oidc_oauth2.specs.Transport.{first_of}
+use Rattle.oidc_tokens.specs.declared.verification.refusals.ClaimsVerificationError.{ClaimsVerificationError}
 use Rattle.oidc_oauth2.specs.TokenAnswers.{◌>>=◌, ◌>>◌}
 use Rattle.oidc_oauth2.specs.declared.token_answers.OtherCause.TheVariants as other
 use Rattle.oidc_oauth2.specs.declared.token_answers.RequestTokenError.TheVariants as token_error
@@ -102,7 +103,7 @@ module _ (a : Attempt) (answers : List SeenAnswer) where
       ∙ ap (λ m. m >> Ok (signed_by h.token h.tokens)) is
 
   -- by the first check that fails
-  checked : (h : Held) (failure : Option _) → failure_for a.client h.login.nonce a.now h.token ≡ failure
+  checked : (h : Held) (failure : Option ClaimsVerificationError) → failure_for a.client h.login.nonce a.now h.token ≡ failure
       → accepting a.client a.now h.login h.token h.tokens.access_token
       ≡ ((login.Claims for failure) >> hash_rows (claimed_hash h.token) (hash_beside (verifier_of a.client) h.token h.tokens.access_token))
   unfolding accepting

@@ -19,7 +19,7 @@ use Rattle.oidc_login.specs.TokenHash.{claimed_hash, hash_under, hash_beside, Fi
 use Rattle.oidc_login.specs.Errors.{Error}
 use Rattle.oidc_login.specs.Rows.{Attempt, Meant, SeenOpened, login_named_by, error_in, code_in, opening, tokens_in, hash_rows, accepting, signing_in, after_token, with_token, outcome}
 use Rattle.oidc_login.specs.Causes.{Names, HasCode, Asks, Held, Answered, Reads, Holds, Accepted, own_hash, IsSignedIn, TokenCause, Cause}
-use Rattle.oidc_login.proofs.Walks.{Walk, at_or, at_meant, at_last, at_when, at_for, at_then, walked_err, walked_ok}
+use Rattle.oidc_login.proofs.Walks.{Walk, at_or, at_meant, at_last, at_when, at_for, at_then, at_end, walked_err, walked_ok}
 use Rattle.oidc_oauth2.specs.ErrorResponse.{SeenError}
 use Rattle.oidc_oauth2.specs.declared.error_types.CoreErrorResponseType.{CoreErrorResponseType}
 use Rattle.oidc_oauth2.proofs.Theorems.{IsJudged}
@@ -97,7 +97,7 @@ module _ (a : Attempt) (answers : List SeenAnswer) where
     names_algorithm = refl;
   }
   claim-walk h accepted (Some claim) (Some hash) is_claim is_own =
-      at_when (λ u. Fits h) Q (not (bytes_eq hash claim)) _ (Ok tt)
+      at_end (λ u. Fits h) Q (not (bytes_eq hash claim)) _
       (λ other. record {
         held = h;
         claim = claim;

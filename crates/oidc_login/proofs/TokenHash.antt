@@ -15,6 +15,7 @@ use Rattle.oidc_tokens.specs.Signatures.{signing_alg, key_for}
 use Rattle.oidc_tokens.specs.Steps.{◌>>=◌}
 use Rattle.oidc_login.specs.IdTokens.{SeenIdToken, CoreVerifier, core_keys}
 use Rattle.oidc_login.specs.TokenHash.{hash_under, hashing_found, or_no_hash, hash_beside}
+use Rattle.oidc_oauth2.specs.TokenAnswers.{◌when◌}
 use Rattle.oidc_login.specs.Errors.{Error}
 use Rattle.oidc_login.specs.Rows.{Meant, hash_rows}
 use Rattle.oidc_login.specs.declared.errors.LoginError.TheVariants as login
@@ -51,7 +52,7 @@ pub same_back : (xs ys : List ℕ) → not (bytes_eq xs ys) ≡ false → xs ≡
 same_back xs ys is = same_by xs ys (bytes_eq xs ys) refl is
 
 abbrev when_other : Bool → Meant (Unit {0})
-when_other equal = elim (not equal) as (λ _. Meant (Unit {0})) [ true ↦ Err login.TokenHash | false ↦ Ok tt ]
+when_other equal = login.TokenHash when not equal
 
 -- another hash is claimed
 pub other_claim : (claim hash : List ℕ) → hash ≢ claim → hash_rows (Some claim) (Ok hash) ≡ Err login.TokenHash

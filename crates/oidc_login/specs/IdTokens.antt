@@ -12,14 +12,14 @@ use Rattle.oidc_types.specs.CoreAlgorithms.{encryption_text, encryption_algorith
 use Rattle.oidc_types.specs.declared.core_algorithms.CoreJsonWebKeyType.{CoreJsonWebKeyType}
 use Rattle.oidc_types.specs.declared.core_algorithms.CoreJwsSigningAlgorithm.{CoreJwsSigningAlgorithm}
 use Rattle.oidc_types.specs.declared.core_algorithms.CoreJweContentEncryptionAlgorithm.{CoreJweContentEncryptionAlgorithm}
-use Rattle.oidc_types.specs.contracts.core_algorithms.CoreJwsSigningAlgorithmJwsSigningAlgorithm.TheImpl.{ghosts as algorithms}
-use Rattle.oidc_types.specs.contracts.core_algorithms.CoreJwsSigningAlgorithmClosedVocabulary.TheImpl.{ghosts as algorithm_words}
-use Rattle.oidc_types.specs.contracts.core_algorithms.CoreJsonWebKeyTypeClosedVocabulary.TheImpl.{ghosts as type_words}
+use Rattle.oidc_types.specs.contracts.core_algorithms.CoreJwsSigningAlgorithmJwsSigningAlgorithm.TheImpl.{ghosts as of_algorithms}
+use Rattle.oidc_types.specs.contracts.core_algorithms.CoreJwsSigningAlgorithmClosedVocabulary.TheImpl.{ghosts as of_algorithm_words}
+use Rattle.oidc_types.specs.contracts.core_algorithms.CoreJsonWebKeyTypeClosedVocabulary.TheImpl.{ghosts as of_type_words}
 use Rattle.oidc_claims.specs.Others.{Others, read_others, list_of}
 use Rattle.oidc_keys.specs.CoreJwk.{SymmetricKey}
 use Rattle.oidc_keys.specs.declared.core_jwk.CoreJsonWebKeyUse.{CoreJsonWebKeyUse}
-use Rattle.oidc_keys.specs.contracts.core_jwk.CoreJsonWebKeyJsonWebKey.TheImpl.{ghosts as keys}
-use Rattle.oidc_keys.specs.contracts.core_jwk.CoreJsonWebKeyUseJsonWebKeyUse.TheImpl.{ghosts as uses}
+use Rattle.oidc_keys.specs.contracts.core_jwk.CoreJsonWebKeyJsonWebKey.TheImpl.{ghosts as of_keys}
+use Rattle.oidc_keys.specs.contracts.core_jwk.CoreJsonWebKeyUseJsonWebKeyUse.TheImpl.{ghosts as of_uses}
 use Rattle.oidc_tokens.specs.Tokens.{SeenToken, token_of}
 use Rattle.oidc_tokens.specs.IdTokenClaims.{SeenIdTokenClaims, id_token_claims_of, id_token_members}
 use Rattle.oidc_tokens.specs.Signatures.{KeyMeanings, SeenVerifier, meanings}
@@ -51,7 +51,7 @@ written claims = id_token_members list_of string claims
 
 -- what is known of the keys: they are symmetric, and verify by HMAC
 abbrev pub core_keys : KeyMeanings SymmetricKey CoreJsonWebKeyUse CoreJwsSigningAlgorithm CoreJsonWebKeyType
-core_keys = meanings keys uses algorithms algorithm_words type_words
+core_keys = meanings of_keys of_uses of_algorithms of_algorithm_words of_type_words
 
 abbrev pub CoreVerifier : Type 0
 CoreVerifier = SeenVerifier SymmetricKey CoreJwsSigningAlgorithm

@@ -13,7 +13,7 @@ ghost use Rattle.oidc_tokens.specs.Hashes.{GivesHash};
 ghost use Rattle.oidc_login.specs.Errors.{faulted, is_spent_by, Gives, OrMemory};
 ghost use Rattle.oidc_login.specs.Logins.{HasVerifiers};
 ghost use Rattle.oidc_login.specs.TokenRequest as request;
-ghost use Rattle.oidc_login.specs.TokenHash as hash;
+ghost use Rattle.oidc_login.specs.TokenHash as hashes;
 ghost use Rattle.oidc_login.specs.TokenHash.{claimed_hash};
 ghost use Rattle.oidc_login.specs.SignedIn.{additional_in};
 ghost use Rattle.oidc_login.specs.Rows as rows;
@@ -177,7 +177,7 @@ fn hash_beside(
     token: &LoginIdToken,
     access_token: &AccessToken,
 ) -> Result<AccessTokenHash, SigningError>
-    ensures { GivesHash (hash.hash_beside verifier.now token.now access_token.now) result }
+    ensures { GivesHash (hashes.hash_beside verifier.now token.now access_token.now) result }
 {
     let Ok(alg) = token.signing_alg() else {
         return Err(no_hash(alloc));
@@ -195,7 +195,7 @@ fn check_hash<E>(
     token: &LoginIdToken,
     access_token: &AccessToken,
 ) -> Result<(), LoginError<E>>
-    ensures gives { let hash = hash.hash_beside verifier.now token.now access_token.now in
+    ensures gives { let hash = hashes.hash_beside verifier.now token.now access_token.now in
         Gives result (rows.hash_rows (claimed_hash token.now) hash) }
     ensures no_fault { IfErr result (λ e. faulted e ≡ false) }
     ensures spent { is_spent_by result ≡ true }
