@@ -10,5 +10,7 @@ pub mod Answers
 pub mod Rows
 pub mod Causes
 pub mod Drives
+pub mod Present
+pub mod Signing
 pub mod NoMemory
 pub mod Called

@@ -73,9 +73,10 @@ impl SignedIn {
         SignedIn { tokens }
     }
 
-    /// The ID token.
+    /// The ID token. No additional claim in it holds a float.
     pub fn id_token(&self) -> &LoginIdToken
-        ensures { result.now ≡ self.now.id_token }
+        ensures token { result.now ≡ self.now.id_token }
+        ensures no_float { any_float (list_of result.now.payload.additional_claims) ≡ false }
     {
         match self.tokens.extra_fields().id_token() {
             Some(id_token) => id_token,
