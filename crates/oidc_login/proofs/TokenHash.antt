@@ -1,5 +1,5 @@
 -- The hash beside an accepted ID token is that of its algorithm under its key, and what its rows say.
-use Rattle.std.proofs.Common.{◌≡◌, ◌≢◌, ℕ, List, Bool, true, false, Option, None, Some, Result, Ok, Err, refl, sym, ap, ◌∙◌}
+use Rattle.std.proofs.Common.{◌≡◌, ◌≢◌, ℕ, List, [], Bool, true, false, Option, None, Some, Result, Ok, Err, refl, sym, ap, ◌∙◌}
 use Rattle.std.specs.Prelude.{not}
 use Rattle.std.specs.Option.{ok_or}
 use Rattle.std.specs.Str.{bytes_eq}
@@ -10,8 +10,9 @@ use Rattle.oidc_types.specs.declared.signing_error.SigningError.TheVariants.{Uns
 use Rattle.oidc_types.specs.declared.core_algorithms.CoreJwsSigningAlgorithm.{CoreJwsSigningAlgorithm}
 use Rattle.oidc_keys.specs.CoreJwk.{SymmetricKey}
 use Rattle.oidc_tokens.specs.declared.header.JsonWebTokenAlgorithm.TheVariants as algorithm
-use Rattle.oidc_tokens.specs.Hashes.{hashing, hash_or_refusal}
-use Rattle.oidc_tokens.specs.Signatures.{signing_alg, key_for}
+use Rattle.oidc_keys.specs.declared.refusals.SignatureVerificationError.{SignatureVerificationError}
+use Rattle.oidc_tokens.specs.Hashes.{Hashing, hashing, hash_or_refusal}
+use Rattle.oidc_tokens.specs.Signatures.{signing_alg, key_for, checking_key}
 use Rattle.oidc_tokens.specs.Steps.{◌>>=◌}
 use Rattle.oidc_login.specs.IdTokens.{SeenIdToken, CoreVerifier, core_keys}
 use Rattle.oidc_login.specs.TokenHash.{hash_under, hashing_found, or_no_hash, hash_beside}
@@ -31,6 +32,31 @@ module _ (v : CoreVerifier) (token : SeenIdToken) (alg : CoreJwsSigningAlgorithm
   pub beside : (access_token : List ℕ) → hash_beside v token access_token ≡ ok_or (hash_under key alg access_token) (UnsupportedAlg (signing_text alg))
   unfolding hash_beside
   beside access_token = ap (λ r. hash_or_refusal (or_no_hash r) access_token) found
+
+-- ---- by what was found of its algorithm and its key
+
+module _ (v : CoreVerifier) (token : SeenIdToken) (access_token : List ℕ) where
+  abbrev steps : Result CoreJwsSigningAlgorithm SignatureVerificationError → Result SymmetricKey SignatureVerificationError → Result Hashing SignatureVerificationError
+  steps a k = a >>= λ alg. k >>= λ key. Ok (hashing (signing_text alg) (core_keys.keys.hash_of key alg))
+
+  abbrev after : Result Hashing SignatureVerificationError → Result (List ℕ) SigningError
+  after r = hash_or_refusal (or_no_hash r) access_token
+
+  pub beside_found : (alg : CoreJwsSigningAlgorithm) (key : SymmetricKey) → Ok alg ≡ signing_alg token.header.alg → Ok key ≡ checking_key core_keys v token
+      → hash_beside v token access_token ≡ hash_or_refusal (hashing (signing_text alg) (core_keys.keys.hash_of key alg)) access_token
+  unfolding hash_beside
+  beside_found alg key has_alg has_key =
+      ap (λ a. after (steps a (checking_key core_keys v token))) (sym has_alg) ∙ ap (λ k. after (steps (Ok alg) k)) (sym has_key)
+
+  pub beside_unsigned : (refusal : SignatureVerificationError) → Err refusal ≡ signing_alg token.header.alg → hash_beside v token access_token ≡ Err (UnsupportedAlg [])
+  unfolding hash_beside
+  beside_unsigned refusal no_alg = ap (λ a. after (steps a (checking_key core_keys v token))) (sym no_alg)
+
+  pub beside_keyless : (alg : CoreJwsSigningAlgorithm) (refusal : SignatureVerificationError) → Ok alg ≡ signing_alg token.header.alg → Err refusal ≡ checking_key core_keys v token
+      → hash_beside v token access_token ≡ Err (UnsupportedAlg [])
+  unfolding hash_beside
+  beside_keyless alg refusal has_alg no_key =
+      ap (λ a. after (steps a (checking_key core_keys v token))) (sym has_alg) ∙ ap (λ k. after (steps (Ok alg) k)) (sym no_key)
 
 -- ---- the rows on a claim
 
