@@ -27,6 +27,10 @@ pub struct Fault;
 
 /// Prints why there is no response.
 impl fmt::Display for Fault {
+    ghost use Rattle.std.specs.Prelude.{Option, codes};
+
+    ghost output = { λ _. Option.Some (codes "no response") };
+
     fn fmt<W: fmt::Write>(&self, f: &mut fmt::Formatter<W>) -> fmt::Result {
         f.write_str("no response")
     }
