@@ -5,12 +5,13 @@ use crate::case::{Case, CaseError};
 use crate::vocabularies::variant_name;
 use oidc_claims::PlacedError;
 use oidc_keys::{HashError, SignatureVerificationError};
-use oidc_login::{BeginError, ClaimsVerificationError, LoginError, NewLoginsError, TooLong};
+use oidc_login::{BeginError, LoginError, NewLoginsError, TooLong};
 use oidc_members::{FieldName, ParseError, ParseKind, Refusal};
 use oidc_oauth2::{
     BearerError, Body, ConfigurationError, CoreErrorResponseType, CoreRequestTokenError, Fault,
     OtherCause, PkceError, PrepareError, RequestTokenError, StandardErrorResponse, UnexpectedType,
 };
+use oidc_tokens::{ClaimsVerificationError, JsonWebTokenError};
 use oidc_types::{SigningError, UrlTextError};
 use std::alloc::Global;
 use std::fmt::{Debug, Display};
@@ -42,12 +43,20 @@ const SIGNATURES: [SignatureVerificationError; 8] = [
 
 const HASHES: [HashError; 2] = [HashError::Unsupported, HashError::Memory];
 
-const CLAIMS: [ClaimsVerificationError; 5] = [
+const CLAIMS: [ClaimsVerificationError; 8] = [
+    ClaimsVerificationError::Unsupported,
     ClaimsVerificationError::InvalidIssuer,
     ClaimsVerificationError::InvalidAudience,
     ClaimsVerificationError::SignatureVerification(SignatureVerificationError::CryptoError),
     ClaimsVerificationError::Expired,
     ClaimsVerificationError::InvalidNonce,
+    ClaimsVerificationError::InvalidSubject,
+    ClaimsVerificationError::Memory,
+];
+
+const ISSUES: [JsonWebTokenError; 2] = [
+    JsonWebTokenError::SigningError(SigningError::CryptoError),
+    JsonWebTokenError::Memory,
 ];
 
 const STORES: [NewLoginsError; 1] = [NewLoginsError::TokenEndpoint];
@@ -93,6 +102,7 @@ pub(crate) fn display(alloc: Global, case: &Case) -> Result<String, CaseError> {
         "BeginError" => one_of(alloc, &BEGINS, variant),
         "ClaimsVerificationError" => one_of(alloc, &CLAIMS, variant),
         "HashError" => one_of(alloc, &HASHES, variant),
+        "JsonWebTokenError" => one_of(alloc, &ISSUES, variant),
         "LoginError" => login_error(alloc, variant),
         "NewLoginsError" => one_of(alloc, &STORES, variant),
         "ParseError" => parse_error(alloc, variant),
@@ -142,7 +152,7 @@ fn login_error(alloc: Global, variant: &str) -> Result<String, CaseError> {
         LoginError::Callback,
         LoginError::Token(RequestTokenError::Request(Fault)),
         LoginError::NoIdToken,
-        LoginError::Claims(ClaimsVerificationError::Expired),
+        LoginError::Claims(oidc_login::ClaimsVerificationError::Expired),
         LoginError::Memory { spent: false },
     ];
     one_of(alloc, &all, variant)
