@@ -525,4 +525,5 @@ def main():
         print(answer_line(case))
 
 
-main()
+if __name__ == "__main__":
+    main()

@@ -54,11 +54,6 @@ const CLAIMS: [ClaimsVerificationError; 8] = [
     ClaimsVerificationError::Memory,
 ];
 
-const ISSUES: [JsonWebTokenError; 2] = [
-    JsonWebTokenError::SigningError(SigningError::CryptoError),
-    JsonWebTokenError::Memory,
-];
-
 const STORES: [NewLoginsError; 1] = [NewLoginsError::TokenEndpoint];
 
 const BEGINS: [BeginError; 3] = [
@@ -102,7 +97,7 @@ pub(crate) fn display(alloc: Global, case: &Case) -> Result<String, CaseError> {
         "BeginError" => one_of(alloc, &BEGINS, variant),
         "ClaimsVerificationError" => one_of(alloc, &CLAIMS, variant),
         "HashError" => one_of(alloc, &HASHES, variant),
-        "JsonWebTokenError" => one_of(alloc, &ISSUES, variant),
+        "JsonWebTokenError" => token_error(alloc, variant),
         "LoginError" => login_error(alloc, variant),
         "NewLoginsError" => one_of(alloc, &STORES, variant),
         "ParseError" => parse_error(alloc, variant),
@@ -184,6 +179,14 @@ fn signing_error(alloc: Global, variant: &str) -> Result<String, CaseError> {
         SigningError::UnsupportedAlg(none),
         SigningError::Other(other),
         SigningError::Memory,
+    ];
+    one_of(alloc, &all, variant)
+}
+
+fn token_error(alloc: Global, variant: &str) -> Result<String, CaseError> {
+    let all = [
+        JsonWebTokenError::SigningError(SigningError::CryptoError),
+        JsonWebTokenError::Memory,
     ];
     one_of(alloc, &all, variant)
 }
