@@ -427,15 +427,15 @@ def answer_line(line):
 
 # ---- generated cases
 
-OBJECTS, VERDICTS = 400, 160
+OBJECTS, VERDICTS = 250, 110
 
-URLS = ['"https://a.example"', '"https://a.example/"', '"a"', "1", "null"]
+URLS = ['"https://a"', '"https://a/"', '"a"', "1", "null"]
 MOMENTS = ["2000", "1999", "253402207200", "253402207201", "-377705023201", "-377705023202", '"2000"', "null"]
 TEXTS = ['"a"', '"b"', '""', "null", "7"]
 LISTS = ['["a"]', "[]", '["a","b"]', '["a",1]', "null", '"a"']
 VALUES = {plain_answers.url_fault: URLS, moment_fault: MOMENTS, text_fault: TEXTS, texts_fault: LISTS,
           text_or_texts_fault: LISTS}
-USUAL = ['"iss":"https://a.example"', '"exp":2000', '"iat":900', '"sub":"u"', '"aud":"a"']
+USUAL = ['"iss":"https://a"', '"exp":2000', '"iat":900', '"sub":"u"', '"aud":"a"']
 
 
 class Choices(plain_claims.Choices):
@@ -473,14 +473,14 @@ class Choices(plain_claims.Choices):
     def verdict_case(self):
         """A token and a client that mostly accepts it."""
         alg = self.rarely(self.one(["HS256", "RS256", "RS256", "HS384", "ES512", "PS256", "EdDSA"]), ["none", "A128GCM"])
-        claims = ['"iss":"' + self.rarely("https://a.example", ["https://b.example", "https://a.example/"]) + '"',
+        claims = ['"iss":"' + self.rarely("https://a", ["https://b.example", "https://a/"]) + '"',
                   '"aud":' + self.rarely('"a"', ['["a"]', '["a","b"]', '"b"', "[]", '["a","a"]']),
                   '"exp":' + self.rarely("2000", ["1000"]), '"iat":900', '"sub":"u"',
                   '"nonce":' + self.rarely('"n"', ['"m"', "null", '""'])]
         message = encoded(self.header_object(alg).encode()) + "." + encoded(("{" + ",".join(claims) + "}").encode())
         signature = mac("s", alg, message) if alg.startswith("HS") else self.rarely(b"\1", [b"\2"])
         line = [("op", "verify"), ("token", message + "." + encoded(signature)), ("id", "a"),
-                ("issuer", "https://a.example"), ("nonce", "n"), ("now", self.one(["1000", "1999", "2000"]))]
+                ("issuer", "https://a"), ("nonce", "n"), ("now", self.one(["1000", "1999", "2000"]))]
         line += self.rarely([("secret", "s")], [[], [("secret", "t")]])
         line += self.rarely([("algs", "HS384 " + alg)] if alg in SIGNING else [], [[], [("algs", "")]])
         return line + self.issuer_keys(KEY_TYPES.get(alg[:2], "OKP"))
@@ -492,24 +492,32 @@ class Choices(plain_claims.Choices):
                 for _ in range(self.one([1, 1, 2, 3]))]
 
 
-def cases():
-    choices = Choices(2)
-    lines = [[("op", "id_claims"), ("text", choices.claims_object())] for _ in range(OBJECTS)]
-    return lines + [choices.verdict_case() for _ in range(VERDICTS)]
-
-
 def plain_form(of):
     """The form text of pairs, with no more escaped than has to be."""
     def escaped(text):
-        return re.sub("[%&+\n]", lambda c: f"%{ord(c[0]):02X}", text).replace(" ", "+")
+        return re.sub("[%&+\x00-\x1f\x7f]", lambda c: f"%{ord(c[0]):02X}", text).replace(" ", "+")
 
     return "&".join(escaped(name) + "=" + escaped(value) for name, value in of)
+
+
+def distinct(made, count):
+    """The first that differ of what is made."""
+    out = {}
+    while len(out) < count:
+        out[made()] = None
+    return list(out)
+
+
+def cases():
+    choices = Choices(2)
+    return distinct(lambda: plain_form([("op", "id_claims"), ("text", choices.claims_object())]), OBJECTS) \
+        + distinct(lambda: plain_form(choices.verdict_case()), VERDICTS)
 
 
 def main(words):
     if words == ["cases"]:
         for case in cases():
-            print(plain_form(case))
+            print(case)
     elif words == ["answers"]:
         for line in sys.stdin.read().split("\n")[:-1]:
             print(answer_line(line))
