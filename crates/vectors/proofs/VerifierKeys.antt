@@ -1,5 +1,6 @@
 -- the verdicts of verifiers' keys
-use Rattle.std.proofs.Common.{◌≢◌, ℕ, List, Err, arith}
+use Rattle.std.specs.Prelude.{◌≢◌, ℕ, List, Err}
+use Rattle.std.proofs.Common.{arith}
 use Rattle.oidc_types.specs.declared.core_algorithms.CoreJwsSigningAlgorithm.{CoreJwsSigningAlgorithm}
 use Rattle.oidc_keys.specs.declared.refusals.SignatureVerificationError.TheVariants.{Memory}
 use Rattle.vectors.specs.declared.verifier_keys.VerifierKey.{VerifierKey}

@@ -82,11 +82,7 @@ fn algorithm_text(alg: &Algorithm) -> &'static str {
     }
 }
 
-fn push_name(
-    form: &mut FormText,
-    name: &str,
-    value: Option<&FieldName>,
-) -> Result<(), AllocError> {
+fn push_name(form: &mut FormText, name: &str, value: Option<&FieldName>) -> Result<(), AllocError> {
     match value {
         Some(value) => form.push(name, value.as_str()),
         None => Ok(()),
@@ -237,7 +233,14 @@ pub(crate) fn issue(alloc: Global, case: &Case) -> Result<String, CaseError> {
     let key = CoreHmacKey::new(Vec::from_slice(alloc, case.value("secret").as_bytes())?);
     let access_token = access_token_in(alloc, case)?;
     let code = code_in(alloc, case)?;
-    match Token::new(alloc, claims, &key, alg, access_token.as_ref(), code.as_ref()) {
+    match Token::new(
+        alloc,
+        claims,
+        &key,
+        alg,
+        access_token.as_ref(),
+        code.as_ref(),
+    ) {
         Ok(token) => ok_pair(alloc, "token", token.to_string(alloc)?.as_str()),
         Err(JsonWebTokenError::SigningError(refusal)) => unsigned_line(alloc, &refusal),
         Err(JsonWebTokenError::Memory) => Err(CaseError::Memory),
