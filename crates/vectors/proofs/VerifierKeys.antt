@@ -9,5 +9,5 @@ use Rattle.vectors.specs.VerifierKeys.{verdict_of}
 
 pub never_memory : (key : VerifierKey) (alg : CoreJwsSigningAlgorithm) (message signature : List ℕ)
     → verdict_of key alg message signature ≢ Err Memory
-never_memory (Secret key) alg message signature h = Prim.grind (arith)
-never_memory (Given key) alg message signature h = Prim.grind (arith)
+never_memory (Secret key) alg message signature h = grind arith
+never_memory (Given key) alg message signature h = grind arith

@@ -229,7 +229,7 @@ fn unsigned_line(alloc: Global, refusal: &SigningError) -> Result<String, CaseEr
 pub(crate) fn issue(alloc: Global, case: &Case) -> Result<String, CaseError> {
     case.check_with(&["claims", "secret", "alg"], &["access_token", "code"])?;
     let alg = algorithm(case.value("alg"))?;
-    let claims = claims_in(alloc, case.value("claims")).map_err(|error| unread(&error))?;
+    let claims = claims_of(alloc, case.value("claims"))?;
     let key = CoreHmacKey::new(Vec::from_slice(alloc, case.value("secret").as_bytes())?);
     let access_token = access_token_in(alloc, case)?;
     let code = code_in(alloc, case)?;
@@ -244,6 +244,14 @@ pub(crate) fn issue(alloc: Global, case: &Case) -> Result<String, CaseError> {
         Ok(token) => ok_pair(alloc, "token", token.to_string(alloc)?.as_str()),
         Err(JsonWebTokenError::SigningError(refusal)) => unsigned_line(alloc, &refusal),
         Err(JsonWebTokenError::Memory) => Err(CaseError::Memory),
+    }
+}
+
+// The claims of a text that has to hold them.
+fn claims_of(alloc: Global, text: &str) -> Result<Claims, CaseError> {
+    match claims_in(alloc, text) {
+        Ok(claims) => Ok(claims),
+        Err(error) => Err(unread(&error)),
     }
 }
 

@@ -1,6 +1,9 @@
 //! The keys of verifiers: a client's secret, and keys of an issuer that know one signature.
 
+ghost use Rattle.std.specs.Prelude.{None};
 ghost use Rattle.vectors.specs.VerifierKeys as spec;
+ghost use Rattle.vectors.specs.declared.verifier_keys.VerifierKey.TheVariants.{Secret};
+ghost use Rattle.vectors.proofs.VerifierKeys.{never_memory};
 
 use crate::case::{CaseError, bytes_of};
 use oidc_keys::{
@@ -30,10 +33,6 @@ pub(crate) enum VerifierKey {
 }
 
 impl JsonWebKey for VerifierKey {
-    ghost use Rattle.std.specs.Prelude.{None};
-    ghost use Rattle.vectors.specs.declared.verifier_keys.VerifierKey.TheVariants.{Secret};
-    ghost use Rattle.vectors.proofs.VerifierKeys.{never_memory};
-
     type KeyUse = CoreJsonWebKeyUse;
 
     type SigningAlgorithm = CoreJwsSigningAlgorithm;
