@@ -1,2 +1,1 @@
 mod Unknown
-mod VerifierKeys

@@ -1,9 +1,9 @@
 //! The keys of verifiers: a client's secret, and keys of an issuer that know one signature.
 
 ghost use Rattle.std.specs.Prelude.{None};
+ghost use Rattle.std.proofs.Common.{arith};
 ghost use Rattle.vectors.specs.VerifierKeys as spec;
 ghost use Rattle.vectors.specs.declared.verifier_keys.VerifierKey.TheVariants.{Secret};
-ghost use Rattle.vectors.proofs.VerifierKeys.{never_memory};
 
 use crate::case::{CaseError, bytes_of};
 use oidc_keys::{
@@ -104,7 +104,7 @@ impl JsonWebKey for VerifierKey {
         }
     }
 
-    ghost verdict_is_never_memory = { never_memory };
+    ghost verdict_is_never_memory = { λ key algorithm message signature h. Prim.grind (arith) };
 }
 
 // ---- keys of a line
