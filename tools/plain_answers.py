@@ -506,9 +506,10 @@ OPERATIONS = {"run": run, "token_response": token_response, "device_response": d
 
 
 def answer_line(line):
-    """The answer of a case of one of these operations; any other line as it came."""
+    """The answer of a case of one of these operations; any other line as it came, and one with extra fields,
+    which plain_tokens.py answers."""
     operation = OPERATIONS.get(re.split("[=&]", line + "=")[1]) if line.startswith("op=") else None
-    if operation is None:
+    if operation is None or operation in (token_response, token_answer) and values(pairs(line), "extra"):
         return line
     try:
         return operation(line)
