@@ -29,7 +29,7 @@ use Rattle.oidc_claims.specs.Table.{name_of, kind_of, all_claims, base_of, claim
 use Rattle.oidc_claims.specs.Additional.{ReadsBack, StaysAdditional, are_written_additional, out_of}
 use Rattle.oidc_claims.specs.Claims.{fault_of_kind, fault_by, fault_at, first_fault}
 use Rattle.oidc_claims.specs.Gender.{GenderReadsBack, GenderIsValue}
-use Rattle.oidc_claims.specs.Home.{home_by, is_additional_home, user_info_fields}
+use Rattle.oidc_claims.specs.Home.{home_by, is_additional_home, id_token_fields, user_info_fields}
 use Rattle.oidc_claims.specs.Standard.{claims_of, at_place, faultless_claims, unless_refused}
 use Rattle.oidc_claims.specs.Write.{written, claim_members, plain_member, with_tag, variant_member, variant_members, IsWholeSecond}
 use Rattle.oidc_claims.specs.Write.{IsInRange as AreInRange}
@@ -89,10 +89,10 @@ weaker p q all (m ∷ ms) h =
 
 -- a name of one home is of no other
 field_not_standard : (name : List ℕ) → is_own_field name ≡ true → not (standard_name name) ≡ true
-field_not_standard name h = ap not (no_claim _ name refl h)
+field_not_standard name h = ap not (no_claim id_token_fields name refl h)
 
 standard_not_field : (name : List ℕ) (b : Bool) → is_own_field name ≡ b → standard_name name ≡ true → not b ≡ true
-standard_not_field name true is h = absurd (false≢true (sym (no_claim _ name refl is) ∙ h))
+standard_not_field name true is h = absurd (false≢true (sym (no_claim id_token_fields name refl is) ∙ h))
 standard_not_field name false is h = refl
 
 additional_of : (field standard : Bool) → is_additional_home (home_by field standard) ≡ (not field && not standard)
@@ -235,7 +235,7 @@ neither_named : (ms : List OutSeen) → list_all (λ m. not (is_own_field m.name
 neither_named [] h k = refl
 neither_named (m ∷ ms) h k =
     let a = and_parts (not (is_own_field m.name)) (list_all (λ m. not (is_own_field m.name)) ms) h in
-    let b = and_parts _ (are_written_additional ms) k in
+    let b = and_parts (is_additional_home (home_by (list_any (λ field. bytes_eq field m.name) user_info_fields) (is_some (claim_of (base_of m.name))))) (are_written_additional ms) k in
     and_from (not (is_own_field m.name) && not (standard_name m.name)) (are_neither ms)
     (neither_by (is_own_field m.name) (standard_name m.name) (list_any (λ field. bytes_eq field m.name) user_info_fields) (not_true (is_own_field m.name) a.0)
     (ap (λ standard. is_additional_home (home_by (list_any (λ field. bytes_eq field m.name) user_info_fields) standard)) (sym (is_claim (as_read m))) ∙ b.0))
@@ -291,7 +291,6 @@ module _ {GC : Type 0} (gender_read : SeenMember → Result GC Refusal) where
   claims_by : (fault : Option (ℕ × Refusal)) (ms : List SeenMember) (s : SeenClaims GC) → unless_refused gender_read fault ms ≡ Ok s → (fault ≡ None) × (faultless_claims gender_read ms ≡ Ok s)
   claims_by (Some fault) ms s h = absurd cc
   claims_by None ms s h = (refl, placed_ok (faultless_claims gender_read ms) (length ms) s h)
-
 
 module _ (P : OutSeen → Type 0) where
   behind : (xs ys : List OutSeen) → All P (xs ++ ys) → All P ys
@@ -408,26 +407,26 @@ module _
   fields_kept =
       kept_in is_own_field
       ∙ (λ i. all_kept is_own_field first_part (fields_named c.own) i ++ (
-        none_kept is_own_field second_part (weaker _ _ (λ m h. standard_not_field m.name _ refl h) second_part (standard_named gender_data c.standard_claims)) i
-            ++ none_kept is_own_field third_part (weaker _ _ (λ m h. (and_parts (not (is_own_field m.name)) (not (standard_name m.name)) h).0) third_part thirds) i
+      none_kept is_own_field second_part (weaker (λ (m : OutSeen). standard_name m.name) (λ (m : OutSeen). not (is_own_field m.name)) (λ m h. standard_not_field m.name (is_own_field m.name) refl h) second_part (standard_named gender_data c.standard_claims)) i
+      ++ none_kept is_own_field third_part (weaker (λ (m : OutSeen). not (is_own_field m.name) && not (standard_name m.name)) (λ (m : OutSeen). not (is_own_field m.name)) (λ m h. (and_parts (not (is_own_field m.name)) (not (standard_name m.name)) h).0) third_part thirds) i
       ))
       ∙ append-nil (map as_read first_part)
 
   standard_kept : filter is_standard all ≡ map as_read second_part
   standard_kept =
       kept_in standard_name
-      ∙ (λ i. none_kept standard_name first_part (weaker _ _ (λ m h. field_not_standard m.name h) first_part (fields_named c.own)) i ++ (
-        all_kept standard_name second_part (standard_named gender_data c.standard_claims) i
-            ++ none_kept standard_name third_part (weaker _ _ (λ m h. (and_parts (not (is_own_field m.name)) (not (standard_name m.name)) h).1) third_part thirds) i
+      ∙ (λ i. none_kept standard_name first_part (weaker (λ (m : OutSeen). is_own_field m.name) (λ (m : OutSeen). not (standard_name m.name)) (λ m h. field_not_standard m.name h) first_part (fields_named c.own)) i ++ (
+      all_kept standard_name second_part (standard_named gender_data c.standard_claims) i
+      ++ none_kept standard_name third_part (weaker (λ (m : OutSeen). not (is_own_field m.name) && not (standard_name m.name)) (λ (m : OutSeen). not (standard_name m.name)) (λ m h. (and_parts (not (is_own_field m.name)) (not (standard_name m.name)) h).1) third_part thirds) i
       ))
       ∙ append-nil (map as_read second_part)
 
   additional_kept : additional_members all ≡ map as_read third_part
   additional_kept =
       kept_in is_additional_claim
-      ∙ (λ i. none_kept is_additional_claim first_part (weaker _ _ (λ m h. field_not_additional m.name h) first_part (fields_named c.own)) i ++ (
-        none_kept is_additional_claim second_part (weaker _ _ (λ m h. standard_not_additional m.name h) second_part (standard_named gender_data c.standard_claims)) i
-            ++ all_kept is_additional_claim third_part (weaker _ _ (λ m h. additional_by m.name ∙ h) third_part thirds) i
+      ∙ (λ i. none_kept is_additional_claim first_part (weaker (λ (m : OutSeen). is_own_field m.name) (λ (m : OutSeen). not (is_additional_claim m.name)) (λ m h. field_not_additional m.name h) first_part (fields_named c.own)) i ++ (
+      none_kept is_additional_claim second_part (weaker (λ (m : OutSeen). standard_name m.name) (λ (m : OutSeen). not (is_additional_claim m.name)) (λ m h. standard_not_additional m.name h) second_part (standard_named gender_data c.standard_claims)) i
+      ++ all_kept is_additional_claim third_part (weaker (λ (m : OutSeen). not (is_own_field m.name) && not (standard_name m.name)) (λ (m : OutSeen). is_additional_claim m.name) (λ m h. additional_by m.name ∙ h) third_part thirds) i
       ))
 
   pub values_stand : All (λ (m : OutSeen). MayStand m.value) (id_token_members additional_out gender_data c)

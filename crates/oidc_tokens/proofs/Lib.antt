@@ -16,3 +16,10 @@ mod OwnRule
 mod OwnBack
 mod ClaimsBack
 mod FloatFree
+mod IssuedAccepted
+mod Causes
+mod IssuedToken
+mod Judged
+mod NeverMemory
+mod ReadFree
+pub mod Theorems

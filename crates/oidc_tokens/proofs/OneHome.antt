@@ -1,6 +1,6 @@
 -- Each member has one home, and each part of accepted claims is what the members of its own home say.
 use Rattle.std.proofs.Common.{◌≡◌, ℕ, List, [], ◌∷◌, Bool, true, false, ◌||◌, ◌&&◌, cond, not, Option, None, Some, Result, Ok, Err, refl, sym, ap, subst, ◌∙◌, filter, is_some, zero, suc, All, find, ⊎_elim}
-use Rattle.std.specs.Prelude.{count_by, if◌then◌else◌, codes}
+use Rattle.std.specs.Prelude.{count_by, slice_index_or, if◌then◌else◌, codes}
 use Rattle.std.specs.List.{list_any, list_all}
 use Rattle.std.specs.Str.{bytes_eq}
 use Rattle.std.proofs.lemmas.Bool.{and_parts, and_from, or_cases, false≢true, true≢false}
@@ -161,14 +161,13 @@ module _ {AC GC : Type 0} (additional_read : List SeenMember → Result AC Refus
   additional_of own standard (Ok additional) claims h = cc
   additional_of own standard (Err refusal) claims h = absurd cc
 
-  Parts : List SeenMember → SeenIdTokenClaims AC GC → Type 0
+  abbrev Parts : List SeenMember → SeenIdTokenClaims AC GC → Type 0
   Parts members claims =
       (own_of members ≡ Ok claims.own) × (faultless_claims gender_read members ≡ Ok claims.standard_claims) × (additional_read (additional_members members) ≡ Ok claims.additional_claims)
 
   standard_of : (members : List SeenMember) (own : SeenOwnClaims) → own_of members ≡ Ok own → (answer : Result (SeenClaims GC) Refusal) → faultless_claims gender_read members ≡ answer → (claims : SeenIdTokenClaims AC GC)
       → (answer >>= λ standard. additional_read (additional_members members) >>= λ additional. Ok (record { own = own; standard_claims = standard; additional_claims = additional })) ≡ Ok claims
       → Parts members claims
-  unfolding Parts
   standard_of members own is (Ok standard) there claims h =
       let rest = additional_of own standard (additional_read (additional_members members)) claims h in
       (is ∙ ap Ok rest.0, there ∙ ap Ok rest.1, rest.2)
@@ -190,11 +189,10 @@ module _ {AC GC : Type 0} (additional_read : List SeenMember → Result AC Refus
   accepted_parts members claims h = passed members (faultless (id_token_rule gender_read) members) claims h
 
   pub accepted_homes : AcceptedHaveOneHome additional_read gender_read
-  unfolding Parts
   accepted_homes members claims h =
       let parts = accepted_parts members claims h in
       record {
-        homes = λ k d within. one_home _;
+        homes = λ k d within. one_home (slice_index_or members k d);
         own = own_same members ∙ parts.0;
         standard = standard_same gender_read members ∙ parts.1;
         additional = parts.2;

@@ -3,15 +3,15 @@ use Rattle.std.proofs.Common.{◌≡◌, ℕ, ℤ, pos, negsuc, ◌≤◌, List,
 use Rattle.std.specs.List.{list_any, list_all}
 use Rattle.std.specs.Option.{ok_or, option_flatten}
 use Rattle.std.specs.Result.{result_ok, result_err}
-use Rattle.std.specs.Prelude.{unwrap_or, max}
+use Rattle.std.specs.Prelude.{unwrap_or, option_and_then}
 use Rattle.url.specs.Parser.{parse_url}
 use Rattle.serde_json.specs.Data.{Data, string, number, array, Items, no_items, item, depth, items_depth}
-use Rattle.serde_json.specs.Find.{as_integer, of_integer}
+use Rattle.serde_json.specs.Find.{as_number, as_integer, of_integer}
 use Rattle.serde_json.specs.Read.{max_depth}
 use Rattle.serde_json.specs.View.{items_of}
 use Rattle.oidc_members.specs.Seen.{SeenMember, OutSeen}
 use Rattle.oidc_members.specs.declared.refusal.Refusal.{Refusal}
-use Rattle.oidc_members.specs.declared.refusal.ParseKind.TheVariants.{Moment}
+use Rattle.oidc_members.specs.declared.refusal.ParseKind.TheVariants.{Moment, WrongType}
 use Rattle.oidc_readers.specs.Kinds.{Kind, of_member, url_parsed, url_kind, text_or_texts_kind, seconds_read, moment_kind, text_kind, texts_in, texts_kind, there, or_null}
 use Rattle.oidc_readers.specs.Fields.{Field, field, judged, value_in, first_value}
 use Rattle.oidc_readers.specs.Moments.{moment_at, seconds_of, seconds_data}
@@ -75,8 +75,10 @@ integer_back (pos n) = refl
 integer_back (negsuc n) = refl
 
 moment_back : (m : SeenMember) (nanosecond : ℤ) → m.value ≡ seconds_data nanosecond → IsWholeSecond (Some nanosecond) → moment_kind m ≡ Ok nanosecond
-moment_back m nanosecond is (second, at) =
-    rw (is) (rw (integer_back (seconds_of nanosecond), whole_second nanosecond second at) refl)
+moment_back m nanosecond is h =
+    ap (λ v. seconds_read m (option_and_then as_integer (as_number v))) is
+    ∙ ap (seconds_read m) (integer_back (seconds_of nanosecond))
+    ∙ ap (λ o. ok_or o (of_member Moment m)) (whole_second nanosecond h.0 h.1)
 
 texts_back : (texts : List (List ℕ)) → texts_in (items_of (map string texts)) ≡ Some texts
 texts_back [] = refl
@@ -124,7 +126,8 @@ optional_text name (Some text) = refl
 
 optional_texts : (name : List ℕ) (o : Option (List (List ℕ))) → option_flatten (first_value (or_null texts_kind) (map as_read (out_at name (option_map texts_data o)))) ≡ o
 optional_texts name None = refl
-optional_texts name (Some texts) = rw (texts_back texts) refl
+optional_texts name (Some texts) =
+    ap (λ o. option_flatten (result_ok (there (ok_or o (of_member WrongType (as_read (record { name = name; value = texts_data texts }))))))) (texts_back texts)
 
 optional_moment : (name : List ℕ) (o : Option ℤ) → IsWholeSecond o → option_flatten (first_value (or_null moment_kind) (map as_read (out_at name (option_map seconds_data o)))) ≡ o
 optional_moment name None h = refl
@@ -139,17 +142,17 @@ module _
     (expiration : IsWholeSecond (Some c.expiration))
     (issue_time : IsWholeSecond (Some c.issue_time))
     (authenticated : IsWholeSecond c.auth_time) where
-  abbrev at : List ℕ → Data → SeenMember
-  at name value = as_read (record { name = name; value = value })
+  abbrev read_at : List ℕ → Data → SeenMember
+  read_at name value = as_read (record { name = name; value = value })
 
-  url_back : url_kind (at (codes "iss") (string c.issuer.text)) ≡ Ok c.issuer
-  url_back = ap (url_parsed (at (codes "iss") (string c.issuer.text)) c.issuer.text) url
+  url_back : url_kind (read_at (codes "iss") (string c.issuer.text)) ≡ Ok c.issuer
+  url_back = ap (url_parsed (read_at (codes "iss") (string c.issuer.text)) c.issuer.text) url
 
-  exp_back : moment_kind (at (codes "exp") (seconds_data c.expiration)) ≡ Ok c.expiration
-  exp_back = moment_back (at (codes "exp") (seconds_data c.expiration)) c.expiration refl expiration
+  exp_back : moment_kind (read_at (codes "exp") (seconds_data c.expiration)) ≡ Ok c.expiration
+  exp_back = moment_back (read_at (codes "exp") (seconds_data c.expiration)) c.expiration refl expiration
 
-  iat_back : moment_kind (at (codes "iat") (seconds_data c.issue_time)) ≡ Ok c.issue_time
-  iat_back = moment_back (at (codes "iat") (seconds_data c.issue_time)) c.issue_time refl issue_time
+  iat_back : moment_kind (read_at (codes "iat") (seconds_data c.issue_time)) ≡ Ok c.issue_time
+  iat_back = moment_back (read_at (codes "iat") (seconds_data c.issue_time)) c.issue_time refl issue_time
 
   pub needed_back : needed_of (seen (entries c)) ≡ Ok (record { issuer = c.issuer; expiration = c.expiration; issue_time = c.issue_time })
   unfolding needed_of
@@ -158,7 +161,16 @@ module _
   pub own_back : own_of (seen (entries c)) ≡ Ok c
   unfolding own_of
   own_back =
-      rw (needed_back, aud_alone c, auth_time_alone c, nonce_alone c, acr_alone c, amr_alone c, azp_alone c, at_hash_alone c, c_hash_alone c,
+      rw (
+        needed_back,
+        aud_alone c,
+        auth_time_alone c,
+        nonce_alone c,
+        acr_alone c,
+        amr_alone c,
+        azp_alone c,
+        at_hash_alone c,
+        c_hash_alone c,
         texts_back c.audiences,
         optional_moment (codes "auth_time") c.auth_time authenticated,
         optional_text (codes "nonce") c.nonce,
@@ -166,7 +178,8 @@ module _
         optional_texts (codes "amr") c.auth_method_refs,
         optional_text (codes "azp") c.authorized_party,
         optional_text (codes "at_hash") c.access_token_hash,
-        optional_text (codes "c_hash") c.code_hash) refl
+        optional_text (codes "c_hash") c.code_hash,
+      ) refl
 
   -- ---- none of them is faulty
 
@@ -193,7 +206,7 @@ module _
   good_auth_time : (o : Option ℤ) → IsWholeSecond o → Good (codes "auth_time") (option_map seconds_data o)
   unfolding judged
   good_auth_time None h = tt
-  good_auth_time (Some moment) h = rw (moment_back (at (codes "auth_time") (seconds_data moment)) moment refl h) refl
+  good_auth_time (Some moment) h = rw (moment_back (read_at (codes "auth_time") (seconds_data moment)) moment refl h) refl
 
   good_amr : (o : Option (List (List ℕ))) → Good (codes "amr") (option_map texts_data o)
   unfolding judged
@@ -223,10 +236,28 @@ module _
   all_good : AllGood (entries c)
   all_good = (
     good_iss,
-    (good_aud, (good_exp, (good_iat, (good_auth_time c.auth_time authenticated, (good_text (codes "nonce") good_nonce c.nonce, (good_text (codes "acr") good_acr c.auth_context_ref, (
-      good_amr c.auth_method_refs,
-      (good_text (codes "azp") good_azp c.authorized_party, (good_text (codes "at_hash") good_at_hash c.access_token_hash, (good_text (codes "c_hash") good_c_hash c.code_hash, tt))),
-    ))))))),
+    (
+      good_aud,
+      (
+        good_exp,
+        (
+          good_iat,
+          (
+            good_auth_time c.auth_time authenticated,
+            (
+              good_text (codes "nonce") good_nonce c.nonce,
+              (
+                good_text (codes "acr") good_acr c.auth_context_ref,
+                (
+                  good_amr c.auth_method_refs,
+                  (good_text (codes "azp") good_azp c.authorized_party, (good_text (codes "at_hash") good_at_hash c.access_token_hash, (good_text (codes "c_hash") good_c_hash c.code_hash, tt))),
+                ),
+              ),
+            ),
+          ),
+        ),
+      ),
+    ),
   )
 
   pub own_clean : first_by own_rule [] (seen (entries c)) ≡ None

@@ -8,6 +8,7 @@ pub mod IdTokenClaims
 pub mod Hashes
 pub mod Signatures
 pub mod Verification
+pub mod Causes
 pub mod IdTokenFields
 pub mod RoundTrip
 pub mod Homes

@@ -7,6 +7,7 @@ ghost use Rattle.oidc_tokens.specs.Tokens.{token_of};
 ghost use Rattle.oidc_tokens.specs.IdTokenClaims.{id_token_claims_of};
 ghost use Rattle.oidc_tokens.specs.Verification as verification;
 ghost use Rattle.oidc_tokens.specs.Verification.{Judges, Accepts};
+ghost use Rattle.oidc_tokens.specs.Causes.{Cause};
 ghost use Rattle.oidc_tokens.specs.Signatures as signatures;
 ghost use Rattle.oidc_tokens.specs.Signatures.{behind, meanings};
 
@@ -116,6 +117,10 @@ impl<
             let accepts = Accepts k verifier.now (N.allows nonce) now.nanosecond
             in accepts self.now → IfErr result (λ error. error ≡ ClaimsVerificationError.Memory) }
         ensures claims { IfOk result (λ claims. claims.now ≡ self.now.payload) }
+        ensures cause { let k = meanings K.JsonWebKey K.KeyUse.JsonWebKeyUse
+            K.SigningAlgorithm.JwsSigningAlgorithm.own K.SigningAlgorithm.ClosedVocabulary
+            K.SigningAlgorithm.KeyType.ClosedVocabulary in
+            IfErr result (Cause k verifier.now (N.allows nonce) now.nanosecond self.now) }
     {
         match verifier.check(&self.token, &nonce, now) {
             Ok(()) => Ok(self.token.unverified_payload()),
@@ -147,6 +152,10 @@ impl<
             let accepts = Accepts k verifier.now (N.allows nonce) now.nanosecond
             in accepts self → IfErr result (λ error. error ≡ ClaimsVerificationError.Memory) }
         ensures claims { IfOk result (λ claims. claims ≡ self.payload) }
+        ensures cause { let k = meanings K.JsonWebKey K.KeyUse.JsonWebKeyUse
+            K.SigningAlgorithm.JwsSigningAlgorithm.own K.SigningAlgorithm.ClosedVocabulary
+            K.SigningAlgorithm.KeyType.ClosedVocabulary in
+            IfErr result (Cause k verifier.now (N.allows nonce) now.nanosecond self) }
     {
         match verifier.check(&self.token, &nonce, now) {
             Ok(()) => Ok(self.token.into_payload()),
