@@ -481,7 +481,8 @@ class Choices(plain_claims.Choices):
                   '"aud":' + self.rarely('"a"', ['["a"]', '["a","b"]', '"b"', "[]", '["a","a"]']),
                   '"exp":' + self.rarely("2000", ["1000"]), '"iat":900', '"sub":"u"',
                   '"nonce":' + self.rarely('"n"', ['"m"', "null", '""'])]
-        message = encoded(self.header_object(alg).encode()) + "." + encoded(("{" + ",".join(claims) + "}").encode())
+        payload = "{" + ",".join(claims) + "}"
+        message = encoded(self.header_object(alg).encode()) + "." + encoded(payload.encode())
         signature = mac("s", alg, message) if alg.startswith("HS") else self.rarely(b"\1", [b"\2"])
         line = [("op", "verify"), ("token", message + "." + encoded(signature)), ("id", "a"),
                 ("issuer", "https://a"), ("nonce", "n"), ("now", self.one(["1000", "1999", "2000"]))]

@@ -181,7 +181,7 @@ pub(crate) fn hash(alloc: Global, case: &Case) -> Result<String, CaseError> {
     let alg = algorithm(case.value("alg"))?;
     let of_token = token_hash(alloc, case.value("text"), &alg)?;
     let of_code = code_hash(alloc, case.value("text"), &alg)?;
-    if of_token == of_code {
+    if of_token.as_str() == of_code.as_str() {
         Ok(of_token)
     } else {
         Err(CaseError::NoCase)
