@@ -1,16 +1,14 @@
 -- The first check that fails, by its cause.
-use Rattle.std.proofs.Common.{◌≡◌, ◌≢◌, ℕ, ℤ, Bool, true, false, List, [], ◌∷◌, Option, None, Some, refl, sym, ap, subst, ◌∙◌, arith, inl, inr, filter}
+use Rattle.std.proofs.Common.{◌≡◌, ◌≢◌, ℕ, ℤ, Bool, true, false, List, [], ◌∷◌, Option, None, Some, refl, sym, subst, ◌∙◌, arith, inl, inr, filter}
 use Rattle.std.specs.Prelude.{Result, Ok, Err, not, ◌&&◌, ◌⊎◌, ◌≤ℤ◌, if◌then◌else◌, int_lt, is_none, IsTrue, IsFalse}
-use Rattle.std.specs.Option.{ok_or, option_or}
+use Rattle.std.specs.Option.{ok_or}
 use Rattle.std.specs.Str.{bytes_eq}
 use Rattle.std.proofs.lemmas.Bool.{true≢false, false≢true}
-use Rattle.std.proofs.lemmas.Slice.Eq.{bytes_eq-Decides}
 use Rattle.std.proofs.lemmas.Int.{ints}
 use Rattle.oidc_keys.specs.declared.refusals.SignatureVerificationError.{SignatureVerificationError}
 use Rattle.oidc_keys.specs.declared.refusals.SignatureVerificationError.TheVariants as refusal
 use Rattle.oidc_tokens.specs.declared.header.JsonWebTokenAlgorithm.{JsonWebTokenAlgorithm}
 use Rattle.oidc_tokens.specs.declared.header.JsonWebTokenAlgorithm.TheVariants as algorithm
-use Rattle.oidc_tokens.specs.declared.header.TokenHeader.{TokenHeader}
 use Rattle.oidc_tokens.specs.declared.verification.refusals.ClaimsVerificationError.{ClaimsVerificationError}
 use Rattle.oidc_tokens.specs.declared.verification.refusals.ClaimsVerificationError.TheVariants.{Unsupported, InvalidIssuer, InvalidAudience, SignatureVerification, Expired, InvalidNonce}
 use Rattle.oidc_tokens.specs.Steps.{◌>>=◌}
@@ -18,7 +16,7 @@ use Rattle.oidc_tokens.specs.Tokens.{SeenToken}
 use Rattle.oidc_tokens.specs.IdTokenClaims.{SeenIdTokenClaims}
 use Rattle.oidc_tokens.specs.Signatures.{KeyMeanings, SeenVerifier, signing_alg, the_one, fits, is_allowed, if_allowed, key_for, verdict_on}
 use Rattle.oidc_tokens.specs.Verification.{is_token_type, is_encrypted, is_supported, is_alone_in, unless, refused_as, first_of, first_failure}
-use Rattle.oidc_tokens.specs.Causes.{AsksTooMuch, KeyIsAtFault, KeySays, Cause}
+use Rattle.oidc_tokens.specs.Causes.{KeyIsAtFault, KeySays, Cause}
 use Rattle.oidc_tokens.proofs.Accepted.{bytes_same}
 
 same_err : {A : Type 0} (o : Result A SignatureVerificationError) (a b : SignatureVerificationError) → o ≡ Err a → o ≡ Err b → a ≡ b

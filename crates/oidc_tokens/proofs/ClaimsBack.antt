@@ -1,5 +1,5 @@
 -- Claims of an ID token that were written are read back.
-use Rattle.std.proofs.Common.{◌≡◌, ℕ, ◌≤◌, List, [], ◌∷◌, ◌++◌, map, Bool, true, false, ◌&&◌, ◌||◌, not, cond, Option, None, Some, option_map, Result, Ok, Err, codes, refl, sym, ap, subst, ◌∙◌, filter, All, is_some, arith, append-nil, length, suc, ℤ}
+use Rattle.std.proofs.Common.{◌≡◌, ℕ, ◌≤◌, List, [], ◌∷◌, ◌++◌, map, Bool, true, false, ◌&&◌, ◌||◌, not, cond, Option, None, Some, option_map, Result, Ok, Err, codes, refl, sym, ap, ◌∙◌, filter, All, is_some, arith, append-nil, length, suc, ℤ}
 use Rattle.std.specs.Prelude.{IsFalse}
 use Rattle.std.specs.FinMap as finite
 use Rattle.std.specs.List.{flat_map, list_any, list_all}
@@ -7,9 +7,9 @@ use Rattle.std.specs.Str.{bytes_eq}
 use Rattle.std.proofs.lemmas.Bool.{and_parts, and_from, false≢true, true≢false}
 use Rattle.std.proofs.lemmas.List.{map-append}
 use Rattle.std.proofs.lemmas.List.Elements.{All-nil, All-cons, All-append, All-weaker, filter-append}
-use Rattle.std.proofs.lemmas.List.Folds.{list_all-append, list_all-map}
+use Rattle.std.proofs.lemmas.List.Folds.{list_all-append}
 use Rattle.std.proofs.lemmas.List.Sums.{list_all-from_AllPass}
-use Rattle.serde_json.specs.Data.{Data, string, number, array, no_items, item, items_depth}
+use Rattle.serde_json.specs.Data.{Data, string, items_depth}
 use Rattle.serde_json.specs.View.{items_of}
 use Rattle.oidc_types.specs.{Variants}
 use Rattle.oidc_members.specs.Seen.{SeenMember, OutSeen}
@@ -19,7 +19,7 @@ use Rattle.oidc_members.specs.declared.refusal.Refusal.{Refusal}
 use Rattle.oidc_readers.specs.Moments.{seconds_data}
 use Rattle.oidc_readers.specs.Passes.{first_by}
 use Rattle.oidc_readers.specs.Records.{◌>>=◌}
-use Rattle.oidc_readers.specs.WrittenBack.{ItemsAreWhole, MayStand, MayBeWritten, IsUtf8Member, as_read}
+use Rattle.oidc_readers.specs.WrittenBack.{ItemsAreWhole, MayStand, IsUtf8Member, as_read}
 use Rattle.oidc_readers.specs.Writing.{one_member, text_member, moment_member}
 use Rattle.oidc_readers.proofs.Theorems.{written_split_back}
 use Rattle.oidc_claims.specs.declared.claim.Claim.{Claim}
@@ -32,15 +32,14 @@ use Rattle.oidc_claims.specs.Gender.{GenderReadsBack, GenderIsValue}
 use Rattle.oidc_claims.specs.Home.{home_by, is_additional_home, id_token_fields, user_info_fields}
 use Rattle.oidc_claims.specs.Standard.{claims_of, at_place, faultless_claims, unless_refused}
 use Rattle.oidc_claims.specs.Write.{written, claim_members, plain_member, with_tag, variant_member, variant_members, IsWholeSecond}
-use Rattle.oidc_claims.specs.Write.{IsInRange as AreInRange}
 use Rattle.oidc_claims.proofs.Theorems.{EachStands, moments_stand, written_stands, split_reads_back}
 use Rattle.oidc_tokens.specs.OwnClaims.{SeenOwnClaims, texts_data, texts_member, own_rule, own_of, own_members}
 use Rattle.oidc_tokens.specs.IdTokenClaims.{SeenIdTokenClaims, is_own_field, is_additional_claim, additional_members, id_token_rule, parts_in, id_token_claims_of, id_token_members}
 use Rattle.oidc_tokens.specs.Homes.{is_field, is_standard}
 use Rattle.oidc_tokens.specs.Issuing.{ComesBack}
 use Rattle.oidc_tokens.specs.RoundTrip.{IsInRange, GivesClaims}
-use Rattle.oidc_tokens.proofs.Entries.{Entry, out_at, outs, seen}
-use Rattle.oidc_tokens.proofs.OneHome.{standard_name, no_claim, is_claim, field_same, claim_same, own_same, standard_same}
+use Rattle.oidc_tokens.proofs.Entries.{Entry, out_at, outs}
+use Rattle.oidc_tokens.proofs.OneHome.{standard_name, no_claim, is_claim, claim_same, own_same, standard_same}
 use Rattle.oidc_tokens.proofs.OwnBack.{entries, written_as, own_back, own_clean}
 use Rattle.oidc_tokens.proofs.OwnRule.{rule_outside, rule_narrowed}
 use Rattle.oidc_tokens.proofs.Issued.{may_be_written}
@@ -317,7 +316,7 @@ texts_whole (text ∷ texts) = (tt, texts_whole texts)
 
 texts_shallow : (texts : List (List ℕ)) → items_depth (items_of (map string texts)) ≤ 0
 texts_shallow [] = omega arith
-texts_shallow (text ∷ texts) = texts_shallow texts
+texts_shallow (text ∷ texts) = let rest = texts_shallow texts in omega arith
 
 texts_stand : (texts : List (List ℕ)) → MayStand (texts_data texts)
 texts_stand texts = (texts_whole texts, let shallow = texts_shallow texts in omega arith)

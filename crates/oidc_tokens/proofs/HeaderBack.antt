@@ -1,22 +1,17 @@
 -- The header of a token that is issued is read back.
-use Rattle.std.proofs.Common.{◌≡◌, ◌≢◌, ℕ, List, [], ◌∷◌, ◌++◌, map, Bool, true, false, cond, Option, None, Some, option_map, Result, Ok, Err, codes, refl, sym, ap, subst, ◌∙◌, All, lit≤}
+use Rattle.std.proofs.Common.{◌≡◌, ◌≢◌, ℕ, List, [], ◌∷◌, ◌++◌, map, Bool, true, false, cond, Option, None, Some, option_map, Ok, codes, refl, ap, ◌∙◌, All, lit≤}
 use Rattle.std.specs.Option.{option_or}
 use Rattle.std.specs.Str.{bytes_eq}
 use Rattle.std.proofs.lemmas.List.Elements.{All-nil, All-push}
 use Rattle.std.proofs.lemmas.Slice.Eq.{bytes_eq-Decides}
-use Rattle.serde_json.specs.Data.{string}
-use Rattle.serde_json.specs.Written.{compact_text}
-use Rattle.oidc_members.specs.Seen.{SeenMember, OutSeen}
+use Rattle.oidc_members.specs.Seen.{OutSeen}
 use Rattle.oidc_members.specs.Write.{object_text}
-use Rattle.oidc_members.specs.declared.refusal.Refusal.{Refusal}
 use Rattle.oidc_readers.specs.Fields.{judged}
 use Rattle.oidc_readers.specs.Records.{◌>>=◌}
-use Rattle.oidc_readers.specs.WrittenBack.{MayStand, MayBeWritten, IsUtf8Member, as_read}
-use Rattle.oidc_tokens.specs.declared.header.JsonWebTokenAlgorithm.{JsonWebTokenAlgorithm}
+use Rattle.oidc_readers.specs.WrittenBack.{MayStand, IsUtf8Member, as_read}
 use Rattle.oidc_tokens.specs.declared.header.JsonWebTokenAlgorithm.TheVariants as algorithm
-use Rattle.oidc_tokens.specs.declared.header.TokenHeader.{TokenHeader}
-use Rattle.oidc_tokens.specs.Header.{algorithm_named, algorithm_kind, header_of, written_header}
-use Rattle.oidc_tokens.specs.Issuing.{signed_with, IsNamed}
+use Rattle.oidc_tokens.specs.Header.{algorithm_named, header_of, written_header}
+use Rattle.oidc_tokens.specs.Issuing.{signed_with}
 use Rattle.oidc_tokens.specs.Tokens.{header_in}
 use Rattle.oidc_tokens.proofs.Issued.{split_again, may_be_written}
 

@@ -1,18 +1,16 @@
 -- A token that is issued is read back.
-use Rattle.std.proofs.Common.{◌≡◌, ◌≢◌, ℕ, ◌==◌, List, [], ◌∷◌, ◌++◌, map, Bool, true, false, Option, None, Some, option_map, Result, Ok, Err, codes, refl, sym, ap, subst, ◌∙◌, All, append_assoc}
+use Rattle.std.proofs.Common.{◌≡◌, ◌≢◌, ℕ, ◌==◌, List, [], ◌∷◌, ◌++◌, map, Result, Ok, refl, ap, ◌∙◌, All, append_assoc}
 use Rattle.std.specs.List.{slice_split}
 use Rattle.std.specs.Option.{ok_or}
-use Rattle.std.specs.Str.{bytes_eq}
-use Rattle.std.proofs.lemmas.Bool.{true≢false}
 use Rattle.std.proofs.lemmas.List.Splits.{slice_split_at, slice_split_none}
 use Rattle.oidc_members.specs.Seen.{SeenMember, OutSeen}
-use Rattle.oidc_members.specs.Objects.{members_of, loose_members_of, members_or_refusal, split_of}
+use Rattle.oidc_members.specs.Objects.{loose_members_of, members_or_refusal, split_of}
 use Rattle.oidc_members.specs.Write.{object_text}
 use Rattle.oidc_members.specs.declared.refusal.Refusal.{Refusal}
 use Rattle.oidc_readers.specs.WrittenBack.{MayStand, MayBeWritten, IsUtf8Member, as_read}
 use Rattle.oidc_readers.specs.Records.{◌>>=◌}
 use Rattle.oidc_readers.proofs.Theorems.{written_split_back}
-use Rattle.oidc_tokens.specs.Tokens.{Parts, Contents, SeenToken, three, no_token, parts_of, decoded, bytes_of, message_in, header_in, payload_in, contents_of, token_of}
+use Rattle.oidc_tokens.specs.Tokens.{three, no_token, parts_of, bytes_of, payload_in}
 use Rattle.oidc_tokens.specs.Encoded.{Encodes}
 use Rattle.oidc_tokens.specs.Issuing.{ComesBack}
 

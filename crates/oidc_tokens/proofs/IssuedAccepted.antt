@@ -1,6 +1,6 @@
 -- Whoever expects the claims of a token that is issued accepts it.
-use Rattle.std.proofs.Common.{◌≡◌, ℕ, ℤ, List, [], ◌∷◌, Bool, false, Option, None, Some, Result, Ok, Err, refl, sym, ap, subst, ◌∙◌, All, arith}
-use Rattle.std.specs.Prelude.{Contains, IsTrue, ◌<ℤ◌}
+use Rattle.std.proofs.Common.{◌≡◌, ℕ, ℤ, List, [], ◌∷◌, Bool, Option, None, Some, Result, Ok, Err, refl, ap, subst, ◌∙◌, All, arith}
+use Rattle.std.specs.Prelude.{◌<ℤ◌}
 use Rattle.std.proofs.lemmas.List.Elements.{All-nil, All-cons}
 use Rattle.oidc_types.specs.declared.signing_error.SigningError.{SigningError}
 use Rattle.oidc_members.specs.Seen.{OutSeen}
@@ -10,7 +10,7 @@ use Rattle.oidc_tokens.specs.Tokens.{SeenToken}
 use Rattle.oidc_tokens.specs.IdTokenClaims.{SeenIdTokenClaims}
 use Rattle.oidc_tokens.specs.Issuing.{signed_with}
 use Rattle.oidc_tokens.specs.Hashes.{Hashing, hash_or_refusal, with_token_hash, with_code_hash, with_hashes}
-use Rattle.oidc_tokens.specs.Signatures.{KeyMeanings, SeenVerifier, is_allowed, key_for}
+use Rattle.oidc_tokens.specs.Signatures.{KeyMeanings, SeenVerifier, key_for}
 use Rattle.oidc_tokens.specs.Verification.{is_token_type, Accepts}
 use Rattle.oidc_tokens.specs.RoundTrip.{IsInRange, Expects}
 

@@ -1,5 +1,5 @@
 -- What issuing a token answers, of a message that is ready.
-use Rattle.std.proofs.Common.{◌≡◌, ℕ, ◌<◌, List, [], ◌∷◌, ◌++◌, Bool, false, Option, Result, Ok, Err, codes, refl, sym, ap, subst, ◌∙◌, take, length, get_or, arith, length-append}
+use Rattle.std.proofs.Common.{◌≡◌, ℕ, ◌<◌, List, [], ◌∷◌, ◌++◌, false, Option, Result, Ok, Err, codes, refl, sym, ap, ◌∙◌, take, length, get_or, arith, length-append}
 use Rattle.std.specs.Prelude.{IsCharBoundary}
 use Rattle.std.proofs.Math.Seq.{get_or-append_seam}
 use Rattle.std.proofs.lemmas.List.{take_at}
@@ -8,11 +8,9 @@ use Rattle.oidc_types.specs.declared.signing_error.SigningError.{SigningError}
 use Rattle.oidc_types.specs.declared.signing_error.SigningError.TheVariants.{CryptoError, UnsupportedAlg, Other, Memory}
 use Rattle.oidc_keys.specs.Jwk.{GivesRefusal}
 use Rattle.oidc_members.specs.Seen.{OutSeen}
-use Rattle.oidc_members.specs.Write.{any_float, object_text}
-use Rattle.oidc_tokens.specs.declared.jwt.JsonWebTokenError.{JsonWebTokenError}
+use Rattle.oidc_members.specs.Write.{any_float}
 use Rattle.oidc_tokens.specs.Header.{written_header}
-use Rattle.oidc_tokens.specs.Tokens.{SeenToken}
-use Rattle.oidc_tokens.specs.Encoded.{IsMessage, IsReady}
+use Rattle.oidc_tokens.specs.Encoded.{IsReady}
 use Rattle.oidc_tokens.specs.Issuing.{message_of, token_with, with_signature, issued, Issues, IsRefusedBy, issue_error}
 use Rattle.oidc_tokens.proofs.TokenBack.{message_is}
 

@@ -1,9 +1,9 @@
 -- Each member has one home, and each part of accepted claims is what the members of its own home say.
-use Rattle.std.proofs.Common.{◌≡◌, ℕ, List, [], ◌∷◌, Bool, true, false, ◌||◌, ◌&&◌, cond, not, Option, None, Some, Result, Ok, Err, refl, sym, ap, subst, ◌∙◌, filter, is_some, zero, suc, All, find, ⊎_elim}
+use Rattle.std.proofs.Common.{◌≡◌, ℕ, List, [], ◌∷◌, Bool, true, false, ◌||◌, ◌&&◌, cond, not, Some, Result, Ok, Err, refl, sym, ap, subst, ◌∙◌, filter, is_some, find, ⊎_elim}
 use Rattle.std.specs.Prelude.{count_by, slice_index_or, if◌then◌else◌, codes}
 use Rattle.std.specs.List.{list_any, list_all}
 use Rattle.std.specs.Str.{bytes_eq}
-use Rattle.std.proofs.lemmas.Bool.{and_parts, and_from, or_cases, false≢true, true≢false}
+use Rattle.std.proofs.lemmas.Bool.{and_parts, or_cases, false≢true, true≢false}
 use Rattle.std.proofs.lemmas.Slice.Eq.{bytes_eq-Decides}
 use Rattle.oidc_members.specs.Seen.{SeenMember}
 use Rattle.oidc_members.specs.declared.refusal.Refusal.{Refusal}
@@ -16,8 +16,8 @@ use Rattle.oidc_claims.specs.Home.{id_token_fields, home_by, is_additional_home}
 use Rattle.oidc_claims.specs.Claims.{is_of, own as claim_members}
 use Rattle.oidc_claims.specs.Standard.{faultless_claims, with_subject}
 use Rattle.oidc_tokens.specs.OwnClaims.{SeenOwnClaims, own_of, needed_of}
-use Rattle.oidc_tokens.specs.IdTokenClaims.{SeenIdTokenClaims, is_own_field, is_additional_claim, additional_members, id_token_rule, parts_in, id_token_claims_of}
-use Rattle.oidc_tokens.specs.Homes.{is_field, is_standard, is_additional, HasOneHome, HaveOneHome, AcceptedHaveOneHome}
+use Rattle.oidc_tokens.specs.IdTokenClaims.{SeenIdTokenClaims, is_own_field, additional_members, id_token_rule, parts_in, id_token_claims_of}
+use Rattle.oidc_tokens.specs.Homes.{is_field, is_standard, HasOneHome, AcceptedHaveOneHome}
 
 -- ---- one home
 

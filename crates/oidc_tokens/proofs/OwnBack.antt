@@ -1,27 +1,23 @@
 -- An ID token's own fields that were written are read back.
-use Rattle.std.proofs.Common.{◌≡◌, ℕ, ℤ, pos, negsuc, ◌≤◌, List, [], ◌∷◌, ◌++◌, map, Bool, true, false, not, cond, Option, None, Some, option_map, Result, Ok, Err, codes, refl, sym, ap, subst, ◌∙◌, filter, append-nil, is_some, take, drop, arith}
-use Rattle.std.specs.List.{list_any, list_all}
+use Rattle.std.proofs.Common.{◌≡◌, ℕ, ℤ, pos, negsuc, ◌≤◌, List, [], ◌∷◌, ◌++◌, map, Option, None, Some, option_map, Ok, codes, refl, sym, ap, ◌∙◌, append-nil, take, drop}
 use Rattle.std.specs.Option.{ok_or, option_flatten}
-use Rattle.std.specs.Result.{result_ok, result_err}
-use Rattle.std.specs.Prelude.{unwrap_or, option_and_then}
+use Rattle.std.specs.Result.{result_ok}
+use Rattle.std.specs.Prelude.{option_and_then}
 use Rattle.url.specs.Parser.{parse_url}
-use Rattle.serde_json.specs.Data.{Data, string, number, array, Items, no_items, item, depth, items_depth}
+use Rattle.serde_json.specs.Data.{Data, string}
 use Rattle.serde_json.specs.Find.{as_number, as_integer, of_integer}
-use Rattle.serde_json.specs.Read.{max_depth}
 use Rattle.serde_json.specs.View.{items_of}
-use Rattle.oidc_members.specs.Seen.{SeenMember, OutSeen}
-use Rattle.oidc_members.specs.declared.refusal.Refusal.{Refusal}
+use Rattle.oidc_members.specs.Seen.{SeenMember}
 use Rattle.oidc_members.specs.declared.refusal.ParseKind.TheVariants.{Moment, WrongType}
-use Rattle.oidc_readers.specs.Kinds.{Kind, of_member, url_parsed, url_kind, text_or_texts_kind, seconds_read, moment_kind, text_kind, texts_in, texts_kind, there, or_null}
-use Rattle.oidc_readers.specs.Fields.{Field, field, judged, value_in, first_value}
-use Rattle.oidc_readers.specs.Moments.{moment_at, seconds_of, seconds_data}
+use Rattle.oidc_readers.specs.Kinds.{of_member, url_parsed, url_kind, seconds_read, moment_kind, text_kind, texts_in, texts_kind, there, or_null}
+use Rattle.oidc_readers.specs.Fields.{judged, first_value}
+use Rattle.oidc_readers.specs.Moments.{seconds_of, seconds_data}
 use Rattle.oidc_readers.specs.Passes.{first_by}
-use Rattle.oidc_readers.specs.Records.{required, optional}
-use Rattle.oidc_readers.specs.WrittenBack.{ItemsAreWhole, MayStand, as_read}
+use Rattle.oidc_readers.specs.WrittenBack.{as_read}
 use Rattle.oidc_readers.specs.Writing.{one_member, text_member, moment_member}
 use Rattle.oidc_claims.specs.Write.{IsWholeSecond}
 use Rattle.oidc_claims.proofs.Theorems.{whole_second}
-use Rattle.oidc_tokens.specs.OwnClaims.{SeenOwnClaims, Needed, iss, aud, exp, iat, auth_time, nonce, acr, amr, azp, at_hash, c_hash, own_rule, needed_of, own_of, texts_data, texts_member, own_members}
+use Rattle.oidc_tokens.specs.OwnClaims.{SeenOwnClaims, iss, aud, exp, iat, auth_time, nonce, acr, amr, azp, at_hash, c_hash, own_rule, needed_of, own_of, texts_data, texts_member, own_members}
 use Rattle.oidc_tokens.proofs.Entries.{Entry, out_at, outs, seen, with_name, alone_named}
 use Rattle.oidc_tokens.proofs.OwnRule.{Good, AllGood, clean}
 

@@ -1,21 +1,20 @@
 -- The rule of an ID token's own fields, over members of distinct names.
-use Rattle.std.proofs.Common.{◌≡◌, ℕ, List, [], ◌∷◌, ◌++◌, map, Bool, true, false, ◌&&◌, not, cond, Option, None, Some, Result, Ok, Err, codes, refl, sym, ap, subst, ◌∙◌, filter, length, append-nil}
+use Rattle.std.proofs.Common.{◌≡◌, ℕ, List, [], ◌∷◌, ◌++◌, map, Bool, true, false, ◌&&◌, not, cond, Option, None, Some, codes, refl, sym, ap, ◌∙◌, filter, length, append-nil}
 use Rattle.std.specs.List.{list_any, list_all}
 use Rattle.std.specs.Str.{bytes_eq}
 use Rattle.std.proofs.lemmas.Bool.{and_parts, false≢true, true≢false}
 use Rattle.std.proofs.lemmas.Slice.Eq.{bytes_eq-Decides}
 use Rattle.serde_json.specs.Data.{Data}
-use Rattle.oidc_members.specs.Seen.{SeenMember, OutSeen}
-use Rattle.oidc_members.specs.declared.refusal.Refusal.{Refusal}
+use Rattle.oidc_members.specs.Seen.{SeenMember}
 use Rattle.oidc_readers.specs.Kinds.{Kind, url_kind, text_or_texts_kind, moment_kind, text_kind, texts_kind, or_null}
-use Rattle.oidc_readers.specs.Fields.{Field, field, judged, judged_among}
+use Rattle.oidc_readers.specs.Fields.{field, judged, judged_among}
 use Rattle.oidc_readers.specs.Passes.{placed, first_by}
 use Rattle.oidc_readers.specs.WrittenBack.{as_read}
 use Rattle.oidc_tokens.specs.OwnClaims.{iss, aud, exp, iat, auth_time, nonce, acr, amr, azp, at_hash, c_hash, own_rule}
 use Rattle.oidc_tokens.specs.IdTokenClaims.{is_own_field}
 use Rattle.oidc_tokens.specs.Homes.{is_field}
 use Rattle.oidc_tokens.proofs.OneHome.{field_same}
-use Rattle.oidc_tokens.proofs.Entries.{Entry, out_at, outs, seen, seen_cons, with_name, distinct, is_fresh, fresh_tail, next_fresh}
+use Rattle.oidc_tokens.proofs.Entries.{Entry, out_at, seen, seen_cons, with_name, distinct, is_fresh, fresh_tail, next_fresh}
 
 not_true : (b : Bool) → not b ≡ true → b ≡ false
 not_true true h = absurd (false≢true h)

@@ -1,5 +1,5 @@
 -- The parts of a text between its dots.
-use Rattle.std.proofs.Common.{◌≡◌, ℕ, ◌+◌, ◌==◌, ◌≤◌, List, [], ◌∷◌, ◌++◌, Option, None, Some, take, length, codes, refl, sym, ap, ◌∙◌, arith, length-append}
+use Rattle.std.proofs.Common.{◌≡◌, ℕ, ◌+◌, ◌==◌, ◌≤◌, List, [], ◌∷◌, ◌++◌, Option, None, Some, take, length, refl, sym, ap, ◌∙◌, arith, length-append}
 use Rattle.std.specs.Prelude.{is_some, true}
 use Rattle.std.specs.Borrow.{Bor}
 use Rattle.std.specs.Option.{option_map_or}
@@ -7,14 +7,14 @@ use Rattle.std.proofs.lemmas.Bool.{false≢true}
 use Rattle.std.specs.List.{slice_split, join_with_byte}
 use Rattle.std.proofs.lemmas.List.{take_at, append_assoc}
 use Rattle.std.proofs.lemmas.List.Splits.{length-slice_split, join_with_byte-slice_split}
-use Rattle.std.specs.Prelude.{◌<◌, get_or, Result, Ok, Err, IsCharBoundary}
+use Rattle.std.specs.Prelude.{◌<◌, get_or, Result, Ok, IsCharBoundary}
 use Rattle.std.specs.Option.{ok_or}
 use Rattle.std.proofs.Math.Seq.{get_or-append_seam}
 use Rattle.std.proofs.lemmas.Str.{IsCharBoundary-before_ascii}
 use Rattle.oidc_members.specs.Seen.{SeenMember}
 use Rattle.oidc_members.specs.declared.refusal.Refusal.{Refusal}
 use Rattle.oidc_readers.specs.Records.{◌>>=◌}
-use Rattle.oidc_tokens.specs.Tokens.{Parts, SeenToken, Contents, three, parts_of, no_token, message_in, contents_of, token_of}
+use Rattle.oidc_tokens.specs.Tokens.{Parts, Contents, three, parts_of, no_token, message_in, contents_of, token_of}
 
 abbrev pub pieces : List ℕ → List (List ℕ)
 pieces text = slice_split (λ b. b == 46) text

@@ -1,13 +1,13 @@
 -- A token that was read holds no float, where all additional claims are kept.
-use Rattle.std.proofs.Common.{◌≡◌, ℕ, List, [], ◌∷◌, map, Bool, true, false, cond, ◌||◌, Option, None, Some, Result, Ok, Err, refl, sym, ap, subst, ◌∙◌, filter, is_some}
+use Rattle.std.proofs.Common.{◌≡◌, ℕ, List, [], ◌∷◌, map, Bool, true, false, cond, ◌||◌, Option, None, Some, Result, Ok, Err, refl, sym, ap, ◌∙◌, filter, is_some}
 use Rattle.std.specs.List.{list_any}
 use Rattle.std.specs.Prelude.{option_and_then}
 use Rattle.std.specs.Option.{option_flatten}
 use Rattle.std.specs.Result.{result_ok}
-use Rattle.std.proofs.lemmas.Bool.{false≢true, true≢false}
+use Rattle.std.proofs.lemmas.Bool.{true≢false}
 use Rattle.serde_json.specs.Find.{as_null}
 use Rattle.serde_json.specs.Written.{has_float}
-use Rattle.oidc_members.specs.Seen.{SeenMember, OutSeen}
+use Rattle.oidc_members.specs.Seen.{SeenMember}
 use Rattle.oidc_members.specs.Objects.{without_floats, loose_members_of, members_of, members_or_refusal, split_of}
 use Rattle.oidc_members.specs.Write.{any_float}
 use Rattle.oidc_members.specs.declared.refusal.Refusal.{Refusal}
@@ -17,8 +17,7 @@ use Rattle.oidc_readers.specs.Records.{◌>>=◌, faultless, optional}
 use Rattle.oidc_claims.specs.Additional.{out_of}
 use Rattle.oidc_claims.specs.Others.{Others, list_of, read_others}
 use Rattle.oidc_claims.proofs.Theorems.{all_kept}
-use Rattle.oidc_tokens.specs.declared.header.TokenHeader.{TokenHeader}
-use Rattle.oidc_tokens.specs.Tokens.{Parts, Contents, SeenToken, parts_of, bytes_of, message_in, header_in, payload_in, contents_of, token_of}
+use Rattle.oidc_tokens.specs.Tokens.{SeenToken, parts_of, bytes_of, header_in, payload_in, contents_of, token_of}
 use Rattle.oidc_tokens.specs.IdTokenClaims.{SeenIdTokenClaims, additional_members, id_token_claims_of}
 use Rattle.oidc_tokens.specs.IdTokenFields.{SeenIdTokenFields, token_kind, id_token, response_fields_of}
 use Rattle.oidc_tokens.proofs.Homes.{additional_stay}

@@ -1,14 +1,14 @@
 -- The text of a token that is issued is read as that token.
-use Rattle.std.proofs.Common.{◌≡◌, ◌≢◌, ℕ, List, [], ◌∷◌, ◌++◌, Option, Result, Ok, codes, refl, sym, ap, subst, ◌∙◌, All}
+use Rattle.std.proofs.Common.{◌≡◌, ◌≢◌, ℕ, List, [], ◌∷◌, ◌++◌, Option, Result, Ok, codes, refl, ap, ◌∙◌, All}
 use Rattle.oidc_members.specs.Seen.{SeenMember, OutSeen}
 use Rattle.oidc_members.specs.Write.{object_text}
 use Rattle.oidc_members.specs.declared.refusal.Refusal.{Refusal}
 use Rattle.oidc_readers.specs.Records.{◌>>=◌}
 use Rattle.oidc_readers.specs.WrittenBack.{IsUtf8Member}
 use Rattle.oidc_tokens.specs.Header.{written_header}
-use Rattle.oidc_tokens.specs.Tokens.{Parts, Contents, SeenToken, parts_of, bytes_of, message_in, header_in, payload_in, contents_of, token_of}
+use Rattle.oidc_tokens.specs.Tokens.{contents_of, token_of}
 use Rattle.oidc_tokens.specs.Encoded.{Encodes, IsMessage}
-use Rattle.oidc_tokens.specs.Issuing.{ComesBack, IsNamed, signed_with, encoded, message_of, compact}
+use Rattle.oidc_tokens.specs.Issuing.{ComesBack, IsNamed, signed_with, message_of}
 use Rattle.oidc_tokens.proofs.Issued.{parts_again, bytes_again, payload_again}
 use Rattle.oidc_tokens.proofs.HeaderBack.{header_again}
 

@@ -1,5 +1,5 @@
 -- What is known of texts that were encoded. No public clause cites this.
-use Rattle.std.specs.Prelude.{◌≡◌, ℕ, ◌==◌, false, List, ◌++◌, All, Result, Ok, codes}
+use Rattle.std.specs.Prelude.{◌≡◌, ℕ, ◌==◌, false, List, ◌++◌, All, Ok, codes}
 use Rattle.oidc_members.specs.Seen.{OutSeen}
 use Rattle.oidc_members.specs.Write.{any_float, object_text}
 use Rattle.oidc_readers.specs.WrittenBack.{IsUtf8Member}

@@ -7,7 +7,6 @@ use Rattle.oidc_types.specs.declared.signing_error.SigningError.{SigningError}
 use Rattle.oidc_types.specs.declared.signing_error.SigningError.TheVariants.{UnsupportedAlg, Memory}
 use Rattle.oidc_tokens.specs.Steps.{◌>>=◌}
 use Rattle.oidc_tokens.specs.Issuing.{encoded}
-use Rattle.oidc_tokens.specs.OwnClaims.{SeenOwnClaims}
 use Rattle.oidc_tokens.specs.IdTokenClaims.{SeenIdTokenClaims}
 
 -- the first half of a digest, rounded down

@@ -9,7 +9,6 @@ use Rattle.oidc_members.specs.declared.refusal.Refusal.{Refusal}
 use Rattle.oidc_readers.specs.WrittenBack.{MayStand, IsUtf8Member, as_read}
 use Rattle.oidc_types.specs.declared.signing_error.SigningError.{SigningError}
 use Rattle.oidc_types.specs.declared.signing_error.SigningError.TheVariants as signing
-use Rattle.oidc_tokens.specs.declared.header.JsonWebTokenAlgorithm.{JsonWebTokenAlgorithm}
 use Rattle.oidc_tokens.specs.declared.header.JsonWebTokenAlgorithm.TheVariants as algorithm
 use Rattle.oidc_tokens.specs.declared.header.TokenHeader.{TokenHeader}
 use Rattle.oidc_tokens.specs.declared.jwt.JsonWebTokenError.{JsonWebTokenError}

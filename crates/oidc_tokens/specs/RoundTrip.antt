@@ -10,7 +10,6 @@ use Rattle.oidc_members.specs.declared.refusal.Refusal.{Refusal}
 use Rattle.oidc_readers.specs.WrittenBack.{MayStand, IsUtf8Member}
 use Rattle.oidc_claims.specs.Write.{IsWholeSecond, IsInRange as AreInRange}
 use Rattle.oidc_tokens.specs.IdTokenClaims.{SeenIdTokenClaims, is_own_field, id_token_claims_of, id_token_members}
-use Rattle.oidc_tokens.specs.Tokens.{SeenToken}
 use Rattle.oidc_tokens.specs.Signatures.{KeyMeanings, SeenVerifier, is_allowed, key_for}
 
 -- The issuer's URL is that of its text, every moment is at a whole second, no claim in several languages

@@ -386,7 +386,8 @@ impl<AC: AdditionalClaims, GC: GenderClaim> IdTokenClaims<AC, GC> {
 
     /// Changes `phone_number_verified` alone.
     pub fn set_phone_number_verified(self, phone_number_verified: Option<bool>) -> Self
-        ensures { let standard = record self.standard_claims { phone_number_verified = phone_number_verified } in
+        ensures { let flag = phone_number_verified in
+            let standard = record self.standard_claims { phone_number_verified = flag } in
             result ≡ record self { standard_claims = standard } }
     {
         let standard_claims = self
@@ -428,7 +429,8 @@ impl<AC: AdditionalClaims, GC: GenderClaim> IdTokenClaims<AC, GC> {
 
     /// Changes `updated_at` alone.
     pub fn set_updated_at(self, updated_at: Option<Timestamp>) -> Self
-        ensures { let standard = record self.standard_claims { updated_at = option_map (λ moment. moment.nanosecond) updated_at } in
+        ensures { let moment = option_map (λ moment. moment.nanosecond) updated_at in
+            let standard = record self.standard_claims { updated_at = moment } in
             result ≡ record self { standard_claims = standard } }
     {
         let standard_claims = self.standard_claims.set_updated_at(updated_at);
