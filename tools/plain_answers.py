@@ -5,19 +5,20 @@ the token layer.
     tools/plain_answers.py answers   reads cases from standard input, and answers each: a line each
     tools/plain_answers.py judge     the same, and says on standard error which line each script ends with
 
-It is a second reader of scripts beside oidc_cli, oidc_login and oidc_oauth2, over Python's json, hmac,
-hashlib, base64 and urllib.parse: RFC 6749 sections 2.3.1 and 4.1.2 to 5.2, RFC 6750 section 2.1, RFC 7009
-section 2.2.1, RFC 7636 section 4.2, RFC 7662 section 2.2, RFC 8628 sections 3.2 and 3.5, RFC 7515 section
-7.1, OpenID Connect Core 1.0 sections 3.1.2.1, 3.1.3.3 and 3.1.3.7. It takes URLs as they are written, so
-it is right where these are written as the URL Standard writes them.
+It is a second reader of scripts beside oidc_cli, oidc_login and oidc_oauth2, over Python's json, hashlib,
+base64 and urllib.parse: RFC 6749 sections 2.3.1 and 4.1.2 to 5.2, RFC 6750 section 2.1, RFC 7009 section
+2.2.1, RFC 7636 section 4.2, RFC 7662 section 2.2, RFC 8628 sections 3.2 and 3.5, OpenID Connect Core 1.0
+sections 3.1.2.1 and 3.1.3.3. ID tokens are read and judged by plain_tokens.py. It takes URLs as they are
+written, so it is right where these are written as the URL Standard writes them.
 """
 import base64
 import hashlib
-import hmac
 import json
 import re
 import sys
 from urllib.parse import quote_plus, unquote_to_bytes
+
+import plain_id_tokens as tokens
 
 LONGEST_ADDRESS = 65_534
 LONGEST_BODY = 1_048_576
@@ -137,7 +138,6 @@ def record(of, fields, also=None):
 ERROR = [("error", TEXT, True), ("error_description", TEXT, False), ("error_uri", TEXT, False)]
 TOKENS = [("access_token", TEXT, True), ("token_type", TEXT, True), ("expires_in", WHOLE, False),
           ("refresh_token", TEXT, False), ("scope", TEXT, False)]
-ID_TOKEN = [("id_token", TEXT, False)]
 DEVICE = [("device_code", TEXT, True), ("user_code", TEXT, True), ("verification_uri", url_fault, True),
           ("expires_in", WHOLE, True), ("verification_uri_complete", TEXT, False), ("interval", WHOLE, False)]
 INTROSPECTION = [("active", FLAG, True), ("scope", TEXT, False), ("client_id", TEXT, False),
@@ -175,65 +175,35 @@ def tokens_in(status, content_type, body, further=()):
 
 # ---- ID tokens
 
-HASHES = {"HS256": hashlib.sha256, "HS384": hashlib.sha384, "HS512": hashlib.sha512}
-CLAIMS = ["iss", "aud", "exp", "iat", "nonce", "sub"]
 
-
-def decoded(part):
-    """Strict base64url without padding."""
-    read = base64.urlsafe_b64decode(part + "=" * (-len(part) % 4))
-    if base64.urlsafe_b64encode(read).rstrip(b"=").decode() != part:
-        raise ValueError(part)
-    return read
-
-
-def plain_token(text):
-    """Claims, algorithm, message and signature of a token that is plain."""
+def id_token_fault(value):
+    """Why the value of `id_token` is refused: with the kind and the field that the token's own reader names."""
+    if not is_text(value):
+        return "type"
     try:
-        header, payload, signature = text.split(".")
-        alg = members(decoded(header))
-        claims = members(decoded(payload))
-        signed = decoded(signature)
-    except (ValueError, Refused):
-        return None
-    found = dict(claims)
-    plain = (len(alg) == 1 and alg[0][0] == "alg" and alg[0][1] in HASHES
-             and len(claims) == 6 and set(found) == set(CLAIMS)
-             and is_text(found["iss"]) and "://" in found["iss"]
-             and isinstance(found["aud"], list) and all(map(is_text, found["aud"]))
-             and all(type(found[name]) is int and found[name] in MOMENTS for name in ("exp", "iat"))
-             and (found["nonce"] is None or is_text(found["nonce"])) and is_text(found["sub"]))
-    return (found, alg[0][1], header + "." + payload, signed) if plain else None
+        tokens.token_of(value)
+    except tokens.Refused as refused:
+        raise Refused(*refused.args) from None
+    return None
 
 
-def first_failure(client, nonce, now, token):
-    claims, alg, message, signature = token
-    made = hmac.new(client["secret"].encode(), message.encode(), HASHES[alg]).digest()
-    checks = [("invalid_issuer", claims["iss"] == client["issuer"]),
-              ("invalid_audience", set(claims["aud"]) == {client["id"]}),
-              ("disallowed_alg", alg in client["algs"].split(" ")),
-              ("crypto_error", made == signature),
-              ("expired", now < claims["exp"]),
-              ("invalid_nonce", claims["nonce"] == nonce)]
-    return next((kind for kind, passes in checks if not passes), None)
+ID_TOKEN = [("id_token", id_token_fault, False)]
 
 
-def signed_in(client, nonce, now, tokens):
-    """The verdict on tokens."""
-    if tokens.get("id_token") is None:
+def signed_in(client, nonce, now, found):
+    """The verdict on the fields of a token response."""
+    if found.get("id_token") is None:
         return "refused no_id_token"
-    token = plain_token(tokens["id_token"])
-    if token is None:
-        return "refused unbuilt"
-    failure = first_failure(client, nonce, now, token)
+    token = tokens.token_of(found["id_token"])
+    failure = tokens.first_failure(client, nonce, now, token)
     if failure:
         return "refused claims " + failure
-    claims = {name: token[0][name] for name in CLAIMS if token[0][name] is not None}
-    shown = [("access_token", tokens["access_token"])]
-    if tokens.get("refresh_token") is not None:
-        shown.append(("refresh_token", tokens["refresh_token"]))
-    shown.append(("claims", json.dumps(claims, separators=(",", ":"), ensure_ascii=False)))
-    return "ok " + form(shown)
+    if not tokens.fits_hash(token, found["access_token"]):
+        return "refused token_hash"
+    shown = [("access_token", found["access_token"])]
+    if found.get("refresh_token") is not None:
+        shown.append(("refresh_token", found["refresh_token"]))
+    return "ok " + form(shown + [("claims", tokens.written(token[1]))])
 
 
 # ---- lines of a script
@@ -308,8 +278,8 @@ def callback_lines(client, logins, line, answer):
     sent = request_line(client, code[0], login["verifier"])
     if answer[0] == "fault":
         return [sent, "callback refused token request"]
-    tokens, refusal = tokens_in(*answer[1], ID_TOKEN)
-    verdict = "refused " + refusal if refusal else signed_in(client, login["nonce"], int(line["now"]), tokens)
+    found, refusal = tokens_in(*answer[1], ID_TOKEN)
+    verdict = "refused " + refusal if refusal else signed_in(client, login["nonce"], int(line["now"]), found)
     return [sent, "callback " + verdict]
 
 
@@ -342,7 +312,7 @@ def report(script):
     """Status and report of a script whose URLs are written as the URL Standard writes them."""
     lines = script.split("\n")
     lines = lines[:-1] if lines[-1] == "" else lines
-    client = fields(lines[0], {"op", "id", "secret", "issuer", "auth", "token", "algs"}) if lines else None
+    client = fields(lines[0], {"op", "id", "issuer", "auth", "token", "algs"}, {"secret"}) if lines else None
     if client is None or not lines[0].startswith("op=client"):
         return 3, "script fault line 1\n"
     out, logins = ["client ok"], {}
@@ -484,10 +454,10 @@ def token_answer(line):
     answer = answer_of({"token_" + name: value for name, value in found.items()})
     if answer is None:
         raise NoCase
-    tokens, refusal = tokens_in(*answer[1])
+    found, refusal = tokens_in(*answer[1])
     if refusal:
         return "refused " + refusal.removeprefix("token ").removesuffix(" token_answer")
-    return ok([("written", written_tokens(tokens))])
+    return ok([("written", written_tokens(found))])
 
 
 def run(line):
@@ -506,9 +476,10 @@ OPERATIONS = {"run": run, "token_response": token_response, "device_response": d
 
 
 def answer_line(line):
-    """The answer of a case of one of these operations; any other line as it came."""
+    """The answer of a case of one of these operations; any other line as it came, and one with extra fields,
+    which plain_tokens.py answers."""
     operation = OPERATIONS.get(re.split("[=&]", line + "=")[1]) if line.startswith("op=") else None
-    if operation is None:
+    if operation is None or operation in (token_response, token_answer) and values(pairs(line), "extra"):
         return line
     try:
         return operation(line)
@@ -525,4 +496,5 @@ def main():
         print(answer_line(case))
 
 
-main()
+if __name__ == "__main__":
+    main()

@@ -93,7 +93,7 @@ whole_seconds (negsuc n) nanosecond is =
     let above : n ≤ 377_705_023_200 = leb-true n 377_705_023_200 (left_true (int_le first (negsuc n)) (int_le (negsuc n) last) test) in
     omega arith
 
-moments_stand : (c : Claim) (o : Option ℤ) → IsWholeSecond o → EachStands (plain_member c (option_map seconds_data o))
+pub moments_stand : (c : Claim) (o : Option ℤ) → IsWholeSecond o → EachStands (plain_member c (option_map seconds_data o))
 moments_stand c None h = tt
 moments_stand c (Some n) h = ((whole_seconds (seconds_of n) n (whole_second n h.0 h.1), omega arith), tt)
 

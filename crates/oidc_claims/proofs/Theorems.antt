@@ -1,4 +1,11 @@
--- The texts of a JSON value that a program holds are UTF-8, since a `String` is.
+-- Lemmas that other crates may cite: that a value of a program has UTF-8 texts, since a `String` is; and
+-- that claims which are written may stand in an object, and read back. `all_kept` is that `AllOtherClaims` keep
+-- all additional members.
+pub use Rattle.oidc_claims.proofs.Seconds.{whole_second}
+pub use Rattle.oidc_claims.proofs.MayStand.{EachStands, moments_stand, written_stands}
+pub use Rattle.oidc_claims.proofs.NoFloat.{written_free}
+pub use Rattle.oidc_claims.proofs.Kept.{all_kept}
+pub use Rattle.oidc_claims.proofs.SplitBack.{split_reads_back}
 use Rattle.std.proofs.Common.{◌≡◌, List, [], ◌∷◌, ◌++◌, map, String, string_bytes, Global, subst, sym, All}
 use Rattle.std.proofs.lemmas.List.Elements.{All-push}
 use Rattle.std.specs.Str.{IsUtf8}

@@ -5,12 +5,13 @@ use crate::case::{Case, CaseError};
 use crate::vocabularies::variant_name;
 use oidc_claims::PlacedError;
 use oidc_keys::{HashError, SignatureVerificationError};
-use oidc_login::{BeginError, ClaimsVerificationError, LoginError, NewLoginsError, TooLong};
+use oidc_login::{BeginError, LoginError, NewLoginsError, TooLong};
 use oidc_members::{FieldName, ParseError, ParseKind, Refusal};
 use oidc_oauth2::{
     BearerError, Body, ConfigurationError, CoreErrorResponseType, CoreRequestTokenError, Fault,
     OtherCause, PkceError, PrepareError, RequestTokenError, StandardErrorResponse, UnexpectedType,
 };
+use oidc_tokens::{ClaimsVerificationError, JsonWebTokenError};
 use oidc_types::{SigningError, UrlTextError};
 use std::alloc::Global;
 use std::fmt::{Debug, Display};
@@ -42,12 +43,15 @@ const SIGNATURES: [SignatureVerificationError; 8] = [
 
 const HASHES: [HashError; 2] = [HashError::Unsupported, HashError::Memory];
 
-const CLAIMS: [ClaimsVerificationError; 5] = [
+const CLAIMS: [ClaimsVerificationError; 8] = [
+    ClaimsVerificationError::Unsupported,
     ClaimsVerificationError::InvalidIssuer,
     ClaimsVerificationError::InvalidAudience,
     ClaimsVerificationError::SignatureVerification(SignatureVerificationError::CryptoError),
     ClaimsVerificationError::Expired,
     ClaimsVerificationError::InvalidNonce,
+    ClaimsVerificationError::InvalidSubject,
+    ClaimsVerificationError::Memory,
 ];
 
 const STORES: [NewLoginsError; 1] = [NewLoginsError::TokenEndpoint];
@@ -93,6 +97,7 @@ pub(crate) fn display(alloc: Global, case: &Case) -> Result<String, CaseError> {
         "BeginError" => one_of(alloc, &BEGINS, variant),
         "ClaimsVerificationError" => one_of(alloc, &CLAIMS, variant),
         "HashError" => one_of(alloc, &HASHES, variant),
+        "JsonWebTokenError" => token_error(alloc, variant),
         "LoginError" => login_error(alloc, variant),
         "NewLoginsError" => one_of(alloc, &STORES, variant),
         "ParseError" => parse_error(alloc, variant),
@@ -135,7 +140,8 @@ fn request_error(alloc: Global, variant: &str) -> Result<String, CaseError> {
 }
 
 fn login_error(alloc: Global, variant: &str) -> Result<String, CaseError> {
-    let all: [LoginError<Fault>; 8] = [
+    let none = FieldName::new(String::from_str(alloc, "ES256")?);
+    let all: [LoginError<Fault>; 10] = [
         LoginError::TooLong(TooLong::TokenAnswer),
         LoginError::State,
         LoginError::Unbuilt,
@@ -143,6 +149,8 @@ fn login_error(alloc: Global, variant: &str) -> Result<String, CaseError> {
         LoginError::Token(RequestTokenError::Request(Fault)),
         LoginError::NoIdToken,
         LoginError::Claims(ClaimsVerificationError::Expired),
+        LoginError::Signing(SigningError::UnsupportedAlg(none)),
+        LoginError::TokenHash,
         LoginError::Memory { spent: false },
     ];
     one_of(alloc, &all, variant)
@@ -174,6 +182,14 @@ fn signing_error(alloc: Global, variant: &str) -> Result<String, CaseError> {
         SigningError::UnsupportedAlg(none),
         SigningError::Other(other),
         SigningError::Memory,
+    ];
+    one_of(alloc, &all, variant)
+}
+
+fn token_error(alloc: Global, variant: &str) -> Result<String, CaseError> {
+    let all = [
+        JsonWebTokenError::SigningError(SigningError::CryptoError),
+        JsonWebTokenError::Memory,
     ];
     one_of(alloc, &all, variant)
 }

@@ -4,14 +4,15 @@ use crate::answers::{ok_form, ok_pair, refused_word};
 use crate::case::{Case, CaseError};
 use crate::headers::{content_type, text_in};
 use crate::records::{Tokens, written};
+use crate::tokens::TokenFields;
 use crate::words::kind_word;
 use http::{Response, StatusCode};
 use http_header::{CONTENT_TYPE, HeaderMap};
 use oidc_members::Refusal;
 use oidc_oauth2::{
     AuthType, Body, ClientAuth, CodeTokenRequest, CoreErrorResponseType, CoreRequestTokenError,
-    Fault, HttpRequest, HttpResponse, OtherCause, PrepareError, RequestTokenError,
-    StandardErrorResponse,
+    EmptyExtraTokenFields, ExtraTokenFields, Fault, HttpRequest, HttpResponse, OtherCause,
+    PrepareError, RequestTokenError, StandardErrorResponse,
 };
 use oidc_pairs::{FormText, Pairs, escaped_text};
 use oidc_types::{
@@ -24,7 +25,7 @@ use std::alloc::{AllocError, Global};
 type Refused = StandardErrorResponse<CoreErrorResponseType>;
 
 /// The request that exchanges a code.
-type Request<'a> = CodeTokenRequest<'a, Refused, Tokens>;
+type Request<'a> = CodeTokenRequest<'a, Refused, Tokens<EmptyExtraTokenFields>>;
 
 // ---- the request
 
@@ -54,7 +55,8 @@ pub(crate) fn code_request(alloc: Global, case: &Case) -> Result<String, CaseErr
     }
 }
 
-fn url_of<M: Marker>(alloc: Global, text: &str) -> Result<UrlText<M>, CaseError> {
+/// The URL of a text that has to be one.
+pub(crate) fn url_of<M: Marker>(alloc: Global, text: &str) -> Result<UrlText<M>, CaseError> {
     match UrlText::new(alloc, String::from_str(alloc, text)?) {
         Ok(url) => Ok(url),
         Err(UrlTextError::Refused(_)) => Err(CaseError::NoCase),
@@ -163,9 +165,21 @@ fn push_header(
 
 /// `token_answer`: what an answer to that request is worth.
 pub(crate) fn token_answer(alloc: Global, case: &Case) -> Result<String, CaseError> {
-    case.check_with(&["status", "body"], &["type"])?;
+    case.check_with(&["status", "body"], &["type", "extra"])?;
     let response = response_in(alloc, case)?;
-    match oidc_oauth2::token_answer::<Fault, Refused, Tokens>(alloc, response) {
+    match case.optional("extra") {
+        None => answer_line::<EmptyExtraTokenFields>(alloc, response),
+        Some("id_token") => answer_line::<TokenFields>(alloc, response),
+        Some(_) => Err(CaseError::NoCase),
+    }
+}
+
+// What it is worth where these extra fields are read.
+fn answer_line<EF: ExtraTokenFields>(
+    alloc: Global,
+    response: HttpResponse,
+) -> Result<String, CaseError> {
+    match oidc_oauth2::token_answer::<Fault, Refused, Tokens<EF>>(alloc, response) {
         Ok(tokens) => ok_pair(alloc, "written", written(alloc, &tokens)?.as_str()),
         Err(refusal) => refused_line(alloc, &refusal),
     }

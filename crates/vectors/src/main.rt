@@ -20,7 +20,10 @@ mod operations;
 mod pkce;
 mod records;
 mod scripts;
+mod tokens;
 mod types;
+mod verifier_keys;
+mod verifiers;
 mod vocabularies;
 mod words;
 

@@ -5,8 +5,8 @@ ghost use Rattle.vectors.specs.Operations.{operation_of};
 
 use crate::case::{Case, CaseError};
 use crate::{
-    claims, displays, exchanges, headers, keys, members, pkce, records, scripts, types,
-    vocabularies,
+    claims, displays, exchanges, headers, keys, members, pkce, records, scripts, tokens, types,
+    verifiers, vocabularies,
 };
 use std::alloc::Global;
 
@@ -38,6 +38,12 @@ pub(crate) enum Operation {
     Bearer,
     CodeRequest,
     TokenAnswer,
+    Header,
+    IdClaims,
+    IdToken,
+    Verify,
+    Hash,
+    Issue,
 }
 
 /// The operation of that name.
@@ -70,6 +76,12 @@ pub(crate) fn operation_named(name: &str) -> Option<Operation>
         "bearer" => Some(Operation::Bearer),
         "code_request" => Some(Operation::CodeRequest),
         "token_answer" => Some(Operation::TokenAnswer),
+        "header" => Some(Operation::Header),
+        "id_claims" => Some(Operation::IdClaims),
+        "token" => Some(Operation::IdToken),
+        "verify" => Some(Operation::Verify),
+        "hash" => Some(Operation::Hash),
+        "issue" => Some(Operation::Issue),
         _ => None,
     }
 }
@@ -103,6 +115,12 @@ impl Operation {
             Operation::Bearer => headers::bearer(alloc, case),
             Operation::CodeRequest => exchanges::code_request(alloc, case),
             Operation::TokenAnswer => exchanges::token_answer(alloc, case),
+            Operation::Header => tokens::header(alloc, case),
+            Operation::IdClaims => tokens::id_claims(alloc, case),
+            Operation::IdToken => tokens::token(alloc, case),
+            Operation::Verify => verifiers::verify(alloc, case),
+            Operation::Hash => tokens::hash(alloc, case),
+            Operation::Issue => tokens::issue(alloc, case),
         }
     }
 }

@@ -5,6 +5,7 @@ use crate::tests::oauth2::transports::{Down, Fleeting, TOKEN, echo};
 use http::StatusCode;
 use http_header::{CONTENT_TYPE, HeaderValue};
 use jiff::Timestamp;
+use oidc_keys::CoreJsonWebKeySet;
 use oidc_login::{AuthorizationRequest, Client, LoginError, Logins, NewLoginsError, SignedIn};
 use oidc_oauth2::{
     Adapter, Answer, Body, Fault, HttpRequest, HttpResponse, Recorded, SyncHttpClient,
@@ -38,7 +39,8 @@ fn client(alloc: Global) -> Result<Client, Fail> {
     let (id, secret) = names(alloc)?;
     let algorithms = [CoreJwsSigningAlgorithm::HmacSha256].to_vec(alloc)?;
     let (issuer, endpoint) = urls(alloc)?;
-    Ok(Client::new(id, secret, issuer, endpoint, algorithms))
+    let keys = CoreJsonWebKeySet::new(Vec::new(alloc));
+    Ok(Client::new(id, Some(secret), issuer, keys, endpoint, algorithms))
 }
 
 // The same client, with a token endpoint of so many bytes behind `https://example/`.
@@ -122,7 +124,7 @@ fn answer<E: Drop>(
     match reply {
         Ok(signed) => {
             let subject = signed.claims().subject().as_str();
-            let own = signed.id_token().as_str() == TOKEN;
+            let own = signed.id_token().token().as_str() == TOKEN;
             let access = signed.access_token().secret();
             format!(in alloc; "{subject} {access} {own}")
         }

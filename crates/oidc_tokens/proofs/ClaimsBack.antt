@@ -1,0 +1,484 @@
+-- Claims of an ID token that were written are read back.
+use Rattle.std.proofs.Common.{◌≡◌, ℕ, ◌≤◌, List, [], ◌∷◌, ◌++◌, map, Bool, true, false, ◌&&◌, ◌||◌, not, cond, Option, None, Some, option_map, Result, Ok, Err, codes, refl, sym, ap, ◌∙◌, filter, All, is_some, arith, append-nil, length, suc, ℤ}
+use Rattle.std.specs.Prelude.{IsFalse}
+use Rattle.std.specs.FinMap as finite
+use Rattle.std.specs.List.{flat_map, list_any, list_all}
+use Rattle.std.specs.Str.{bytes_eq}
+use Rattle.std.proofs.lemmas.Bool.{and_parts, and_from, false≢true, true≢false}
+use Rattle.std.proofs.lemmas.List.{map-append}
+use Rattle.std.proofs.lemmas.List.Elements.{All-nil, All-cons, All-append, All-weaker, filter-append}
+use Rattle.std.proofs.lemmas.List.Folds.{list_all-append}
+use Rattle.std.proofs.lemmas.List.Sums.{list_all-from_AllPass}
+use Rattle.serde_json.specs.Data.{Data, string, items_depth}
+use Rattle.serde_json.specs.View.{items_of}
+use Rattle.oidc_types.specs.{Variants}
+use Rattle.oidc_members.specs.Seen.{SeenMember, OutSeen}
+use Rattle.oidc_members.specs.Objects.{members_of}
+use Rattle.oidc_members.specs.Write.{object_text}
+use Rattle.oidc_members.specs.declared.refusal.Refusal.{Refusal}
+use Rattle.oidc_readers.specs.Moments.{seconds_data}
+use Rattle.oidc_readers.specs.Passes.{first_by}
+use Rattle.oidc_readers.specs.Records.{◌>>=◌}
+use Rattle.oidc_readers.specs.WrittenBack.{ItemsAreWhole, MayStand, IsUtf8Member, as_read}
+use Rattle.oidc_readers.specs.Writing.{one_member, text_member, moment_member}
+use Rattle.oidc_readers.proofs.Theorems.{written_split_back}
+use Rattle.oidc_claims.specs.declared.claim.Claim.{Claim}
+use Rattle.oidc_claims.specs.declared.claim.Claim.TheVariants.{Subject, Name, GivenName, FamilyName, MiddleName, Nickname, PreferredUsername, Profile, Picture, Website, Email, EmailVerified, Gender, Birthday, Birthdate, Zoneinfo, Locale, PhoneNumber, PhoneNumberVerified, Address, UpdatedAt}
+use Rattle.oidc_claims.specs.Seen.{SeenClaims}
+use Rattle.oidc_claims.specs.Table.{name_of, kind_of, all_claims, base_of, claim_of}
+use Rattle.oidc_claims.specs.Additional.{ReadsBack, StaysAdditional, are_written_additional, out_of}
+use Rattle.oidc_claims.specs.Claims.{fault_of_kind, fault_by, fault_at, first_fault}
+use Rattle.oidc_claims.specs.Gender.{GenderReadsBack, GenderIsValue}
+use Rattle.oidc_claims.specs.Home.{home_by, is_additional_home, id_token_fields, user_info_fields}
+use Rattle.oidc_claims.specs.Standard.{claims_of, at_place, faultless_claims, unless_refused}
+use Rattle.oidc_claims.specs.Write.{written, claim_members, plain_member, with_tag, variant_member, variant_members, IsWholeSecond}
+use Rattle.oidc_claims.proofs.Theorems.{EachStands, moments_stand, written_stands, split_reads_back}
+use Rattle.oidc_tokens.specs.OwnClaims.{SeenOwnClaims, texts_data, texts_member, own_rule, own_of, own_members}
+use Rattle.oidc_tokens.specs.IdTokenClaims.{SeenIdTokenClaims, is_own_field, is_additional_claim, additional_members, id_token_rule, parts_in, id_token_claims_of, id_token_members}
+use Rattle.oidc_tokens.specs.Homes.{is_field, is_standard}
+use Rattle.oidc_tokens.specs.Issuing.{ComesBack}
+use Rattle.oidc_tokens.specs.RoundTrip.{IsInRange, GivesClaims}
+use Rattle.oidc_tokens.proofs.Entries.{Entry, out_at, outs}
+use Rattle.oidc_tokens.proofs.OneHome.{standard_name, no_claim, is_claim, claim_same, own_same, standard_same}
+use Rattle.oidc_tokens.proofs.OwnBack.{entries, written_as, own_back, own_clean}
+use Rattle.oidc_tokens.proofs.OwnRule.{rule_outside, rule_narrowed}
+use Rattle.oidc_tokens.proofs.Issued.{may_be_written}
+use Rattle.oidc_tokens.proofs.Passing.{passes_apart, passes_both, no_fault}
+
+not_true : (b : Bool) → not b ≡ true → b ≡ false
+not_true true h = absurd (false≢true h)
+not_true false h = refl
+
+true_not : (b : Bool) → b ≡ false → not b ≡ true
+true_not b h = ap not h
+
+last_false : (a b : Bool) → b ≡ false → (a && b) ≡ false
+last_false true b h = h
+last_false false b h = refl
+
+-- ---- members of one home
+
+abbrev are_fields : List OutSeen → Bool
+are_fields ms = list_all (λ m. is_own_field m.name) ms
+
+abbrev are_standard : List OutSeen → Bool
+are_standard ms = list_all (λ m. standard_name m.name) ms
+
+abbrev are_neither : List OutSeen → Bool
+are_neither ms = list_all (λ m. not (is_own_field m.name) && not (standard_name m.name)) ms
+
+-- the test of a name is passed by the member that is read
+all_kept : (test : List ℕ → Bool) (ms : List OutSeen) → list_all (λ m. test m.name) ms ≡ true → filter (λ m. test m.name) (map as_read ms) ≡ map as_read ms
+all_kept test [] h = refl
+all_kept test (m ∷ ms) h =
+    let parts = and_parts (test m.name) (list_all (λ m. test m.name) ms) h in
+    λ i. cond (parts.0 i) (as_read m ∷ all_kept test ms parts.1 i) (filter (λ m. test m.name) (map as_read ms))
+
+none_kept : (test : List ℕ → Bool) (ms : List OutSeen) → list_all (λ m. not (test m.name)) ms ≡ true → filter (λ m. test m.name) (map as_read ms) ≡ []
+none_kept test [] h = refl
+none_kept test (m ∷ ms) h =
+    let parts = and_parts (not (test m.name)) (list_all (λ m. not (test m.name)) ms) h in
+    (λ i. cond (not_true (test m.name) parts.0 i) (as_read m ∷ filter (λ m. test m.name) (map as_read ms)) (filter (λ m. test m.name) (map as_read ms)))
+    ∙ none_kept test ms parts.1
+
+weaker : (p q : OutSeen → Bool) → ((m : OutSeen) → p m ≡ true → q m ≡ true) → (ms : List OutSeen) → list_all p ms ≡ true → list_all q ms ≡ true
+weaker p q all [] h = refl
+weaker p q all (m ∷ ms) h =
+    let parts = and_parts (p m) (list_all p ms) h in and_from (q m) (list_all q ms) (all m parts.0) (weaker p q all ms parts.1)
+
+-- a name of one home is of no other
+field_not_standard : (name : List ℕ) → is_own_field name ≡ true → not (standard_name name) ≡ true
+field_not_standard name h = ap not (no_claim id_token_fields name refl h)
+
+standard_not_field : (name : List ℕ) (b : Bool) → is_own_field name ≡ b → standard_name name ≡ true → not b ≡ true
+standard_not_field name true is h = absurd (false≢true (sym (no_claim id_token_fields name refl is) ∙ h))
+standard_not_field name false is h = refl
+
+additional_of : (field standard : Bool) → is_additional_home (home_by field standard) ≡ (not field && not standard)
+additional_of true true = refl
+additional_of true false = refl
+additional_of false true = refl
+additional_of false false = refl
+
+-- whether a name is additional, by the other two tests
+additional_by : (name : List ℕ) → is_additional_claim name ≡ (not (is_own_field name) && not (standard_name name))
+additional_by name =
+    ap (λ standard. is_additional_home (home_by (is_own_field name) standard)) (is_claim (record { name = name; value = string []; text = [] }))
+    ∙ additional_of (is_own_field name) (standard_name name)
+
+field_not_additional : (name : List ℕ) → is_own_field name ≡ true → not (is_additional_claim name) ≡ true
+field_not_additional name h = ap not (additional_by name ∙ ap (λ b. not b && not (standard_name name)) h)
+
+standard_not_additional : (name : List ℕ) → standard_name name ≡ true → not (is_additional_claim name) ≡ true
+standard_not_additional name h = ap not (additional_by name ∙ last_false (not (is_own_field name)) (not (standard_name name)) (ap not h))
+
+-- ---- the names of what is written
+
+entry_named : (name : List ℕ) (o : Option Data) → is_own_field name ≡ true → are_fields (out_at name o) ≡ true
+entry_named name None h = refl
+entry_named name (Some value) h = and_from (is_own_field name) true h refl
+
+entries_named : (es : List Entry) → list_all (λ e. is_own_field e.0) es ≡ true → are_fields (outs es) ≡ true
+entries_named [] h = refl
+entries_named (e ∷ es) h =
+    let parts = and_parts (is_own_field e.0) (list_all (λ e. is_own_field e.0) es) h in
+    list_all-append (λ m. is_own_field m.name) (out_at e.0 e.1) (outs es) ∙ (λ i. entry_named e.0 e.1 parts.0 i && entries_named es parts.1 i)
+
+fields_named : (c : SeenOwnClaims) → are_fields (own_members c) ≡ true
+fields_named c = ap are_fields (written_as c) ∙ entries_named (entries c) refl
+
+-- a standard claim's name, with any tag
+known : (c : Claim) → standard_name (name_of c) ≡ true
+known Subject = refl
+known Name = refl
+known GivenName = refl
+known FamilyName = refl
+known MiddleName = refl
+known Nickname = refl
+known PreferredUsername = refl
+known Profile = refl
+known Picture = refl
+known Website = refl
+known Email = refl
+known EmailVerified = refl
+known Gender = refl
+known Birthday = refl
+known Birthdate = refl
+known Zoneinfo = refl
+known Locale = refl
+known PhoneNumber = refl
+known PhoneNumberVerified = refl
+known Address = refl
+known UpdatedAt = refl
+
+known_tagged : (c : Claim) (tag : List ℕ) → standard_name (name_of c ++ codes "#" ++ tag) ≡ true
+known_tagged Subject tag = refl
+known_tagged Name tag = refl
+known_tagged GivenName tag = refl
+known_tagged FamilyName tag = refl
+known_tagged MiddleName tag = refl
+known_tagged Nickname tag = refl
+known_tagged PreferredUsername tag = refl
+known_tagged Profile tag = refl
+known_tagged Picture tag = refl
+known_tagged Website tag = refl
+known_tagged Email tag = refl
+known_tagged EmailVerified tag = refl
+known_tagged Gender tag = refl
+known_tagged Birthday tag = refl
+known_tagged Birthdate tag = refl
+known_tagged Zoneinfo tag = refl
+known_tagged Locale tag = refl
+known_tagged PhoneNumber tag = refl
+known_tagged PhoneNumberVerified tag = refl
+known_tagged Address tag = refl
+known_tagged UpdatedAt tag = refl
+
+with_tag_known : (c : Claim) (tag : Option (List ℕ)) → standard_name (with_tag (name_of c) tag) ≡ true
+with_tag_known c None = known c
+with_tag_known c (Some tag) = known_tagged c tag
+
+plain_named : (c : Claim) (o : Option Data) → are_standard (plain_member c o) ≡ true
+plain_named c None = refl
+plain_named c (Some value) = and_from (standard_name (name_of c)) true (known c) refl
+
+entries_standard : (c : Claim) (es : List (Option (List ℕ) × List ℕ)) → are_standard (map (variant_member c) es) ≡ true
+entries_standard c [] = refl
+entries_standard c (e ∷ es) = and_from (standard_name (with_tag (name_of c) e.0)) (are_standard (map (variant_member c) es)) (with_tag_known c e.0) (entries_standard c es)
+
+variants_named : (c : Claim) (o : Option (Variants (List ℕ))) → are_standard (variant_members c o) ≡ true
+variants_named c None = refl
+variants_named c (Some variants) = entries_standard c (finite.entries variants)
+
+module _ {GC : Type 0} (gender_data : GC → Data) (s : SeenClaims GC) where
+  claim_named : (c : Claim) → are_standard (claim_members gender_data s c) ≡ true
+  claim_named Subject = plain_named Subject (Some (string s.subject))
+  claim_named Name = variants_named Name s.name
+  claim_named GivenName = variants_named GivenName s.given_name
+  claim_named FamilyName = variants_named FamilyName s.family_name
+  claim_named MiddleName = variants_named MiddleName s.middle_name
+  claim_named Nickname = variants_named Nickname s.nickname
+  claim_named PreferredUsername = plain_named PreferredUsername _
+  claim_named Profile = variants_named Profile s.profile
+  claim_named Picture = variants_named Picture s.picture
+  claim_named Website = variants_named Website s.website
+  claim_named Email = plain_named Email _
+  claim_named EmailVerified = plain_named EmailVerified _
+  claim_named Gender = plain_named Gender _
+  claim_named Birthday = plain_named Birthday _
+  claim_named Birthdate = plain_named Birthdate _
+  claim_named Zoneinfo = plain_named Zoneinfo _
+  claim_named Locale = plain_named Locale _
+  claim_named PhoneNumber = plain_named PhoneNumber _
+  claim_named PhoneNumberVerified = plain_named PhoneNumberVerified _
+  claim_named Address = plain_named Address _
+  claim_named UpdatedAt = plain_named UpdatedAt _
+
+  claims_named : (cs : List Claim) → are_standard (flat_map (claim_members gender_data s) cs) ≡ true
+  claims_named [] = refl
+  claims_named (c ∷ cs) =
+      list_all-append (λ m. standard_name m.name) (claim_members gender_data s c) (flat_map (claim_members gender_data s) cs)
+      ∙ (λ i. claim_named c i && claims_named cs i)
+
+  standard_named : are_standard (written gender_data s) ≡ true
+  standard_named = claims_named all_claims
+
+-- what additional claims are written as is neither
+neither_by : (field standard of_user : Bool) → field ≡ false → is_additional_home (home_by of_user standard) ≡ true → (not field && not standard) ≡ true
+neither_by false false of_user is h = refl
+neither_by false true true is h = absurd (false≢true h)
+neither_by false true false is h = absurd (false≢true h)
+neither_by true standard of_user is h = absurd (true≢false is)
+
+neither_named : (ms : List OutSeen) → list_all (λ m. not (is_own_field m.name)) ms ≡ true → are_written_additional ms ≡ true → are_neither ms ≡ true
+neither_named [] h k = refl
+neither_named (m ∷ ms) h k =
+    let a = and_parts (not (is_own_field m.name)) (list_all (λ m. not (is_own_field m.name)) ms) h in
+    let b = and_parts (is_additional_home (home_by (list_any (λ field. bytes_eq field m.name) user_info_fields) (is_some (claim_of (base_of m.name))))) (are_written_additional ms) k in
+    and_from (not (is_own_field m.name) && not (standard_name m.name)) (are_neither ms)
+    (neither_by (is_own_field m.name) (standard_name m.name) (list_any (λ field. bytes_eq field m.name) user_info_fields) (not_true (is_own_field m.name) a.0)
+    (ap (λ standard. is_additional_home (home_by (list_any (λ field. bytes_eq field m.name) user_info_fields) standard)) (sym (is_claim (as_read m))) ∙ b.0))
+    (neither_named ms a.1 b.1)
+
+-- ---- the rule of the standard claims
+
+all_known : (c : Claim) → list_any (λ d. bytes_eq (name_of c) (name_of d)) all_claims ≡ true
+all_known Subject = refl
+all_known Name = refl
+all_known GivenName = refl
+all_known FamilyName = refl
+all_known MiddleName = refl
+all_known Nickname = refl
+all_known PreferredUsername = refl
+all_known Profile = refl
+all_known Picture = refl
+all_known Website = refl
+all_known Email = refl
+all_known EmailVerified = refl
+all_known Gender = refl
+all_known Birthday = refl
+all_known Birthdate = refl
+all_known Zoneinfo = refl
+all_known Locale = refl
+all_known PhoneNumber = refl
+all_known PhoneNumberVerified = refl
+all_known Address = refl
+all_known UpdatedAt = refl
+
+placed_ok : {A : Type 0} (answer : Result A Refusal) (place : ℕ) (x : A) → at_place place answer ≡ Ok x → answer ≡ Ok x
+placed_ok (Ok y) place x h = cc
+placed_ok (Err refusal) place x h = absurd cc
+
+same_some : {A : Type 0} (x y : A) → Some x ≡ Some y → x ≡ y
+same_some x y h = cc
+
+module _ {GC : Type 0} (gender_read : SeenMember → Result GC Refusal) where
+  silent_by : (o : Option Claim) (before : List SeenMember) (m : SeenMember) → is_some o ≡ false → fault_by gender_read o before m ≡ None
+  silent_by None before m h = refl
+  silent_by (Some c) before m h = absurd (true≢false h)
+
+  fault_outside : (before : List SeenMember) (m : SeenMember) → is_standard m ≡ false → fault_at gender_read before m ≡ None
+  fault_outside before m h = silent_by (claim_of (base_of m.name)) before m (is_claim m ∙ h)
+
+  narrowed_by_claim : (o : Option Claim) (before : List SeenMember) (m : SeenMember) → fault_by gender_read o before m ≡ fault_by gender_read o (filter is_standard before) m
+  narrowed_by_claim None before m = refl
+  narrowed_by_claim (Some c) before m = ap (λ came. fault_of_kind gender_read (kind_of c) came m) (sym (claim_same gender_read before c (all_known c)))
+
+  fault_narrowed : (before : List SeenMember) (m : SeenMember) → fault_at gender_read before m ≡ fault_at gender_read (filter is_standard before) m
+  fault_narrowed before m = narrowed_by_claim (claim_of (base_of m.name)) before m
+
+  claims_by : (fault : Option (ℕ × Refusal)) (ms : List SeenMember) (s : SeenClaims GC) → unless_refused gender_read fault ms ≡ Ok s → (fault ≡ None) × (faultless_claims gender_read ms ≡ Ok s)
+  claims_by (Some fault) ms s h = absurd cc
+  claims_by None ms s h = (refl, placed_ok (faultless_claims gender_read ms) (length ms) s h)
+
+module _ (P : OutSeen → Type 0) where
+  behind : (xs ys : List OutSeen) → All P (xs ++ ys) → All P ys
+  behind [] ys h = h
+  behind (x ∷ xs) ys h = behind xs ys (λ k d within. h (suc k) d (omega arith))
+
+  before : (xs ys : List OutSeen) → All P (xs ++ ys) → All P xs
+  before [] ys h = All-nil P
+  before (x ∷ xs) ys h = All-cons P x xs (h 0 x (omega arith)) (before xs ys (λ k d within. h (suc k) d (omega arith)))
+
+each_stands : (ms : List OutSeen) → EachStands ms → All (λ (m : OutSeen). MayStand m.value) ms
+each_stands [] h = All-nil (λ (m : OutSeen). MayStand m.value)
+each_stands (m ∷ ms) h = All-cons (λ (m : OutSeen). MayStand m.value) m ms h.0 (each_stands ms h.1)
+
+outs_back : (ms : List OutSeen) → map out_of (map as_read ms) ≡ ms
+outs_back [] = refl
+outs_back (m ∷ ms) = λ i. m ∷ outs_back ms i
+
+-- ---- values of the own fields
+
+texts_whole : (texts : List (List ℕ)) → ItemsAreWhole (items_of (map string texts))
+texts_whole [] = tt
+texts_whole (text ∷ texts) = (tt, texts_whole texts)
+
+texts_shallow : (texts : List (List ℕ)) → items_depth (items_of (map string texts)) ≤ 0
+texts_shallow [] = omega arith
+texts_shallow (text ∷ texts) = let rest = texts_shallow texts in omega arith
+
+texts_stand : (texts : List (List ℕ)) → MayStand (texts_data texts)
+texts_stand texts = (texts_whole texts, let shallow = texts_shallow texts in omega arith)
+
+text_stands : (text : List ℕ) → MayStand (string text)
+text_stands text = (tt, omega arith)
+
+moment_stands : (moment : ℤ) → IsWholeSecond (Some moment) → MayStand (seconds_data moment)
+moment_stands moment h = (moments_stand UpdatedAt (Some moment) h).0
+
+module _ (c : SeenOwnClaims) (expiration : IsWholeSecond (Some c.expiration)) (issue_time : IsWholeSecond (Some c.issue_time)) (authenticated : IsWholeSecond c.auth_time) where
+  stand_one : (name : List ℕ) (value : Data) → MayStand value → All (λ (m : OutSeen). MayStand m.value) (one_member name value)
+  stand_one name value h = All-cons (λ (m : OutSeen). MayStand m.value) _ [] h (All-nil (λ (m : OutSeen). MayStand m.value))
+
+  stand_text : (name : List ℕ) (o : Option (List ℕ)) → All (λ (m : OutSeen). MayStand m.value) (text_member name o)
+  stand_text name None = All-nil (λ (m : OutSeen). MayStand m.value)
+  stand_text name (Some text) = stand_one name (string text) (text_stands text)
+
+  stand_texts : (name : List ℕ) (o : Option (List (List ℕ))) → All (λ (m : OutSeen). MayStand m.value) (texts_member name o)
+  stand_texts name None = All-nil (λ (m : OutSeen). MayStand m.value)
+  stand_texts name (Some texts) = stand_one name (texts_data texts) (texts_stand texts)
+
+  stand_moment : (name : List ℕ) (o : Option ℤ) → IsWholeSecond o → All (λ (m : OutSeen). MayStand m.value) (moment_member name o)
+  stand_moment name None h = All-nil (λ (m : OutSeen). MayStand m.value)
+  stand_moment name (Some moment) h = stand_one name (seconds_data moment) (moment_stands moment h)
+
+  abbrev then_ : (xs ys : List OutSeen) → All (λ (m : OutSeen). MayStand m.value) xs → All (λ (m : OutSeen). MayStand m.value) ys → All (λ (m : OutSeen). MayStand m.value) (xs ++ ys)
+  then_ xs ys h k = All-append (λ (m : OutSeen). MayStand m.value) xs ys h k
+
+  own_stand : All (λ (m : OutSeen). MayStand m.value) (own_members c)
+  own_stand =
+      then_ _ _ (stand_one (codes "iss") (string c.issuer.text) (text_stands c.issuer.text))
+      (then_ _ _ (stand_one (codes "aud") (texts_data c.audiences) (texts_stand c.audiences))
+      (then_ _ _ (stand_one (codes "exp") (seconds_data c.expiration) (moment_stands c.expiration expiration))
+      (then_ _ _ (stand_one (codes "iat") (seconds_data c.issue_time) (moment_stands c.issue_time issue_time))
+      (then_ _ _ (stand_moment (codes "auth_time") c.auth_time authenticated)
+      (then_ _ _ (stand_text (codes "nonce") c.nonce)
+      (then_ _ _ (stand_text (codes "acr") c.auth_context_ref)
+      (then_ _ _ (stand_texts (codes "amr") c.auth_method_refs)
+      (then_ _ _ (stand_text (codes "azp") c.authorized_party)
+      (then_ _ _ (stand_text (codes "at_hash") c.access_token_hash) (stand_text (codes "c_hash") c.code_hash))))))))))
+
+-- ---- all claims
+
+module _
+    {AC GC : Type 0}
+    (additional_read : List SeenMember → Result AC Refusal)
+    (additional_out : AC → List OutSeen)
+    (gender_read : SeenMember → Result GC Refusal)
+    (gender_data : GC → Data)
+    (additional_back : ReadsBack additional_read additional_out)
+    (additional_stay : StaysAdditional additional_out)
+    (gender_back : GenderReadsBack gender_read gender_data)
+    (gender_there : GenderIsValue gender_data)
+    (c : SeenIdTokenClaims AC GC)
+    (range : IsInRange additional_out c) where
+  abbrev first_part : List OutSeen
+  first_part = own_members c.own
+
+  abbrev second_part : List OutSeen
+  second_part = written gender_data c.standard_claims
+
+  abbrev third_part : List OutSeen
+  third_part = additional_out c.additional_claims
+
+  abbrev all : List SeenMember
+  all = map as_read (id_token_members additional_out gender_data c)
+
+  cut : all ≡ map as_read first_part ++ (map as_read second_part ++ map as_read third_part)
+  cut = map-append as_read first_part (second_part ++ third_part) ∙ ap (λ l. map as_read first_part ++ l) (map-append as_read second_part third_part)
+
+  kept_in : (test : List ℕ → Bool) → filter (λ m. test m.name) all
+      ≡ filter (λ m. test m.name) (map as_read first_part) ++ (filter (λ m. test m.name) (map as_read second_part) ++ filter (λ m. test m.name) (map as_read third_part))
+  kept_in test =
+      ap (filter (λ m. test m.name)) cut
+      ∙ filter-append (λ m. test m.name) (map as_read first_part) (map as_read second_part ++ map as_read third_part)
+      ∙ ap (λ l. filter (λ m. test m.name) (map as_read first_part) ++ l) (filter-append (λ m. test m.name) (map as_read second_part) (map as_read third_part))
+
+  thirds : are_neither third_part ≡ true
+  thirds =
+      neither_named third_part
+      (list_all-from_AllPass (λ m. not (is_own_field m.name)) third_part
+      (All-weaker (λ m. IsFalse (is_own_field m.name)) (λ m. not (is_own_field m.name) ≡ true) (λ m h. true_not (is_own_field m.name) h) third_part range.names))
+      (additional_stay c.additional_claims)
+
+  fields_kept : filter is_field all ≡ map as_read first_part
+  fields_kept =
+      kept_in is_own_field
+      ∙ (λ i. all_kept is_own_field first_part (fields_named c.own) i ++ (
+      none_kept is_own_field second_part (weaker (λ (m : OutSeen). standard_name m.name) (λ (m : OutSeen). not (is_own_field m.name)) (λ m h. standard_not_field m.name (is_own_field m.name) refl h) second_part (standard_named gender_data c.standard_claims)) i
+      ++ none_kept is_own_field third_part (weaker (λ (m : OutSeen). not (is_own_field m.name) && not (standard_name m.name)) (λ (m : OutSeen). not (is_own_field m.name)) (λ m h. (and_parts (not (is_own_field m.name)) (not (standard_name m.name)) h).0) third_part thirds) i
+      ))
+      ∙ append-nil (map as_read first_part)
+
+  standard_kept : filter is_standard all ≡ map as_read second_part
+  standard_kept =
+      kept_in standard_name
+      ∙ (λ i. none_kept standard_name first_part (weaker (λ (m : OutSeen). is_own_field m.name) (λ (m : OutSeen). not (standard_name m.name)) (λ m h. field_not_standard m.name h) first_part (fields_named c.own)) i ++ (
+      all_kept standard_name second_part (standard_named gender_data c.standard_claims) i
+      ++ none_kept standard_name third_part (weaker (λ (m : OutSeen). not (is_own_field m.name) && not (standard_name m.name)) (λ (m : OutSeen). not (standard_name m.name)) (λ m h. (and_parts (not (is_own_field m.name)) (not (standard_name m.name)) h).1) third_part thirds) i
+      ))
+      ∙ append-nil (map as_read second_part)
+
+  additional_kept : additional_members all ≡ map as_read third_part
+  additional_kept =
+      kept_in is_additional_claim
+      ∙ (λ i. none_kept is_additional_claim first_part (weaker (λ (m : OutSeen). is_own_field m.name) (λ (m : OutSeen). not (is_additional_claim m.name)) (λ m h. field_not_additional m.name h) first_part (fields_named c.own)) i ++ (
+      none_kept is_additional_claim second_part (weaker (λ (m : OutSeen). standard_name m.name) (λ (m : OutSeen). not (is_additional_claim m.name)) (λ m h. standard_not_additional m.name h) second_part (standard_named gender_data c.standard_claims)) i
+      ++ all_kept is_additional_claim third_part (weaker (λ (m : OutSeen). not (is_own_field m.name) && not (standard_name m.name)) (λ (m : OutSeen). is_additional_claim m.name) (λ m h. additional_by m.name ∙ h) third_part thirds) i
+      ))
+
+  pub values_stand : All (λ (m : OutSeen). MayStand m.value) (id_token_members additional_out gender_data c)
+  values_stand =
+      All-append (λ (m : OutSeen). MayStand m.value) first_part (second_part ++ third_part) (own_stand c.own range.expiration range.issue_time range.auth_time)
+      (All-append (λ (m : OutSeen). MayStand m.value) second_part third_part
+      (each_stands second_part (written_stands gender_data gender_there c.standard_claims range.standard_claims)) range.values)
+
+  own_there : own_of all ≡ Ok c.own
+  own_there =
+      sym (own_same all) ∙ ap own_of (fields_kept ∙ ap (map as_read) (written_as c.own))
+      ∙ own_back c.own range.issuer range.expiration range.issue_time range.auth_time
+
+  clean_own : first_by own_rule [] all ≡ None
+  clean_own =
+      passes_apart own_rule is_field rule_outside rule_narrowed all []
+      (ap (first_by own_rule []) (fields_kept ∙ ap (map as_read) (written_as c.own)) ∙ own_clean c.own range.issuer range.expiration range.issue_time range.auth_time)
+
+  additional_there : additional_read (additional_members all) ≡ Ok c.additional_claims
+  additional_there = ap additional_read additional_kept ∙ additional_back c.additional_claims (map as_read third_part) (outs_back third_part)
+
+  module _ (texts : All IsUtf8Member (id_token_members additional_out gender_data c)) where
+    standard_texts : All IsUtf8Member second_part
+    standard_texts = before IsUtf8Member second_part third_part (behind IsUtf8Member first_part (second_part ++ third_part) texts)
+
+    standard_split : members_of (object_text second_part) ≡ Some (map as_read second_part)
+    standard_split =
+        written_split_back second_part
+        (may_be_written second_part (each_stands second_part (written_stands gender_data gender_there c.standard_claims range.standard_claims)) standard_texts)
+
+    standard_read : claims_of gender_read (map as_read second_part) ≡ Ok c.standard_claims
+    standard_read =
+        same_some _ _ (sym (ap (option_map (claims_of gender_read)) standard_split) ∙ split_reads_back gender_read gender_data gender_back gender_there c.standard_claims range.standard_claims standard_texts)
+
+    standard_parts : (first_fault gender_read (map as_read second_part) ≡ None) × (faultless_claims gender_read (map as_read second_part) ≡ Ok c.standard_claims)
+    standard_parts = claims_by gender_read (first_fault gender_read (map as_read second_part)) (map as_read second_part) c.standard_claims standard_read
+
+    clean_standard : first_by (fault_at gender_read) [] all ≡ None
+    clean_standard =
+        passes_apart (fault_at gender_read) is_standard (fault_outside gender_read) (fault_narrowed gender_read) all []
+        (ap (first_by (fault_at gender_read) []) standard_kept ∙ standard_parts.0)
+
+    standard_there : faultless_claims gender_read all ≡ Ok c.standard_claims
+    standard_there = sym (standard_same gender_read all) ∙ ap (faultless_claims gender_read) standard_kept ∙ standard_parts.1
+
+    pub read_again : id_token_claims_of additional_read gender_read all ≡ Ok c
+    unfolding id_token_claims_of parts_in
+    read_again = rw (no_fault (id_token_rule gender_read) all (passes_both own_rule (fault_at gender_read) all [] clean_own clean_standard), own_there, standard_there, additional_there) refl
+
+    pub gives_claims : GivesClaims additional_read gender_read (id_token_members additional_out gender_data c) c
+    gives_claims =
+        ap (option_map (id_token_claims_of additional_read gender_read)) (written_split_back (id_token_members additional_out gender_data c) (may_be_written (id_token_members additional_out gender_data c) values_stand texts))
+        ∙ ap Some read_again
+
+  pub comes_back : ComesBack (id_token_claims_of additional_read gender_read) (id_token_members additional_out gender_data) c
+  comes_back = record { values = values_stand; same = read_again }

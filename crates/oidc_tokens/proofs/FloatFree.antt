@@ -1,0 +1,65 @@
+-- An ID token's own fields hold no float.
+use Rattle.std.proofs.Common.{◌≡◌, ℕ, ℤ, pos, negsuc, List, [], ◌∷◌, ◌++◌, map, Bool, true, false, ◌||◌, Option, None, Some, codes, refl, sym, ◌∙◌}
+use Rattle.std.proofs.lemmas.Bool.{false≢true}
+use Rattle.serde_json.specs.Data.{Data, string}
+use Rattle.serde_json.specs.Find.{of_integer, is_float}
+use Rattle.serde_json.specs.View.{items_of}
+use Rattle.serde_json.specs.Written.{has_float, items_have_float}
+use Rattle.oidc_members.specs.Seen.{OutSeen}
+use Rattle.oidc_members.specs.Write.{any_float}
+use Rattle.oidc_readers.specs.Moments.{seconds_of, seconds_data}
+use Rattle.oidc_readers.specs.Writing.{one_member, text_member, moment_member}
+use Rattle.oidc_tokens.specs.Header.{written_header}
+use Rattle.oidc_tokens.specs.OwnClaims.{SeenOwnClaims, texts_data, texts_member, own_members}
+
+not_or : (a b : Bool) → (a || b) ≡ false → (a ≡ false) × (b ≡ false)
+not_or false b h = (refl, h)
+not_or true b h = absurd (false≢true (sym h))
+
+nor : (a b : Bool) → a ≡ false → b ≡ false → (a || b) ≡ false
+nor a b h k = rw (h, k) refl
+
+pub free_append : (xs ys : List OutSeen) → any_float xs ≡ false → any_float ys ≡ false → any_float (xs ++ ys) ≡ false
+free_append [] ys h k = k
+free_append (x ∷ xs) ys h k =
+    let parts = not_or (has_float x.value) (any_float xs) h in nor (has_float x.value) (any_float (xs ++ ys)) parts.0 (free_append xs ys parts.1 k)
+
+integer_free : (z : ℤ) → is_float (of_integer z) ≡ false
+integer_free (pos n) = refl
+integer_free (negsuc n) = refl
+
+texts_free : (texts : List (List ℕ)) → items_have_float (items_of (map string texts)) ≡ false
+texts_free [] = refl
+texts_free (text ∷ texts) = texts_free texts
+
+one_free : (name : List ℕ) (value : Data) → has_float value ≡ false → any_float (one_member name value) ≡ false
+one_free name value h = nor (has_float value) false h refl
+
+text_free : (name : List ℕ) (o : Option (List ℕ)) → any_float (text_member name o) ≡ false
+text_free name None = refl
+text_free name (Some text) = refl
+
+moment_free : (name : List ℕ) (o : Option ℤ) → any_float (moment_member name o) ≡ false
+moment_free name None = refl
+moment_free name (Some moment) = one_free name (seconds_data moment) (integer_free (seconds_of moment))
+
+texts_member_free : (name : List ℕ) (o : Option (List (List ℕ))) → any_float (texts_member name o) ≡ false
+texts_member_free name None = refl
+texts_member_free name (Some texts) = one_free name (texts_data texts) (texts_free texts)
+
+pub own_free : (c : SeenOwnClaims) → any_float (own_members c) ≡ false
+own_free c =
+    free_append (one_member (codes "iss") (string c.issuer.text)) _ refl
+    (free_append (one_member (codes "aud") (texts_data c.audiences)) _ (one_free (codes "aud") (texts_data c.audiences) (texts_free c.audiences))
+    (free_append (one_member (codes "exp") (seconds_data c.expiration)) _ (one_free (codes "exp") (seconds_data c.expiration) (integer_free (seconds_of c.expiration)))
+    (free_append (one_member (codes "iat") (seconds_data c.issue_time)) _ (one_free (codes "iat") (seconds_data c.issue_time) (integer_free (seconds_of c.issue_time)))
+    (free_append (moment_member (codes "auth_time") c.auth_time) _ (moment_free (codes "auth_time") c.auth_time)
+    (free_append (text_member (codes "nonce") c.nonce) _ (text_free (codes "nonce") c.nonce)
+    (free_append (text_member (codes "acr") c.auth_context_ref) _ (text_free (codes "acr") c.auth_context_ref)
+    (free_append (texts_member (codes "amr") c.auth_method_refs) _ (texts_member_free (codes "amr") c.auth_method_refs)
+    (free_append (text_member (codes "azp") c.authorized_party) _ (text_free (codes "azp") c.authorized_party)
+    (free_append (text_member (codes "at_hash") c.access_token_hash) _ (text_free (codes "at_hash") c.access_token_hash) (text_free (codes "c_hash") c.code_hash))))))))))
+
+pub header_free : (text : List ℕ) (id : Option (List ℕ)) → any_float (written_header text id) ≡ false
+header_free text None = refl
+header_free text (Some id) = refl

@@ -1,0 +1,25 @@
+mod PartsOf
+mod Undotted
+mod Encoded
+mod Issued
+mod HeaderBack
+mod TokenBack
+mod ReadSteps
+mod Found
+mod Accepted
+mod TokenTypes
+mod Homes
+mod OneHome
+mod Passing
+mod Entries
+mod OwnRule
+mod OwnBack
+mod ClaimsBack
+mod FloatFree
+mod IssuedAccepted
+mod Causes
+mod IssuedToken
+mod Judged
+mod NeverMemory
+mod ReadFree
+pub mod Theorems

@@ -1,0 +1,36 @@
+-- No check of an ID token fails for want of memory.
+use Rattle.std.proofs.Common.{◌≡◌, ◌≢◌, ℕ, ℤ, Bool, true, false, List, [], ◌∷◌, Option, Some, ⊎_elim}
+use Rattle.std.specs.Prelude.{Result, Ok, Err, int_lt}
+use Rattle.std.specs.Str.{bytes_eq}
+use Rattle.oidc_keys.specs.declared.refusals.SignatureVerificationError.{SignatureVerificationError}
+use Rattle.oidc_keys.specs.declared.refusals.SignatureVerificationError.TheVariants as signature
+use Rattle.oidc_tokens.specs.declared.verification.refusals.ClaimsVerificationError.TheVariants.{Unsupported, InvalidIssuer, InvalidAudience, SignatureVerification, Expired, InvalidNonce, Memory}
+use Rattle.oidc_tokens.specs.Tokens.{SeenToken}
+use Rattle.oidc_tokens.specs.IdTokenClaims.{SeenIdTokenClaims}
+use Rattle.oidc_tokens.specs.Signatures.{KeyMeanings, SeenVerifier, verdict_on}
+use Rattle.oidc_tokens.specs.Verification.{is_supported, is_alone_in, unless, refused_as, first_of, first_failure}
+use Rattle.oidc_tokens.proofs.Causes.{failure_cause}
+
+never_by : (supported same alone : Bool) (said : Result (Unit {0}) SignatureVerificationError) (unexpired allowed : Bool)
+    → first_of (unless supported Unsupported ∷ unless same InvalidIssuer ∷ unless alone InvalidAudience ∷ refused_as SignatureVerification said ∷ unless unexpired Expired ∷ unless allowed InvalidNonce ∷ []) ≢ Some Memory
+never_by false same alone said unexpired allowed = λ e. cc
+never_by true false alone said unexpired allowed = λ e. cc
+never_by true true false said unexpired allowed = λ e. cc
+never_by true true true (Err refusal) unexpired allowed = λ e. cc
+never_by true true true (Ok u) false allowed = λ e. cc
+never_by true true true (Ok u) true false = λ e. cc
+never_by true true true (Ok u) true true = λ e. cc
+
+module _ {Key Use Algorithm Type' : Type 0} (k : KeyMeanings Key Use Algorithm Type') {JE AC GC : Type 0} where
+  pub never_memory : (v : SeenVerifier Key Algorithm) (allows : Option (List ℕ) → Bool) (now : ℤ) (token : SeenToken JE Algorithm (SeenIdTokenClaims AC GC)) → first_failure k v allows now token ≢ Some Memory
+  unfolding first_failure
+  never_memory v allows now token =
+      let own = token.payload.own in
+      never_by (is_supported token.header) (bytes_eq own.issuer.text v.issuer.text) (is_alone_in v.client_id own.audiences) (verdict_on k v token) (int_lt now own.expiration) (allows own.nonce)
+
+  -- where no verdict of a key is want of memory
+  pub never_memory_inside : ((key : Key) (alg : Algorithm) (message signature : List ℕ) → k.keys.verdict key alg message signature ≢ Err signature.Memory)
+      → (v : SeenVerifier Key Algorithm) (allows : Option (List ℕ) → Bool) (now : ℤ) (token : SeenToken JE Algorithm (SeenIdTokenClaims AC GC))
+      → first_failure k v allows now token ≢ Some (SignatureVerification signature.Memory)
+  never_memory_inside law v allows now token = λ h.
+      ⊎_elim (λ at_fault. at_fault) (λ says. law says.1 says.0 token.message token.signature says.4) (failure_cause k v allows now token (SignatureVerification signature.Memory) h)

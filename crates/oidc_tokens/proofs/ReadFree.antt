@@ -1,0 +1,129 @@
+-- A token that was read holds no float, where all additional claims are kept.
+use Rattle.std.proofs.Common.{◌≡◌, ℕ, List, [], ◌∷◌, map, Bool, true, false, cond, ◌||◌, Option, None, Some, Result, Ok, Err, refl, sym, ap, ◌∙◌, filter, is_some}
+use Rattle.std.specs.List.{list_any}
+use Rattle.std.specs.Prelude.{option_and_then}
+use Rattle.std.specs.Option.{option_flatten}
+use Rattle.std.specs.Result.{result_ok}
+use Rattle.std.proofs.lemmas.Bool.{true≢false}
+use Rattle.serde_json.specs.Find.{as_null}
+use Rattle.serde_json.specs.Written.{has_float}
+use Rattle.oidc_members.specs.Seen.{SeenMember}
+use Rattle.oidc_members.specs.Objects.{without_floats, loose_members_of, members_of, members_or_refusal, split_of}
+use Rattle.oidc_members.specs.Write.{any_float}
+use Rattle.oidc_members.specs.declared.refusal.Refusal.{Refusal}
+use Rattle.oidc_readers.specs.Kinds.{text_kind, there, or_null}
+use Rattle.oidc_readers.specs.Fields.{judged, own, first_value}
+use Rattle.oidc_readers.specs.Records.{◌>>=◌, faultless, optional}
+use Rattle.oidc_claims.specs.Additional.{out_of}
+use Rattle.oidc_claims.specs.Others.{Others, list_of, read_others}
+use Rattle.oidc_claims.proofs.Theorems.{all_kept}
+use Rattle.oidc_tokens.specs.Tokens.{SeenToken, parts_of, bytes_of, header_in, payload_in, contents_of, token_of}
+use Rattle.oidc_tokens.specs.IdTokenClaims.{SeenIdTokenClaims, additional_members, id_token_claims_of}
+use Rattle.oidc_tokens.specs.IdTokenFields.{SeenIdTokenFields, token_kind, id_token, response_fields_of}
+use Rattle.oidc_tokens.proofs.Homes.{additional_stay}
+use Rattle.oidc_tokens.proofs.OneHome.{accepted_parts}
+
+-- a step that gave a value stands on one
+first_step : {A B : Type 0} (o : Result A Refusal) (f : A → Result B Refusal) (y : B) → (o >>= f) ≡ Ok y → (x : A) × (o ≡ Ok x) × (f x ≡ Ok y)
+first_step (Ok x) f y h = (x, refl, h)
+first_step (Err refusal) f y h = absurd cc
+
+same_ok : {A : Type 0} (x y : A) → ◌≡◌ {A = Result A Refusal} (Ok x) (Ok y) → x ≡ y
+same_ok x y h = cc
+
+-- ---- an object that was split
+
+free_by : (members : List SeenMember) (has : Bool) (given : List SeenMember) → list_any (λ m. has_float m.value) members ≡ has → (cond has None (Some members)) ≡ Some given → list_any (λ m. has_float m.value) given ≡ false
+free_by members true given is h = absurd cc
+free_by members false given is h = let same : members ≡ given = cc h in ap (list_any (λ (m : SeenMember). has_float m.value)) (sym same) ∙ is
+
+loose_free : (loose : Option (List SeenMember)) (given : List SeenMember) → option_and_then without_floats loose ≡ Some given → list_any (λ m. has_float m.value) given ≡ false
+loose_free None given h = absurd cc
+loose_free (Some members) given h = free_by members (list_any (λ m. has_float m.value) members) given refl h
+
+members_free : (text : List ℕ) (given : List SeenMember) → members_of text ≡ Some given → list_any (λ m. has_float m.value) given ≡ false
+unfolding members_of
+members_free text given h = loose_free (loose_members_of text) given h
+
+split_by : (members loose : Option (List SeenMember)) (given : List SeenMember) → members_or_refusal members loose ≡ Ok given → members ≡ Some given
+split_by (Some members) loose given h = cc
+split_by None (Some loose) given h = absurd cc
+split_by None None given h = absurd cc
+
+split_free : (text : List ℕ) (given : List SeenMember) → split_of text ≡ Ok given → list_any (λ m. has_float m.value) given ≡ false
+unfolding split_of
+split_free text given h = members_free text given (split_by (members_of text) (loose_members_of text) given h)
+
+-- ---- some of its members
+
+nor_parts : (a b : Bool) → (a || b) ≡ false → (a ≡ false) × (b ≡ false)
+nor_parts false b h = (refl, h)
+nor_parts true b h = absurd (true≢false h)
+
+by_kept : (m : SeenMember) (ms : List SeenMember) (b : Bool) → has_float m.value ≡ false → any_float (map out_of ms) ≡ false → any_float (map out_of (cond b (m ∷ ms) ms)) ≡ false
+by_kept m ms true h k = rw (h, k) refl
+by_kept m ms false h k = k
+
+kept_free : (test : SeenMember → Bool) (ms : List SeenMember) → list_any (λ m. has_float m.value) ms ≡ false → any_float (map out_of (filter test ms)) ≡ false
+kept_free test [] h = refl
+kept_free test (m ∷ ms) h =
+    let parts = nor_parts (has_float m.value) (list_any (λ m. has_float m.value) ms) h in by_kept m (filter test ms) (test m) parts.0 (kept_free test ms parts.1)
+
+-- ---- a token
+
+module _ {JE JS P : Type 0} (encrypts : List ℕ → Option JE) (signs : List ℕ → Option JS) (payload_read : List SeenMember → Result P Refusal) where
+  payload_of : (text : List ℕ) (token : SeenToken JE JS P) → token_of encrypts signs payload_read text ≡ Ok token → (bytes : List ℕ) × (payload_in payload_read bytes ≡ Ok token.payload)
+  unfolding token_of contents_of
+  payload_of text token h =
+      let parts = first_step (parts_of text) _ token h in
+      let said = first_step (contents_of encrypts signs payload_read parts.0) _ token parts.2 in
+      let bytes = first_step (bytes_of parts.0) _ said.0 said.1 in
+      let header = first_step (header_in encrypts signs bytes.0.header) _ said.0 bytes.2 in
+      let payload = first_step (payload_in payload_read bytes.0.payload) _ said.0 header.2 in
+      (bytes.0.payload, payload.1 ∙ ap Ok (ap (λ s. s.payload) (same_ok _ said.0 payload.2) ∙ ap (λ t. t.payload) (same_ok _ token said.2)))
+
+  members_read : (text : List ℕ) (token : SeenToken JE JS P) → token_of encrypts signs payload_read text ≡ Ok token
+      → (members : List SeenMember) × (list_any (λ m. has_float m.value) members ≡ false) × (payload_read members ≡ Ok token.payload)
+  unfolding payload_in
+  members_read text token h =
+      let payload = payload_of text token h in
+      let split = first_step (split_of payload.0) payload_read token.payload payload.1 in
+      (split.0, split_free payload.0 split.0 split.1, split.2)
+
+module _ {JE JS GC : Type 0} (encrypts : List ℕ → Option JE) (signs : List ℕ → Option JS) (gender_read : SeenMember → Result GC Refusal) where
+  abbrev pub reads : List ℕ → Result (SeenToken JE JS (SeenIdTokenClaims Others GC)) Refusal
+  reads = token_of encrypts signs (id_token_claims_of read_others gender_read)
+
+  pub token_free : (text : List ℕ) (token : SeenToken JE JS (SeenIdTokenClaims Others GC)) → reads text ≡ Ok token → any_float (list_of token.payload.additional_claims) ≡ false
+  token_free text token h =
+      let read = members_read encrypts signs (id_token_claims_of read_others gender_read) text token h in
+      let parts = accepted_parts read_others gender_read read.0 token.payload read.2 in
+      let kept = all_kept (additional_members read.0) (additional_stay read.0) in
+      let same : kept.0 ≡ token.payload.additional_claims = same_ok kept.0 token.payload.additional_claims (sym kept.1 ∙ parts.2) in
+      ap any_float (ap list_of (sym same) ∙ kept.2) ∙ kept_free _ read.0 read.1
+
+  -- ---- a token response
+
+  null_by : (answer : Result (SeenToken JE JS (SeenIdTokenClaims Others GC)) Refusal) (null : Bool) (token : SeenToken JE JS (SeenIdTokenClaims Others GC))
+      → option_flatten (result_ok (cond null (Ok None) (there answer))) ≡ Some token → answer ≡ Ok token
+  null_by answer true token h = absurd cc
+  null_by (Ok given) false token h = cc
+  null_by (Err refusal) false token h = absurd cc
+
+  value_read : (ms : List SeenMember) (token : SeenToken JE JS (SeenIdTokenClaims Others GC)) → option_flatten (first_value (or_null (token_kind reads)) ms) ≡ Some token
+      → (text : List ℕ) × (reads text ≡ Ok token)
+  value_read [] token h = absurd cc
+  value_read (m ∷ ms) token h =
+      let answer = null_by (token_kind reads m) (is_some (as_null m.value)) token h in
+      let text = first_step (text_kind m) reads token answer in
+      (text.0, text.2)
+
+  pub response_free : {Extra : Type 0} (extra_read : List SeenMember → Result Extra Refusal) (members : List SeenMember) (fields : SeenIdTokenFields (SeenToken JE JS (SeenIdTokenClaims Others GC)) Extra)
+      (token : SeenToken JE JS (SeenIdTokenClaims Others GC)) → response_fields_of reads extra_read members ≡ Ok fields → fields.id_token ≡ Some token → any_float (list_of token.payload.additional_claims) ≡ false
+  unfolding response_fields_of
+  response_free extra_read members fields token h has =
+      let first = first_step (faultless (judged (id_token reads)) members) _ fields h in
+      let extra = first_step (extra_read members) _ fields first.2 in
+      let given : optional (id_token reads) members ≡ fields.id_token = ap (λ f. f.id_token) (same_ok _ fields extra.2) in
+      let text = value_read (own (id_token reads) members) token (given ∙ has) in
+      token_free text.0 token text.1

@@ -1,0 +1,43 @@
+-- The media types of tokens, with and without the prefix that may be left out.
+use Rattle.std.proofs.Common.{◌≡◌, ℕ, List, [], ◌∷◌, ◌++◌, Bool, true, false, ◌||◌, Some, refl, sym, ap, ◌∙◌, take, drop}
+use Rattle.std.proofs.lemmas.List.{take-append-drop}
+use Rattle.std.specs.Prelude.{codes, nat_eq, if◌then◌else◌, ◌↔◌}
+use Rattle.std.specs.List.{list_any, starts_with}
+use Rattle.std.specs.Str.{bytes_eq, str_to_ascii_lowercase}
+use Rattle.std.proofs.lemmas.Bool.{true≢false}
+use Rattle.std.proofs.lemmas.Slice.Eq.{bytes_eq-Decides}
+use Rattle.oidc_tokens.specs.Verification.{is_token_type}
+
+abbrev prefix : List ℕ
+prefix = codes "application/"
+
+abbrev short_names : List (List ℕ)
+short_names = codes "jwt" ∷ codes "jose" ∷ codes "jose+json" ∷ []
+
+abbrev pub names : List (List ℕ)
+names = codes "jwt" ∷ codes "jose" ∷ codes "jose+json" ∷ codes "application/jwt" ∷ codes "application/jose" ∷ codes "application/jose+json" ∷ []
+
+-- two tests of one fact agree
+pub agree : (b c : Bool) (P : Type 0) → (b ≡ true) ↔ P → (c ≡ true) ↔ P → b ≡ c
+agree true true P h k = refl
+agree true false P h k = sym (k.1 (h.0 refl))
+agree false true P h k = h.1 (k.0 refl)
+agree false false P h k = refl
+
+begins : (text : List ℕ) → starts_with nat_eq text prefix ≡ true → text ≡ prefix ++ drop 12 text
+begins text h = sym (take-append-drop 12 text) ∙ ap (λ t. t ++ drop 12 text) (sym ((bytes_eq-Decides prefix (take 12 text)).0 h))
+
+other : (text rest : List ℕ) (b : Bool) → bytes_eq text (prefix ++ rest) ≡ b → starts_with nat_eq text prefix ≡ false → b ≡ false
+other text rest true is h =
+    absurd (true≢false (sym (ap (λ t. starts_with nat_eq t prefix) ((bytes_eq-Decides text (prefix ++ rest)).0 is)) ∙ h))
+other text rest false is h = refl
+
+by_prefix : (text : List ℕ) (b : Bool) → starts_with nat_eq text prefix ≡ b
+    → list_any (λ name. bytes_eq text name) names ≡ list_any (bytes_eq (if b then drop 12 text else text)) short_names
+by_prefix text true h =
+    ap (λ t. list_any (λ name. bytes_eq t name) names) (begins text h)
+by_prefix text false h =
+    rw (other text (codes "jwt") _ refl h, other text (codes "jose") _ refl h, other text (codes "jose+json") _ refl h) refl
+
+pub token_types : (typ : List ℕ) → list_any (λ name. bytes_eq (str_to_ascii_lowercase typ) name) names ≡ is_token_type (Some typ)
+token_types typ = by_prefix (str_to_ascii_lowercase typ) _ refl

@@ -1,0 +1,14 @@
+use Rattle.std.proofs.Common.{Ok}
+use Rattle.oidc_readers.specs.Records.{◌>>=◌}
+use Rattle.oidc_claims.specs.Standard.{faultless_claims}
+use Rattle.oidc_tokens.specs.OwnClaims.{own_of}
+use Rattle.oidc_tokens.specs.IdTokenClaims.{additional_members, parts_in}
+use Rattle.oidc_tokens.proofs.ReadSteps.{stops, gives}
+use Rattle.oidc_tokens.proofs.id_token.claims.IdTokenClaims.finish.Goals as goal
+
+pub returns-in-Err : goal.returns-in-Err
+unfolding parts_in
+returns-in-Err g c =
+    stops (own_of c.args.members.now)
+    (λ own. faultless_claims g.GC.GenderClaim.read_of c.args.members.now >>= λ standard. g.AC.AdditionalClaims.read_of (additional_members c.args.members.now) >>= λ additional. Ok (record { own = own; standard_claims = standard; additional_claims = additional }))
+    c.in-Err.error c.in-Err.ensures

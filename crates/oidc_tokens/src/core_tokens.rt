@@ -1,0 +1,34 @@
+//! The types of this crate at the program's own keys, algorithms and claims.
+
+use crate::id_token::{IdToken, IdTokenClaims, IdTokenFields};
+use crate::verification::IdTokenVerifier;
+use oidc_claims::EmptyAdditionalClaims;
+use oidc_keys::CoreJsonWebKey;
+use oidc_oauth2::{CoreTokenType, EmptyExtraTokenFields, StandardTokenResponse};
+use oidc_types::{CoreGenderClaim, CoreJweContentEncryptionAlgorithm, CoreJwsSigningAlgorithm};
+
+/// An ID token without additional claims.
+pub type CoreIdToken = IdToken<
+    EmptyAdditionalClaims,
+    CoreGenderClaim,
+    CoreJweContentEncryptionAlgorithm,
+    CoreJwsSigningAlgorithm,
+>;
+
+/// The claims of such a token.
+pub type CoreIdTokenClaims = IdTokenClaims<EmptyAdditionalClaims, CoreGenderClaim>;
+
+/// The ID token of a token response without further fields.
+pub type CoreIdTokenFields = IdTokenFields<
+    EmptyAdditionalClaims,
+    EmptyExtraTokenFields,
+    CoreGenderClaim,
+    CoreJweContentEncryptionAlgorithm,
+    CoreJwsSigningAlgorithm,
+>;
+
+/// A verifier over symmetric keys.
+pub type CoreIdTokenVerifier<'a> = IdTokenVerifier<'a, CoreJsonWebKey>;
+
+/// A token response with such an ID token.
+pub type CoreTokenResponse = StandardTokenResponse<CoreIdTokenFields, CoreTokenType>;

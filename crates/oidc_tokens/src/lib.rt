@@ -1,0 +1,51 @@
+//! JSON Web Tokens and ID tokens: read, issued and verified.
+//!
+//! - [`JsonWebToken`] is a token in the compact serialization (RFC 7515 section 7.1, RFC 7519 section
+//!   3), over any [`Payload`]. [`TokenHeader`] is its header.
+//! - [`IdToken`] is one whose payload is [`IdTokenClaims`] (OpenID Connect Core 1.0 section 2): fields of
+//!   its own, the standard claims, and additional claims of a caller's type.
+//! - [`IdTokenVerifier`] is what a client expects of an ID token. [`IdToken::claims`] gives the claims
+//!   where the verifier accepts the token (section 3.1.3.7), else the first check that fails.
+//! - [`IdToken::new`] issues a token. [`from_token`] and [`from_code`] are the hashes of an access token
+//!   and of a code that it may hold (sections 3.1.3.6 and 3.3.2.11).
+//! - [`IdTokenFields`] are the fields of a token response that may hold an ID token, and [`TokenResponse`]
+//!   is such a response (section 3.1.3.3).
+//! - [`laws`] says what holds of ID tokens as a whole.
+//!
+//! What it promises. A text is read exactly as `token_of` says, with the refusal that comes first: the
+//! text's, the header's, the payload's. The message that is signed is the first two parts as they stand.
+//! Claims are read in one pass, each member judged against all that stand before it, as
+//! `id_token_claims_of` says. `IdToken::claims` is Ok only for tokens that `Accepts` holds of, and for each
+//! of them, want of memory aside; a refusal is the first check that fails. A token that is issued with
+//! claims in range is read back as it is, and whoever expects its claims accepts it. All of this holds of
+//! every lawful type of keys, algorithms and claims. Want of memory is a variant `Memory` of its own, or
+//! the one error of a call that answers an `AllocError`, and no clause says when it comes.
+//!
+//! Nothing is promised of time, nor that a signature can't be forged: acceptance rests on the key's own
+//! verdict. What holds tokens or claims has no `Debug`.
+#![tactic(auto)]
+
+pub mod core_tokens;
+pub mod hashes;
+pub mod header;
+pub mod id_token;
+pub mod jwt;
+pub mod laws;
+mod members;
+mod parts;
+pub mod payload;
+pub mod token;
+pub mod verification;
+
+pub use crate::core_tokens::{
+    CoreIdToken, CoreIdTokenClaims, CoreIdTokenFields, CoreIdTokenVerifier, CoreTokenResponse,
+};
+pub use crate::hashes::{from_code, from_token};
+pub use crate::header::{JsonWebTokenAlgorithm, TokenHeader};
+pub use crate::id_token::{IdToken, IdTokenClaims, IdTokenFields};
+pub use crate::jwt::{JsonWebToken, JsonWebTokenError};
+pub use crate::payload::Payload;
+pub use crate::token::TokenResponse;
+pub use crate::verification::{
+    AudiencesClaim, ClaimsVerificationError, IdTokenVerifier, IssuerClaim, NonceVerifier,
+};
