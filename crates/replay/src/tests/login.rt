@@ -258,13 +258,16 @@ fn login_over_closure(alloc: Global, is_up: bool) -> Result<String, Fail> {
     Ok(format!(in alloc; "{line} {}", http.faults())?)
 }
 
+// Whether the closure answers, and the line.
+static CLOSURES: [(bool, &str); 2] = [
+    (true, "true false u1 POST https://example/aaaaa true 0"),
+    (false, "true false no tokens: the request failed; true 1"),
+];
+
 #[test]
 fn callbacks_over_closures(rt: HostRuntime) -> Result<(), Fail> {
-    for (is_up, want) in [
-        (true, "true false u1 POST https://example/aaaaa true 0"),
-        (false, "true false no tokens: the request failed; true 1"),
-    ] {
-        assert_eq!(rt; login_over_closure(rt.alloc(), is_up)?.as_str(), want);
+    for (is_up, want) in &CLOSURES {
+        assert_eq!(rt; login_over_closure(rt.alloc(), *is_up)?.as_str(), *want);
     }
     Ok(())
 }
@@ -297,14 +300,16 @@ fn refusal_line(alloc: Global, memory: Option<bool>) -> Result<String, AllocErro
     refusal(alloc, &error)
 }
 
+static REFUSALS: [(Option<bool>, &str); 3] = [
+    (None, "the query names no pending login; false"),
+    (Some(false), "out of memory; false"),
+    (Some(true), "out of memory; true"),
+];
+
 #[test]
 fn refusals_say_whether_the_login_is_gone(rt: HostRuntime) -> Result<(), Fail> {
-    for (memory, want) in [
-        (None, "the query names no pending login; false"),
-        (Some(false), "out of memory; false"),
-        (Some(true), "out of memory; true"),
-    ] {
-        assert_eq!(rt; refusal_line(rt.alloc(), memory)?.as_str(), want);
+    for (memory, want) in &REFUSALS {
+        assert_eq!(rt; refusal_line(rt.alloc(), *memory)?.as_str(), *want);
     }
     Ok(())
 }

@@ -141,16 +141,18 @@ fn written(alloc: Global, members: &[(&str, &str)]) -> Result<Vec<u8>, Fail> {
 
 // No members, a name that stands twice, and floats, of whose digits no clause speaks: as Python's
 // `json.dumps` with `separators=(',', ':')` writes them.
+static WRITTEN: [(&[(&str, &str)], &str); 3] = [
+    (&[], "{}"),
+    (&[("a", "2"), ("a", " 1 ")], "{\"a\":2,\"a\":1}"),
+    (
+        &[("a", "1.5"), ("b", "[-0.25]")],
+        "{\"a\":1.5,\"b\":[-0.25]}",
+    ),
+];
+
 #[test]
 fn members_are_written_in_order(rt: HostRuntime) -> Result<(), Fail> {
-    for (members, want) in [
-        ([].as_slice(), "{}"),
-        (&[("a", "2"), ("a", " 1 ")], "{\"a\":2,\"a\":1}"),
-        (
-            &[("a", "1.5"), ("b", "[-0.25]")],
-            "{\"a\":1.5,\"b\":[-0.25]}",
-        ),
-    ] {
+    for (members, want) in &WRITTEN {
         assert_eq!(rt; written(rt.alloc(), members)?.as_slice(), want.as_bytes());
     }
     Ok(())
@@ -169,13 +171,15 @@ fn printed(alloc: Global, kind: ParseKind, field: &str) -> Result<String, Fail> 
     Ok(format!(in alloc; "{error}")?)
 }
 
+static REFUSALS: [(ParseKind, &str, &str); 2] = [
+    (ParseKind::Missing, "sub", "a missing member: `sub`"),
+    (ParseKind::Syntax, "", "no JSON object"),
+];
+
 #[test]
 fn refusals_name_their_field(rt: HostRuntime) -> Result<(), Fail> {
-    for (kind, field, want) in [
-        (ParseKind::Missing, "sub", "a missing member: `sub`"),
-        (ParseKind::Syntax, "", "no JSON object"),
-    ] {
-        assert_eq!(rt; printed(rt.alloc(), kind, field)?.as_str(), want);
+    for (kind, field, want) in &REFUSALS {
+        assert_eq!(rt; printed(rt.alloc(), *kind, field)?.as_str(), *want);
     }
     Ok(())
 }

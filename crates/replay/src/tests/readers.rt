@@ -45,18 +45,20 @@ fn passed(alloc: Global, text: &str) -> Result<String, Fail> {
     }
 }
 
+static PASSED: [(&str, &str); 4] = [
+    ("{}", "read"),
+    (r#"{"a":1,"a":2}"#, "read"),
+    (
+        r#"{"a":1,"x":2,"b":3,"x":4}"#,
+        "member 1: a member that stands twice: `x`",
+    ),
+    (r#"{"x":1}"#, "member 0: a member that stands twice: `x`"),
+];
+
 #[test]
 fn first_faulty_place_is_answered(rt: HostRuntime) -> Result<(), Fail> {
-    for (text, want) in [
-        ("{}", "read"),
-        (r#"{"a":1,"a":2}"#, "read"),
-        (
-            r#"{"a":1,"x":2,"b":3,"x":4}"#,
-            "member 1: a member that stands twice: `x`",
-        ),
-        (r#"{"x":1}"#, "member 0: a member that stands twice: `x`"),
-    ] {
-        assert_eq!(rt; passed(rt.alloc(), text)?.as_str(), want, "{text}");
+    for (text, want) in &PASSED {
+        assert_eq!(rt; passed(rt.alloc(), text)?.as_str(), *want, "{text}");
     }
     Ok(())
 }
@@ -88,30 +90,32 @@ fn page_line(alloc: Global, text: &str) -> Result<String, Fail> {
     }
 }
 
+static PAGES: [(&str, &str); 10] = [
+    (r#"{"number":7}"#, "7"),
+    (r#"{"number":7,"title":"A","other":[1]}"#, "7 A"),
+    (r#"{"name":"A","number":7}"#, "7 A"),
+    (r#"{"number":7,"title":null}"#, "7"),
+    (r#"{"title":"A"}"#, "a missing member: `number`"),
+    (
+        r#"{"number":7,"number":7}"#,
+        "a member that stands twice: `number`",
+    ),
+    (
+        r#"{"title":null,"number":7,"name":"A"}"#,
+        "a member that stands twice: `name`",
+    ),
+    (r#"{"number":null}"#, "a value of the wrong type: `number`"),
+    (r#"{"number":-1}"#, "a value of the wrong type: `number`"),
+    (
+        r#"{"number":7,"title":5}"#,
+        "a value of the wrong type: `title`",
+    ),
+];
+
 #[test]
 fn record_is_read_by_its_slots(rt: HostRuntime) -> Result<(), Fail> {
-    for (text, want) in [
-        (r#"{"number":7}"#, "7"),
-        (r#"{"number":7,"title":"A","other":[1]}"#, "7 A"),
-        (r#"{"name":"A","number":7}"#, "7 A"),
-        (r#"{"number":7,"title":null}"#, "7"),
-        (r#"{"title":"A"}"#, "a missing member: `number`"),
-        (
-            r#"{"number":7,"number":7}"#,
-            "a member that stands twice: `number`",
-        ),
-        (
-            r#"{"title":null,"number":7,"name":"A"}"#,
-            "a member that stands twice: `name`",
-        ),
-        (r#"{"number":null}"#, "a value of the wrong type: `number`"),
-        (r#"{"number":-1}"#, "a value of the wrong type: `number`"),
-        (
-            r#"{"number":7,"title":5}"#,
-            "a value of the wrong type: `title`",
-        ),
-    ] {
-        assert_eq!(rt; page_line(rt.alloc(), text)?.as_str(), want, "{text}");
+    for (text, want) in &PAGES {
+        assert_eq!(rt; page_line(rt.alloc(), text)?.as_str(), *want, "{text}");
     }
     Ok(())
 }

@@ -167,19 +167,46 @@ fn count_of_fitting<K: JsonWebKey>(
         .count()
 }
 
-// Keys with a use and an id: one for signatures, one for encryption, one for anything, and one for
-// neither.
+// What a toy is for.
+#[derive(Clone, Copy)]
+enum Purpose {
+    Signature,
+    Encryption,
+    Anything,
+    Neither,
+}
+
+// A use whose text is that of signatures is none of theirs.
+fn use_of(alloc: Global, purpose: Purpose) -> Result<Option<CoreJsonWebKeyUse>, AllocError> {
+    match purpose {
+        Purpose::Signature => Ok(Some(CoreJsonWebKeyUse::Signature)),
+        Purpose::Encryption => Ok(Some(CoreJsonWebKeyUse::Encryption)),
+        Purpose::Anything => Ok(None),
+        Purpose::Neither => {
+            let text = FieldName::new(String::from_str(alloc, "sig")?);
+            Ok(Some(CoreJsonWebKeyUse::Other(text)))
+        }
+    }
+}
+
+fn toy_key(alloc: Global, byte: u8, purpose: Purpose, id: &str) -> Result<ToyRsaKey, AllocError> {
+    let id = JsonWebKeyId::new(String::from_str(alloc, id)?);
+    let purpose = use_of(alloc, purpose)?;
+    let id = Some(id);
+    Ok(ToyRsaKey { byte, purpose, id })
+}
+
+static TOYS: [(u8, Purpose, &str); 4] = [
+    (1, Purpose::Signature, "a"),
+    (2, Purpose::Encryption, "a"),
+    (3, Purpose::Anything, "b"),
+    (4, Purpose::Neither, "b"),
+];
+
 fn toy_keys(alloc: Global) -> Result<JsonWebKeySet<ToyRsaKey>, AllocError> {
     let mut keys = Vec::new(alloc);
-    let neither = CoreJsonWebKeyUse::Other(FieldName::new(String::from_str(alloc, "sig")?));
-    for (byte, purpose, id) in [
-        (1, Some(CoreJsonWebKeyUse::Signature), "a"),
-        (2, Some(CoreJsonWebKeyUse::Encryption), "a"),
-        (3, None, "b"),
-        (4, Some(neither), "b"),
-    ] {
-        let id = Some(JsonWebKeyId::new(String::from_str(alloc, id)?));
-        keys.push(ToyRsaKey { byte, purpose, id })?;
+    for (byte, purpose, id) in &TOYS {
+        keys.push(toy_key(alloc, *byte, *purpose, id)?)?;
     }
     Ok(JsonWebKeySet::new(keys))
 }
@@ -227,15 +254,17 @@ fn counts_of(alloc: Global, id: Option<&str>) -> Result<(usize, usize, usize), A
     ))
 }
 
+static COUNTS: [(Option<&str>, (usize, usize, usize)); 4] = [
+    (None, (2, 0, 1)),
+    (Some("a"), (1, 0, 0)),
+    (Some("b"), (1, 0, 0)),
+    (Some("bilbo_baggins"), (0, 0, 1)),
+];
+
 #[test]
 fn keys_are_found_by_type_use_and_id(rt: HostRuntime) -> Result<(), Fail> {
-    for (id, want) in [
-        (None, (2, 0, 1)),
-        (Some("a"), (1, 0, 0)),
-        (Some("b"), (1, 0, 0)),
-        (Some("bilbo_baggins"), (0, 0, 1)),
-    ] {
-        assert_eq!(rt; counts_of(rt.alloc(), id)?, want);
+    for (id, want) in &COUNTS {
+        assert_eq!(rt; counts_of(rt.alloc(), *id)?, *want);
     }
     Ok(())
 }
