@@ -25,14 +25,18 @@ fn object_text(alloc: Global, members: &[OutMember]) -> Result<String, Fail> {
     Ok(String::from_utf8(text).map_err(|_| Fail::from("not a text"))?)
 }
 
+fn written<GC: GenderClaim>(alloc: Global, claims: &StandardClaims<GC>) -> Result<String, Fail> {
+    let members = write_standard(alloc, claims)?;
+    object_text(alloc, members.as_slice())
+}
+
 // A copy of the claims, written.
 fn written_copy<GC: GenderClaim>(
     alloc: Global,
     claims: &StandardClaims<GC>,
 ) -> Result<String, Fail> {
     let copy = claims.clone_in(alloc)?;
-    let members = write_standard(alloc, &copy)?;
-    object_text(alloc, members.as_slice())
+    written(alloc, &copy)
 }
 
 // The claims of an object, copied and written, or the place, the kind and the field of a refusal.

@@ -6,12 +6,12 @@ ghost use Rattle.std.specs.Str.{bytes_eq};
 ghost use Rattle.oidc_members.specs.declared.refusal.ParseKind.TheVariants.{Duplicate};
 
 use jiff::Timestamp;
-use oidc_members::{FieldName, Member, Members, ParseError, ParseKind, write_object};
+use oidc_members::{FieldName, Member, Members, OutMember, ParseError, ParseKind, write_object};
 use oidc_readers::{
     MemberReader, Once, PlacedError, put_optional_moment, put_optional_text, put_optional_whole,
     put_text, read_members, refused,
 };
-use std::alloc::Global;
+use std::alloc::{AllocError, Global};
 use std::test::Fail;
 
 // Refuses each member named `x`.
@@ -120,13 +120,18 @@ fn record_is_read_by_its_slots(rt: HostRuntime) -> Result<(), Fail> {
     Ok(())
 }
 
-fn written(alloc: Global, moment: Option<Timestamp>) -> Result<Vec<u8>, Fail> {
+// Adds a text, one that is absent, and a whole number.
+fn put_others(alloc: Global, out: &mut Vec<OutMember>) -> Result<(), AllocError> {
+    put_text(alloc, out, "text", "A")?;
+    put_optional_text(alloc, out, "absent", None)?;
+    put_optional_whole(alloc, out, "whole", Some(5))
+}
+
+fn written(alloc: Global, moment: Option<Timestamp>) -> Result<Vec<u8>, AllocError> {
     let mut out = Vec::new(alloc);
-    put_text(alloc, &mut out, "text", "A")?;
-    put_optional_text(alloc, &mut out, "absent", None)?;
-    put_optional_whole(alloc, &mut out, "whole", Some(5))?;
+    put_others(alloc, &mut out)?;
     put_optional_moment(alloc, &mut out, "moment", moment)?;
-    Ok(write_object(alloc, &out)?)
+    write_object(alloc, &out)
 }
 
 // A nanosecond before 1970 is within the second before it.

@@ -307,11 +307,21 @@ temporarily_unavailable|unauthorized_client|unsupported_response_type|\
 invalid_client_metadata|invalid_redirect_uri|query|fragment|form_post|code|id_token|\
 token|pairwise|public||Native|native |web\0|ünknown";
 
+/// Whether a word prints this text.
+fn prints<W: Copied>(alloc: Global, word: &W, text: &str) -> Result<bool, AllocError> {
+    Ok(format!(in alloc; "{word}")?.as_str() == text)
+}
+
+/// Whether it equals its copy.
+fn is_copied<W: Copied>(alloc: Global, word: &W) -> Result<bool, AllocError> {
+    Ok(word.copied(alloc)? == *word)
+}
+
 /// Whether the word of a text prints it, and equals its copy.
 fn is_kept<W: Copied>(alloc: Global, text: &str) -> Result<bool, AllocError> {
     let word = W::from_str(String::from_str(alloc, text)?);
-    let printed = format!(in alloc; "{word}")?;
-    Ok(printed.as_str() == text && word.as_ref() == text && word.copied(alloc)? == word)
+    let is_printed = word.as_ref() == text && prints(alloc, &word, text)?;
+    Ok(is_printed && is_copied(alloc, &word)?)
 }
 
 /// Whether each of the texts is kept.
