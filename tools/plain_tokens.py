@@ -7,46 +7,32 @@
 It is a second reader, verifier and issuer beside oidc_tokens, over Python's json, base64, hashlib and hmac:
 RFC 7515 sections 2, 4.1, 5 and 7.1, RFC 7518 section 3.1, RFC 7519 sections 5 and 7, OpenID Connect Core 1.0
 sections 2, 3.1.3.3, 3.1.3.6, 3.1.3.7, 3.3.2.11, 5.1, 5.2 and 10.1. Each member of an object is judged by
-looking back at all that stand before it. It takes URLs as plain_answers.py does.
+looking back at all that stand before it. It takes URLs as they are written, so it is right where these are
+written as the URL Standard writes them. Scripts are judged by plain_answers.py, which stands on this one.
 """
 import base64
 import hashlib
 import hmac
+import json
 import re
 import sys
 from collections import namedtuple
 
-import plain_answers
 import plain_claims
-from plain_answers import NoCase, Refused, form, ok, pairs, read_case
+from plain_records import (
+    TOKENS, NoCase, Refused, answer_by, answer_of, cut_scopes, is_text, members_of, moment_fault, ok, read_case,
+    text_fault, text_or_texts_fault, texts_fault, there, token_type_of, tokens_in, tokens_of, url_fault,
+)
 
 Token = namedtuple("Token", "header members message signature")
 Key = namedtuple("Key", "kind use id signature")
 
-# ---- kinds of values: what a value is refused for
+# ---- algorithms
 
-
-def is_text(value):
-    return isinstance(value, str)
-
-
-def text_fault(value):
-    return None if is_text(value) else "type"
-
-
-def texts_fault(value):
-    is_array = isinstance(value, list) and not isinstance(value, plain_claims.Object)
-    return None if is_array and all(map(is_text, value)) else "type"
-
-
-def text_or_texts_fault(value):
-    return None if is_text(value) else texts_fault(value)
-
-
-def moment_fault(value):
-    if isinstance(value, bool) or not isinstance(value, int):
-        return "type"
-    return None if plain_claims.FIRST <= value <= plain_claims.LAST else "moment"
+KEY_TYPES = {"HS": "oct", "RS": "RSA", "PS": "RSA", "ES": "EC"}
+SIGNING = [family + size for family in ("HS", "RS", "ES", "PS") for size in ("256", "384", "512")]
+SIGNING += ["EdDSA", "none"]
+CONTENT_ENCRYPTION = ["A128CBC-HS256", "A192CBC-HS384", "A256CBC-HS512", "A128GCM", "A192GCM", "A256GCM"]
 
 
 def algorithm_fault(value):
@@ -56,11 +42,6 @@ def algorithm_fault(value):
 
 
 # ---- tables: each field's kind, and whether a null stands for no value
-
-KEY_TYPES = {"HS": "oct", "RS": "RSA", "PS": "RSA", "ES": "EC"}
-SIGNING = [family + size for family in ("HS", "RS", "ES", "PS") for size in ("256", "384", "512")]
-SIGNING += ["EdDSA", "none"]
-CONTENT_ENCRYPTION = ["A128CBC-HS256", "A192CBC-HS384", "A256CBC-HS512", "A128GCM", "A192GCM", "A256GCM"]
 
 HEADER = {
     "alg": (algorithm_fault, False),
@@ -72,7 +53,7 @@ HEADER = {
 
 # In the order in which they are written.
 OWN = {
-    "iss": (plain_answers.url_fault, False),
+    "iss": (url_fault, False),
     "aud": (text_or_texts_fault, False),
     "exp": (moment_fault, False),
     "iat": (moment_fault, False),
@@ -113,16 +94,6 @@ def check_there(members, needed):
         names = (name, name + "#") if name == "sub" else (name,)
         if not any(member.name in names for member in members):
             raise Refused("missing", name)
-
-
-def members_of(text):
-    """The members of an object's bytes."""
-    try:
-        return plain_claims.members_of(text.decode("utf-8"))
-    except UnicodeDecodeError:
-        raise Refused("syntax") from None
-    except plain_claims.Refused as refused:
-        raise Refused(*refused.args[1:]) from None
 
 
 def value_of(members, name):
@@ -236,6 +207,12 @@ def signature_failure(client, header, message, signature):
     return None if fitting[0].signature == signature else "crypto_error"
 
 
+def fits_hash(token, access_token):
+    """Whether a token has no `at_hash`, or that of this access token."""
+    claimed = own_of(token.members).get("at_hash")
+    return claimed is None or claimed == half_hash(token.header["alg"], access_token)
+
+
 def is_supported(header):
     kind = header.get("typ", "jwt")
     kind = "".join(c.lower() if c.isascii() else c for c in kind).removeprefix("application/")
@@ -263,16 +240,6 @@ def first_failure(client, nonce, now, token):
 # ---- cases
 
 
-def refused_if_unread(operation):
-    def answer(line):
-        try:
-            return operation(line)
-        except Refused as refused:
-            return "refused " + refused.words.removeprefix("parse ")
-    return answer
-
-
-@refused_if_unread
 def header(line):
     found = header_of(read_case(line, {"text"})[0]["text"].encode())
     if "crit" in found:
@@ -280,14 +247,12 @@ def header(line):
     return ok(list(found.items()))
 
 
-@refused_if_unread
 def id_claims(line):
     members = claim_members(read_case(line, {"text"})[0]["text"].encode())
     additional = plain_claims.written_object(additional_of(members))
     return ok([("written", written(members)), ("additional", additional)])
 
 
-@refused_if_unread
 def token(line):
     text = read_case(line, {"text"})[0]["text"]
     read = token_of(text)
@@ -317,7 +282,7 @@ def now_in(text):
 
 def verify(line):
     found, keys = read_case(line, {"token", "id", "issuer", "nonce", "now"}, {"secret", "algs"}, "key")
-    if plain_answers.url_fault(found["issuer"]):
+    if url_fault(found["issuer"]):
         raise NoCase
     algs = found.get("algs", "RS256")
     client = {"id": found["id"], "issuer": found["issuer"], "secret": found.get("secret"),
@@ -359,7 +324,7 @@ def issue(line):
     return ok([("token", issued(members, found["secret"], alg, hashes))])
 
 
-# ---- token responses with an ID token
+# ---- token responses, with an ID token or without
 
 
 def token_fault(value):
@@ -372,61 +337,40 @@ def token_fault(value):
 ID_TOKEN = [("id_token", token_fault, False)]
 
 
-def without_extra(line):
-    """The line without the pair that asks for an ID token."""
-    if plain_answers.values(pairs(line), "extra") != ["id_token"]:
+def further_in(found):
+    """The extra fields that a case asks for."""
+    if found.get("extra", "id_token") != "id_token":
         raise NoCase
-    return form([pair for pair in pairs(line) if pair != ("extra", "id_token")])
+    return ID_TOKEN if "extra" in found else []
 
 
-def with_token(found, answer):
-    """An answer that shows tokens, with the ID token behind the fields of the standard."""
-    text = found.get("id_token")
-    if text is None:
-        return answer
-    of = pairs(answer.removeprefix("ok "))
-    behind = ',"id_token":"' + text + '"}'
-    return ok([(name, value[:-1] + behind if name == "written" else value) for name, value in of])
+def written_tokens(found):
+    found = {**found, "token_type": token_type_of(found["token_type"])}
+    shown = dict(there(found, [field for field, _, _ in TOKENS + ID_TOKEN]))
+    return json.dumps(shown, separators=(",", ":"), ensure_ascii=False)
 
 
-@refused_if_unread
 def token_response(line):
-    if not any(name == "extra" for name, _ in pairs(line)):
-        return plain_answers.token_response(line)
-    plain = without_extra(line)
-    answer = plain_answers.token_response(plain)
-    of = plain_answers.members(read_case(plain, {"text"})[0]["text"].encode())
-    return with_token(plain_answers.record(of, ID_TOKEN), answer)
+    case, _ = read_case(line, {"text"}, {"extra"})
+    found = tokens_of(members_of(case["text"].encode()), further_in(case))
+    span = [("expires_in", str(value)) for _, value in there(found, ["expires_in"])]
+    return ok([("written", written_tokens(found))] + span + cut_scopes(found))
 
 
 def token_answer(line):
-    if not any(name == "extra" for name, _ in pairs(line)):
-        return plain_answers.token_answer(line)
-    plain = without_extra(line)
-    answer = plain_answers.token_answer(plain)
-    if not answer.startswith("ok"):
-        return answer
-    try:
-        of = plain_answers.members(read_case(plain, {"status", "body"}, {"type"})[0]["body"].encode())
-        return with_token(plain_answers.record(of, ID_TOKEN), answer)
-    except Refused as refused:
-        return "refused " + refused.words
+    case, _ = read_case(line, {"status", "body"}, {"type", "extra"})
+    further = further_in(case)
+    answer = answer_of({"token_" + name: value for name, value in case.items() if name != "extra"})
+    if answer is None:
+        raise NoCase
+    found, refusal = tokens_in(*answer[1], further)
+    if refusal:
+        return "refused " + refusal.removeprefix("token ").removesuffix(" token_answer")
+    return ok([("written", written_tokens(found))])
 
 
 OPERATIONS = {"header": header, "id_claims": id_claims, "token": token, "verify": verify, "hash": hash_answer,
               "issue": issue, "token_response": token_response, "token_answer": token_answer}
-
-
-def answer_line(line):
-    """The answer of a case of one of these operations; any other line as it came."""
-    operation = OPERATIONS.get(re.split("[=&]", line + "=")[1]) if line.startswith("op=") else None
-    if operation is None:
-        return line
-    try:
-        return operation(line)
-    except NoCase:
-        return "no case"
-
 
 # ---- generated cases
 
@@ -436,7 +380,7 @@ URLS = ['"https://a"', '"https://a/"', '"a"', "1", "null"]
 MOMENTS = ["2000", "1999", "253402207200", "253402207201", "-377705023201", "-377705023202", '"2000"', "null"]
 TEXTS = ['"a"', '"b"', '""', "null", "7"]
 LISTS = ['["a"]', "[]", '["a","b"]', '["a",1]', "null", '"a"']
-VALUES = {plain_answers.url_fault: URLS, moment_fault: MOMENTS, text_fault: TEXTS, texts_fault: LISTS,
+VALUES = {url_fault: URLS, moment_fault: MOMENTS, text_fault: TEXTS, texts_fault: LISTS,
           text_or_texts_fault: LISTS}
 USUAL = ['"iss":"https://a"', '"exp":2000', '"iat":900', '"sub":"u"', '"aud":"a"']
 
@@ -525,7 +469,7 @@ def main(words):
             print(case)
     elif words == ["answers"]:
         for line in sys.stdin.read().split("\n")[:-1]:
-            print(answer_line(line))
+            print(answer_by(OPERATIONS, line))
     else:
         sys.exit(__doc__)
 
