@@ -1,16 +1,21 @@
 -- An ID token's own fields hold no float.
-use Rattle.std.proofs.Common.{◌≡◌, ℕ, ℤ, pos, negsuc, List, [], ◌∷◌, ◌++◌, map, Bool, true, false, ◌||◌, Option, None, Some, codes, refl, sym, ◌∙◌}
+use Rattle.std.proofs.Common.{◌≡◌, ℕ, suc, ℤ, pos, negsuc, List, [], ◌∷◌, ◌++◌, map, Bool, true, false, ◌||◌, Option, None, Some, codes, refl, sym, ◌∙◌, All, arith}
 use Rattle.std.proofs.lemmas.Bool.{false≢true}
-use Rattle.serde_json.specs.Data.{Data, string}
+use Rattle.serde_json.specs.Data.{unsigned, negative, float, Data, null, boolean, number, string, array, object, Items, no_items, item, Members, no_members, member}
 use Rattle.serde_json.specs.Find.{of_integer, is_float}
 use Rattle.serde_json.specs.View.{items_of}
-use Rattle.serde_json.specs.Written.{has_float, items_have_float}
+use Rattle.serde_json.specs.Written.{has_float, items_have_float, members_have_float}
 use Rattle.oidc_members.specs.Seen.{OutSeen}
 use Rattle.oidc_members.specs.Write.{any_float}
 use Rattle.oidc_readers.specs.Moments.{seconds_of, seconds_data}
+use Rattle.oidc_readers.specs.WrittenBack.{IsWhole, ItemsAreWhole, MembersAreWhole, MayStand}
 use Rattle.oidc_readers.specs.Writing.{one_member, text_member, moment_member}
+use Rattle.oidc_claims.specs.Gender.{GenderIsValue}
+use Rattle.oidc_claims.specs.Write.{written}
+use Rattle.oidc_claims.proofs.Theorems.{written_free}
 use Rattle.oidc_tokens.specs.Header.{written_header}
 use Rattle.oidc_tokens.specs.OwnClaims.{SeenOwnClaims, texts_data, texts_member, own_members}
+use Rattle.oidc_tokens.specs.IdTokenClaims.{SeenIdTokenClaims, id_token_members}
 
 not_or : (a b : Bool) → (a || b) ≡ false → (a ≡ false) × (b ≡ false)
 not_or false b h = (refl, h)
@@ -59,6 +64,40 @@ own_free c =
     (free_append (texts_member (codes "amr") c.auth_method_refs) _ (texts_member_free (codes "amr") c.auth_method_refs)
     (free_append (text_member (codes "azp") c.authorized_party) _ (text_free (codes "azp") c.authorized_party)
     (free_append (text_member (codes "at_hash") c.access_token_hash) _ (text_free (codes "at_hash") c.access_token_hash) (text_free (codes "c_hash") c.code_hash))))))))))
+
+-- all claims, where the additional ones hold none
+pub members_free : {AC GC : Type 0} (additional_out : AC → List OutSeen) (gender_data : GC → Data) → GenderIsValue gender_data → (c : SeenIdTokenClaims AC GC)
+    → any_float (additional_out c.additional_claims) ≡ false → any_float (id_token_members additional_out gender_data c) ≡ false
+members_free additional_out gender_data there c h =
+    free_append (own_members c.own) (written gender_data c.standard_claims ++ additional_out c.additional_claims) (own_free c.own)
+    (free_append (written gender_data c.standard_claims) (additional_out c.additional_claims) (written_free gender_data there c.standard_claims) h)
+
+-- ---- what may stand in an object holds none
+
+mutual
+  whole_value : (d : Data) → IsWhole d → has_float d ≡ false
+  whole_value null h = refl
+  whole_value (boolean b) h = refl
+  whole_value (number (unsigned n)) h = refl
+  whole_value (number (negative z)) h = refl
+  whole_value (number (float x)) h = absurd h
+  whole_value (string s) h = refl
+  whole_value (array ds) h = whole_items ds h
+  whole_value (object ms) h = whole_members ms h.1
+
+  whole_items : (ds : Items) → ItemsAreWhole ds → items_have_float ds ≡ false
+  whole_items no_items h = refl
+  whole_items (item d ds) h = nor (has_float d) (items_have_float ds) (whole_value d h.0) (whole_items ds h.1)
+
+  whole_members : (ms : Members) → MembersAreWhole ms → members_have_float ms ≡ false
+  whole_members no_members h = refl
+  whole_members (member k d ms) h = nor (has_float d) (members_have_float ms) (whole_value d h.0) (whole_members ms h.1)
+
+pub standing_free : (ms : List OutSeen) → All (λ (m : OutSeen). MayStand m.value) ms → any_float ms ≡ false
+standing_free [] h = refl
+standing_free (m ∷ ms) h =
+    let first : MayStand m.value = h 0 m (omega arith) in
+    nor (has_float m.value) (any_float ms) (whole_value m.value first.0) (standing_free ms (λ k d within. h (suc k) d (omega arith)))
 
 pub header_free : (text : List ℕ) (id : Option (List ℕ)) → any_float (written_header text id) ≡ false
 header_free text None = refl

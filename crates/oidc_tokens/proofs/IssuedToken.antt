@@ -10,8 +10,9 @@ use Rattle.oidc_keys.specs.Jwk.{GivesRefusal}
 use Rattle.oidc_members.specs.Seen.{OutSeen}
 use Rattle.oidc_members.specs.Write.{any_float}
 use Rattle.oidc_tokens.specs.Header.{written_header}
-use Rattle.oidc_tokens.specs.Encoded.{IsReady}
-use Rattle.oidc_tokens.specs.Issuing.{message_of, token_with, with_signature, issued, Issues, IsRefusedBy, issue_error}
+use Rattle.oidc_tokens.specs.Encoded.{Encodes, IsReady}
+use Rattle.oidc_tokens.specs.Issuing.{message_of, compact, signed_with, token_with, with_signature, issued, Issues, IsRefusedBy, issue_error}
+use Rattle.oidc_tokens.specs.Tokens.{SeenToken}
 use Rattle.oidc_tokens.proofs.TokenBack.{message_is}
 
 module _ {JE JS P : Type 0} (alg_text : JS → List ℕ) (payload_out : P → List OutSeen) (signs : List ℕ → Result (List ℕ) SigningError) (id : Option (List ℕ)) (alg : JS) (payload : P) where
@@ -54,3 +55,14 @@ message_at text message last is =
     let within : length message < length text = omega (arith, ap length is, length-append {A = ℕ}) in
     let dot : get_or text (length message) 0 ≡ 46 = ap (λ t. get_or t (length message) 0) is ∙ get_or-append_seam message 46 last 0 in
     IsCharBoundary-before_ascii text (length message) within (omega (arith, dot))
+
+-- ---- the token that was made
+
+module _ {JE JS P : Type 0} (id : Option (List ℕ)) (alg : JS) (payload : P) where
+  -- what stands behind a message that is taken from the text
+  pub token_is : (text message last signature : List ℕ) (n : ℕ) (kid : Option (List ℕ)) → n ≡ length message → kid ≡ id → Encodes last signature → text ≡ message ++ codes "." ++ last
+      → ◌≡◌ {A = SeenToken JE JS P} (record { text = text; header = signed_with alg kid; payload = payload; message = take n text; signature = signature }) (token_with alg id payload message signature)
+  token_is text message last signature n kid len named last_is is =
+      let whole : text ≡ compact message signature = is ∙ ap (λ l. message ++ codes "." ++ l) last_is.same in
+      let first : take n text ≡ message = ap (λ n. take n text) len ∙ message_first text message last is in
+      λ i. record { text = whole i; header = signed_with alg (named i); payload = payload; message = first i; signature = signature }

@@ -19,6 +19,7 @@ mod FloatFree
 mod IssuedAccepted
 mod Causes
 mod IssuedToken
+mod IssuedClaims
 mod Judged
 mod NeverMemory
 mod ReadFree
