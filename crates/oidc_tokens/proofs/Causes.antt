@@ -71,7 +71,10 @@ module _ {Key Use Algorithm Type' : Type 0} (k : KeyMeanings Key Use Algorithm T
   chosen_cause : (alg : Algorithm) → token.header.alg ≡ algorithm.Signature alg → (chosen : Result Key SignatureVerificationError) → key_for k v token.header.kid alg ≡ chosen
       → (r : SignatureVerificationError) → (chosen >>= λ key. k.keys.verdict key alg token.message token.signature) ≡ Err r → SignatureCause r
   chosen_cause alg signed (Ok key) is r h = verdict_cause alg signed key is r h
-  chosen_cause alg signed (Err refused) is r h = key_cause alg signed (k.algorithms.uses_shared_secret alg) refl r (is ∙ h)
+  chosen_cause alg signed (Err refused) is r h =
+      let given : Result (Unit {0}) SignatureVerificationError = Err refused in
+      let same : refused ≡ r = same_err given refused r refl h in
+      key_cause alg signed (k.algorithms.uses_shared_secret alg) refl r (is ∙ (λ i. Err (same i)))
 
   allowed_cause : (alg : Algorithm) → token.header.alg ≡ algorithm.Signature alg → (allowed : Bool) → is_allowed k v alg ≡ allowed → (r : SignatureVerificationError)
       → ((if allowed then Ok alg else Err refusal.DisallowedAlg) >>= λ alg. key_for k v token.header.kid alg >>= λ key. k.keys.verdict key alg token.message token.signature) ≡ Err r → SignatureCause r

@@ -9,6 +9,7 @@ mod Found
 mod Accepted
 mod TokenTypes
 mod Homes
+mod AcceptedParts
 mod OneHome
 mod Passing
 mod Entries
