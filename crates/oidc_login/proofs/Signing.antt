@@ -46,15 +46,15 @@ refused_claim claim hash c refusal is own = ap (λ x. hash_rows x hash) is ∙ a
 -- ---- the checks
 
 -- a refusal of a check that isn't want of memory
-pub kind_of : {C : Type 0} (failure : Option ClaimsVerificationError) (kind : ClaimsVerificationError) → (kind ≡ check.Memory → ⊥) → Judges {C = C} failure (Err kind) → failure ≡ Some kind
-kind_of failure check.Unsupported other judged = judged
-kind_of failure check.InvalidIssuer other judged = judged
-kind_of failure check.InvalidAudience other judged = judged
-kind_of failure (check.SignatureVerification refusal) other judged = judged
-kind_of failure check.Expired other judged = judged
-kind_of failure check.InvalidNonce other judged = judged
-kind_of failure check.InvalidSubject other judged = judged
-kind_of failure check.Memory other judged = absurd (other (λ i. check.Memory))
+pub kind_of : (C : Type 0) (failure : Option ClaimsVerificationError) (kind : ClaimsVerificationError) → (kind ≡ check.Memory → ⊥) → Judges {C = C} failure (Err kind) → failure ≡ Some kind
+kind_of C failure check.Unsupported other judged = judged
+kind_of C failure check.InvalidIssuer other judged = judged
+kind_of C failure check.InvalidAudience other judged = judged
+kind_of C failure (check.SignatureVerification refusal) other judged = judged
+kind_of C failure check.Expired other judged = judged
+kind_of C failure check.InvalidNonce other judged = judged
+kind_of C failure check.InvalidSubject other judged = judged
+kind_of C failure check.Memory other judged = absurd (other (λ i. check.Memory))
 
 module _ (client : SeenClient) (now : ℤ) (l : SeenLogin) (token : SeenIdToken) (access_token : List ℕ) where
   abbrev pub hash_meant : Meant (Unit {0})

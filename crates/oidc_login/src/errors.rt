@@ -67,8 +67,8 @@ pub enum LoginError<E> {
     /// The query hasn't one `code`.
     #[error("the query hasn't one code")]
     Callback,
-    /// The token request has no answer that holds tokens: an ID token that doesn't read is a refusal
-    /// of the whole answer. `TooLong` and `Memory` never stand inside it.
+    /// The token request has no answer that holds tokens: an ID token that doesn't read is a
+    /// refusal of the whole answer. `TooLong` and `Memory` never stand inside it.
     #[error("no tokens: {0}")]
     Token(CoreRequestTokenError<E>),
     /// The answer has no ID token.
