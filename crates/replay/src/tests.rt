@@ -7,4 +7,5 @@ mod login;
 mod low;
 mod oauth2;
 mod readers;
+mod tokens;
 mod types;

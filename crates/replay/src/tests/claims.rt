@@ -4,7 +4,7 @@ ghost use Rattle.std.specs.Prelude.{◌≡◌, IfOk, IsTrue};
 ghost use Rattle.oidc_claims.specs.Additional.{are_additional};
 ghost use Rattle.oidc_claims.specs.Home.{is_additional};
 
-mod own_types;
+pub(crate) mod own_types;
 
 use jiff::Timestamp;
 use oidc_claims::{

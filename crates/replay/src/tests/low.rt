@@ -1,7 +1,7 @@
 //! Tests of oidc_pairs, oidc_members and oidc_keys that no line of text can say: bytes that are no
 //! text, hundreds of thousands of members, calls that no operation makes, a key of the test's own.
 
-mod keys;
+pub(crate) mod keys;
 
 use oidc_members::{FieldName, Members, OutMember, ParseError, ParseKind, Refusal, write_object};
 use oidc_pairs::{Pairs, escaped_text};

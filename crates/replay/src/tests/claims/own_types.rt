@@ -82,7 +82,7 @@ fn a_caller_may_bring_a_gender_of_its_own(rt: HostRuntime) -> Result<(), Fail> {
 
 // The tenant that a user belongs to: the first additional member, whatever its name.
 #[derive(Debug, Drop)]
-struct Tenant {
+pub(crate) struct Tenant {
     name: FieldName,
 }
 

@@ -20,10 +20,10 @@ use std::test::Fail;
 
 // A toy: a signature of a message is the key's byte and then the message.
 #[derive(Drop)]
-struct ToyRsaKey {
-    byte: u8,
-    purpose: Option<CoreJsonWebKeyUse>,
-    id: Option<JsonWebKeyId>,
+pub(crate) struct ToyRsaKey {
+    pub(crate) byte: u8,
+    pub(crate) purpose: Option<CoreJsonWebKeyUse>,
+    pub(crate) id: Option<JsonWebKeyId>,
 }
 
 impl JsonWebKey for ToyRsaKey {
@@ -89,8 +89,8 @@ impl JsonWebKey for ToyRsaKey {
 }
 
 #[derive(Drop)]
-struct ToyRsaSigner {
-    byte: u8,
+pub(crate) struct ToyRsaSigner {
+    pub(crate) byte: u8,
 }
 
 impl PrivateSigningKey for ToyRsaSigner {
