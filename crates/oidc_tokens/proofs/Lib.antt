@@ -9,7 +9,6 @@ mod Found
 mod Accepted
 mod TokenTypes
 mod Homes
-mod AcceptedParts
 mod OneHome
 mod Passing
 mod Entries

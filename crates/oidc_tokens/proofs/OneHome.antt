@@ -15,7 +15,6 @@ use Rattle.oidc_claims.proofs.Theorems.{standard_name, is_claim, narrowed, stand
 use Rattle.oidc_tokens.specs.OwnClaims.{SeenOwnClaims, own_of, needed_of}
 use Rattle.oidc_tokens.specs.IdTokenClaims.{SeenIdTokenClaims, is_own_field, additional_members, id_token_rule, parts_in, id_token_claims_of}
 use Rattle.oidc_tokens.specs.Homes.{is_field, is_standard, HasOneHome, AcceptedHaveOneHome}
-use Rattle.oidc_tokens.proofs.AcceptedParts.{accepted_parts}
 
 -- ---- one home
 
@@ -114,7 +113,7 @@ module _ {AC GC : Type 0} (additional_read : List SeenMember → Result AC Refus
 
   pub accepted_homes : AcceptedHaveOneHome additional_read gender_read
   accepted_homes members claims h =
-      let parts = accepted_parts additional_read gender_read members claims h in
+      let parts = accepted_parts members claims h in
       record {
         homes = λ k d within. one_home (slice_index_or members k d);
         own = own_same members ∙ parts.0;

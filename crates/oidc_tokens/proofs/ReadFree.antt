@@ -21,7 +21,7 @@ use Rattle.oidc_tokens.specs.Tokens.{SeenToken, parts_of, bytes_of, header_in, p
 use Rattle.oidc_tokens.specs.IdTokenClaims.{SeenIdTokenClaims, additional_members, id_token_claims_of}
 use Rattle.oidc_tokens.specs.IdTokenFields.{SeenIdTokenFields, token_kind, id_token, response_fields_of}
 use Rattle.oidc_tokens.proofs.Homes.{additional_stay}
-use Rattle.oidc_tokens.proofs.AcceptedParts.{accepted_parts}
+use Rattle.oidc_tokens.proofs.OneHome.{accepted_parts}
 
 -- a step that gave a value stands on one
 first_step : {A B : Type 0} (o : Result A Refusal) (f : A → Result B Refusal) (y : B) → (o >>= f) ≡ Ok y → (x : A) × (o ≡ Ok x) × (f x ≡ Ok y)
