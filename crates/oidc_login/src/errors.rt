@@ -2,7 +2,7 @@
 
 ghost use Rattle.std.specs.Prelude.{◌≡◌};
 ghost use Rattle.oidc_login.specs.Errors.{spent_of};
-ghost use Rattle.oidc_login.specs.Steps.{of_token};
+ghost use Rattle.oidc_login.specs.Steps.{of_token, of_check};
 
 use oidc_oauth2::{CoreRequestTokenError, RequestTokenError};
 use oidc_tokens::ClaimsVerificationError;
@@ -112,6 +112,16 @@ impl<E> LoginError<E> {
             RequestTokenError::TooLong(_) => LoginError::TooLong(TooLong::TokenAnswer),
             RequestTokenError::Memory => LoginError::Memory { spent: true },
             error => LoginError::Token(error),
+        }
+    }
+
+    // The refusal of a login by that of the checks of its ID token.
+    pub(crate) fn of_check(error: ClaimsVerificationError) -> Self
+        ensures { result ≡ of_check error }
+    {
+        match error {
+            ClaimsVerificationError::Memory => LoginError::Memory { spent: true },
+            error => LoginError::Claims(error),
         }
     }
 }
