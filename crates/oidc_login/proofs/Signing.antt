@@ -1,22 +1,24 @@
 -- The rows on tokens and on an ID token, by what was found of them.
-use Rattle.std.proofs.Common.{◌≡◌, ℕ, ℤ, List, Option, None, Some, Result, Ok, Err, sym, ap, subst, ◌∙◌}
+use Rattle.std.proofs.Common.{◌≡◌, ℕ, ℤ, List, true, false, Option, None, Some, Result, Ok, Err, refl, sym, ap, subst, ◌∙◌}
+use Rattle.std.specs.Prelude.{is_some, IfOk, IfErr}
 use Rattle.oidc_types.specs.declared.signing_error.SigningError.{SigningError}
 use Rattle.oidc_types.specs.declared.signing_error.SigningError.TheVariants as signing
 use Rattle.oidc_oauth2.specs.TokenAnswers.{◌>>=◌, ◌>>◌}
 use Rattle.oidc_tokens.specs.declared.verification.refusals.ClaimsVerificationError.{ClaimsVerificationError}
 use Rattle.oidc_tokens.specs.declared.verification.refusals.ClaimsVerificationError.TheVariants as check
 use Rattle.oidc_tokens.specs.Hashes.{GivesHash}
-use Rattle.oidc_tokens.specs.Verification.{Judges}
+use Rattle.oidc_tokens.specs.Verification.{first_failure, Judges}
 use Rattle.oidc_login.specs.Client.{SeenClient}
 use Rattle.oidc_login.specs.Logins.{SeenLogin}
-use Rattle.oidc_login.specs.IdTokens.{SeenIdToken, verifier_of, failure_for}
+use Rattle.oidc_login.specs.IdTokens.{SeenIdToken, CoreVerifier, core_keys, verifier_of, is_nonce, failure_for}
 use Rattle.oidc_login.specs.TokenHash.{claimed_hash, hash_beside}
 use Rattle.oidc_login.specs.TokenResponse.{Tokens}
 use Rattle.oidc_login.specs.SignedIn.{SeenSignedIn, signed_by}
-use Rattle.oidc_login.specs.Errors.{seen, memory_of, Gives}
+use Rattle.oidc_login.specs.Errors.{seen, memory_of, faulted, spent_of, Unless, Gives}
 use Rattle.oidc_login.specs.Rows.{Meant, ◌or◌, ◌for◌, hash_rows, accepting, signing_in}
 use Rattle.oidc_login.specs.declared.errors.LoginError.{LoginError}
 use Rattle.oidc_login.specs.declared.errors.LoginError.TheVariants as login
+use Rattle.oidc_login.specs.Steps.{of_check, IsPassed}
 use Rattle.oidc_login.proofs.Drives.{unless_map}
 use Rattle.oidc_login.proofs.TokenHash.{other_claim, own_claim}
 
@@ -45,16 +47,26 @@ refused_claim claim hash c refusal is own = ap (λ x. hash_rows x hash) is ∙ a
 
 -- ---- the checks
 
--- a refusal of a check that isn't want of memory
-pub kind_of : {C : Type 0} (failure : Option ClaimsVerificationError) (kind : ClaimsVerificationError) → (kind ≡ check.Memory → ⊥) → Judges {C = C} failure (Err kind) → failure ≡ Some kind
-kind_of failure check.Unsupported other judged = judged
-kind_of failure check.InvalidIssuer other judged = judged
-kind_of failure check.InvalidAudience other judged = judged
-kind_of failure (check.SignatureVerification refusal) other judged = judged
-kind_of failure check.Expired other judged = judged
-kind_of failure check.InvalidNonce other judged = judged
-kind_of failure check.InvalidSubject other judged = judged
-kind_of failure check.Memory other judged = absurd (other (λ i. check.Memory))
+module _ (E : Type 0) where
+  pub of_check_no_fault : (e : ClaimsVerificationError) → faulted (of_check {E = E} e) ≡ false
+  of_check_no_fault check.Unsupported = refl
+  of_check_no_fault check.InvalidIssuer = refl
+  of_check_no_fault check.InvalidAudience = refl
+  of_check_no_fault (check.SignatureVerification refusal) = refl
+  of_check_no_fault check.Expired = refl
+  of_check_no_fault check.InvalidNonce = refl
+  of_check_no_fault check.InvalidSubject = refl
+  of_check_no_fault check.Memory = refl
+
+  pub of_check_spent : (e : ClaimsVerificationError) → spent_of (of_check {E = E} e) ≡ true
+  of_check_spent check.Unsupported = refl
+  of_check_spent check.InvalidIssuer = refl
+  of_check_spent check.InvalidAudience = refl
+  of_check_spent (check.SignatureVerification refusal) = refl
+  of_check_spent check.Expired = refl
+  of_check_spent check.InvalidNonce = refl
+  of_check_spent check.InvalidSubject = refl
+  of_check_spent check.Memory = refl
 
 module _ (client : SeenClient) (now : ℤ) (l : SeenLogin) (token : SeenIdToken) (access_token : List ℕ) where
   abbrev pub hash_meant : Meant (Unit {0})
@@ -69,10 +81,39 @@ module _ (client : SeenClient) (now : ℤ) (l : SeenLogin) (token : SeenIdToken)
       → Gives result (accepting client now l token access_token)
   passed result none gives = subst (Gives result) (sym (accepting_by None none)) gives
 
-  pub failed : (kind : ClaimsVerificationError) → failure_for client l.nonce now token ≡ Some kind → accepting client now l token access_token ≡ Err (login.Claims kind)
+  failed : (kind : ClaimsVerificationError) → failure_for client l.nonce now token ≡ Some kind → accepting client now l token access_token ≡ Err (login.Claims kind)
   failed kind is = accepting_by (Some kind) is
 
+  -- the first check that fails, or want of memory
+  refused_check : (E C : Type 0) (e : ClaimsVerificationError) → Judges {C = C} (failure_for client l.nonce now token) (Err e)
+      → Gives {A = Unit {0}} {E = E} (Err (of_check e)) (accepting client now l token access_token)
+  refused_check E C check.Unsupported judged = failed _ judged
+  refused_check E C check.InvalidIssuer judged = failed _ judged
+  refused_check E C check.InvalidAudience judged = failed _ judged
+  refused_check E C (check.SignatureVerification refusal) judged = failed _ judged
+  refused_check E C check.Expired judged = failed _ judged
+  refused_check E C check.InvalidNonce judged = failed _ judged
+  refused_check E C check.InvalidSubject judged = failed _ judged
+  refused_check E C check.Memory judged = tt
+
+  pub refused_by : (E C : Type 0) (failure : Option ClaimsVerificationError) → failure ≡ failure_for client l.nonce now token → (e : ClaimsVerificationError) → Judges {C = C} failure (Err e)
+      → Gives {A = Unit {0}} {E = E} (Err (of_check e)) (accepting client now l token access_token)
+  refused_by E C failure same e judged = refused_check E C e (subst (λ f. Judges {C = C} f (Err e)) same judged)
+
+  -- the verifier of a client and the nonce of a login, by other names
+  pub same_failure : (verifier : CoreVerifier) (sent : List ℕ) → verifier ≡ verifier_of client → sent ≡ l.nonce
+      → first_failure core_keys verifier (is_nonce sent) now token ≡ failure_for client l.nonce now token
+  same_failure verifier sent own nonce =
+      ap (λ v. first_failure core_keys v (is_nonce sent) now token) own ∙ ap (λ n. first_failure core_keys (verifier_of client) (is_nonce n) now token) nonce
+
+  pub same_hash : {E : Type 0} (result : Result (Unit {0}) (LoginError E)) (verifier : CoreVerifier) → verifier ≡ verifier_of client
+      → Gives result (hash_rows (claimed_hash token) (hash_beside verifier token access_token)) → Gives result hash_meant
+  same_hash result verifier own gives = subst (λ v. Gives result (hash_rows (claimed_hash token) (hash_beside v token access_token))) own gives
+
 -- ---- the tokens
+
+same_some : (a b : SeenIdToken) → Some a ≡ Some b → a ≡ b
+same_some a b h = cc
 
 module _ (client : SeenClient) (now : ℤ) (l : SeenLogin) (tokens : Tokens) where
   pub no_token : tokens.extra_fields.id_token ≡ None → signing_in client now l tokens ≡ Err login.NoIdToken
@@ -86,9 +127,29 @@ module _ (client : SeenClient) (now : ℤ) (l : SeenLogin) (tokens : Tokens) whe
         ap (λ o. (o or login.NoIdToken) >>= λ token. accepting client now l token tokens.access_token >> Ok (signed_by token tokens)) is
         ∙ ap (λ m. m >> Ok (signed_by token tokens)) accepts
 
-    pub signed : (user : SeenSignedIn) → accepting client now l token tokens.access_token ≡ Ok tt → user ≡ signed_by token tokens → signing_in client now l tokens ≡ Ok user
-    signed user accepts own = signing_by (Ok tt) accepts ∙ ap Ok (sym own)
+    signed : accepting client now l token tokens.access_token ≡ Ok tt → signing_in client now l tokens ≡ Ok (signed_by token tokens)
+    signed accepts = signing_by (Ok tt) accepts
 
-    pub refused : {E : Type 0} (e : LoginError E) → Gives {A = Unit {0}} (Err e) (accepting client now l token tokens.access_token)
-        → Gives {A = SeenSignedIn} (Err e) (signing_in client now l tokens)
-    refused e gives = unless_map (memory_of e) (λ accepts. signing_by (Err (seen e)) accepts) gives
+    pub passes : {E : Type 0} (result : Result (Unit {0}) (LoginError E)) → Gives result (accepting client now l token tokens.access_token)
+        → IfOk result (λ u. IsPassed client now l tokens)
+    passes (Ok u) gives = λ other also. let same : token ≡ other = same_some _ _ (sym is ∙ also) in
+        signed gives ∙ ap (λ t. Ok (signed_by t tokens)) same
+    passes (Err e) gives = tt
+
+    pub refuses : {E : Type 0} (result : Result (Unit {0}) (LoginError E)) → Gives result (accepting client now l token tokens.access_token)
+        → IfErr result (λ e. Unless (memory_of e) (signing_in client now l tokens ≡ Err (seen e)))
+    refuses (Ok u) gives = tt
+    refuses (Err e) gives = unless_map (memory_of e) (λ accepts. signing_by (Err (seen e)) accepts) gives
+
+    pub there : {E : Type 0} (result : Result (Unit {0}) (LoginError E)) → IfOk result (λ u. is_some tokens.extra_fields.id_token ≡ true)
+    there (Ok u) = ap is_some is
+    there (Err e) = tt
+
+  signed_where : (o : Option SeenIdToken) → is_some o ≡ true → (m : Meant SeenSignedIn) (user : SeenSignedIn) → ((token : SeenIdToken) → o ≡ Some token → user ≡ signed_by token tokens)
+      → ((token : SeenIdToken) → o ≡ Some token → m ≡ Ok (signed_by token tokens)) → m ≡ Ok user
+  signed_where None none m user own meant = cc
+  signed_where (Some token) some m user own meant = meant token refl ∙ ap Ok (sym (own token refl))
+
+  pub signs : (user : SeenSignedIn) → is_some tokens.extra_fields.id_token ≡ true → ((token : SeenIdToken) → tokens.extra_fields.id_token ≡ Some token → user ≡ signed_by token tokens)
+      → IsPassed client now l tokens → signing_in client now l tokens ≡ Ok user
+  signs user some own passed = signed_where tokens.extra_fields.id_token some (signing_in client now l tokens) user own passed

@@ -12,7 +12,8 @@ use std::marker::Model;
 
 pub mod authorization;
 
-/// A client of one provider: a confidential one, which has a secret, or a public one. Contracts see its parts.
+/// A client of one provider: a confidential one, which has a secret, or a public one. Contracts see
+/// its parts.
 #[derive(Drop)]
 pub struct Client {
     client_id: ClientId,
@@ -42,8 +43,8 @@ impl Model for Client {
 
 impl Client {
     /// A client with its ID and, where it is confidential, its secret (RFC 6749 sections 2.1 and
-    /// 2.3.1), the provider's issuer, keys and authorization endpoint, and the signing algorithms that
-    /// it allows for ID tokens. It has no token endpoint.
+    /// 2.3.1), the provider's issuer, keys and authorization endpoint, and the signing algorithms
+    /// that it allows for ID tokens. It has no token endpoint.
     pub fn new(
         client_id: ClientId,
         client_secret: Option<ClientSecret>,
@@ -110,9 +111,9 @@ impl Client {
         self.token_endpoint.as_ref()
     }
 
-    /// What this client expects of an ID token (OpenID Connect Core 1.0 section 3.1.3.7): itself as the
-    /// one audience, the issuer, and a signature by an algorithm that it allows, under its own secret or a
-    /// key of the issuer. `AllocError` is want of memory, the one error.
+    /// What this client expects of an ID token (OpenID Connect Core 1.0 section 3.1.3.7): itself as
+    /// the one audience, the issuer, and a signature by an algorithm that it allows, under its own
+    /// secret or a key of the issuer. `AllocError` is want of memory, the one error.
     pub fn id_token_verifier(&self, alloc: Global) -> Result<CoreIdTokenVerifier<'_>, AllocError>
         ensures { IfOk result (λ verifier. verifier ≡ verifier_of self.now) }
     {

@@ -2,7 +2,7 @@
 
 ghost use Rattle.std.specs.Prelude.{◌≡◌};
 ghost use Rattle.oidc_login.specs.Errors.{spent_of};
-ghost use Rattle.oidc_login.specs.Steps.{of_token};
+ghost use Rattle.oidc_login.specs.Steps.{of_token, of_check};
 
 use oidc_oauth2::{CoreRequestTokenError, RequestTokenError};
 use oidc_tokens::ClaimsVerificationError;
@@ -67,8 +67,8 @@ pub enum LoginError<E> {
     /// The query hasn't one `code`.
     #[error("the query hasn't one code")]
     Callback,
-    /// The token request has no answer that holds tokens: an ID token that doesn't read is a refusal
-    /// of the whole answer. `TooLong` and `Memory` never stand inside it.
+    /// The token request has no answer that holds tokens: an ID token that doesn't read is a
+    /// refusal of the whole answer. `TooLong` and `Memory` never stand inside it.
     #[error("no tokens: {0}")]
     Token(CoreRequestTokenError<E>),
     /// The answer has no ID token.
@@ -112,6 +112,16 @@ impl<E> LoginError<E> {
             RequestTokenError::TooLong(_) => LoginError::TooLong(TooLong::TokenAnswer),
             RequestTokenError::Memory => LoginError::Memory { spent: true },
             error => LoginError::Token(error),
+        }
+    }
+
+    // The refusal of a login by that of the checks of its ID token.
+    pub(crate) fn of_check(error: ClaimsVerificationError) -> Self
+        ensures { result ≡ of_check error }
+    {
+        match error {
+            ClaimsVerificationError::Memory => LoginError::Memory { spent: true },
+            error => LoginError::Claims(error),
         }
     }
 }

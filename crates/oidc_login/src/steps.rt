@@ -1,6 +1,6 @@
 // The steps of a callback. Those that judge have no transport inside.
 
-ghost use Rattle.std.specs.Prelude.{◌≡◌, ◌≤◌, [], IfErr, IfNone, IfOk, IfSome, IsSome, IsTrue, MatchResult, false, true, None, Some, if◌then◌else◌};
+ghost use Rattle.std.specs.Prelude.{◌≡◌, ◌≤◌, [], is_some, Err, IfErr, IfNone, IfOk, IfSome, IsSome, IsTrue, MatchResult, false, true, None, Some, if◌then◌else◌};
 ghost use Rattle.oidc_pairs.specs.Pairs.{pairs};
 ghost use Rattle.oidc_oauth2.specs.Pkce.{is_verifier};
 ghost use Rattle.oidc_members.specs.Write.{any_float};
@@ -10,7 +10,7 @@ ghost use Rattle.oidc_oauth2.specs.Requests.{Prepares};
 ghost use Rattle.oidc_oauth2.specs.Exchanges.{known};
 ghost use Rattle.oidc_types.specs.declared.signing_error.SigningError.TheVariants.{UnsupportedAlg};
 ghost use Rattle.oidc_tokens.specs.Hashes.{GivesHash};
-ghost use Rattle.oidc_login.specs.Errors.{faulted, is_spent_by, Gives, OrMemory};
+ghost use Rattle.oidc_login.specs.Errors.{faulted, is_spent_by, memory_of, seen, Gives, OrMemory, Unless};
 ghost use Rattle.oidc_login.specs.Logins.{HasVerifiers};
 ghost use Rattle.oidc_login.specs.TokenRequest as request;
 ghost use Rattle.oidc_login.specs.TokenHash as hashes;
@@ -20,7 +20,7 @@ ghost use Rattle.oidc_login.specs.Rows as rows;
 ghost use Rattle.oidc_login.specs.Rows.{login_named_by, callback_store};
 ghost use Rattle.oidc_login.specs.Causes.{AsksNothing};
 ghost use Rattle.oidc_login.specs.Runs.{Ran, IsBlamed, Leaves, start};
-ghost use Rattle.oidc_login.specs.Steps.{answer_of, Exchanged, Untouched, Faults};
+ghost use Rattle.oidc_login.specs.Steps.{answer_of, Exchanged, Untouched, Faults, IsPassed};
 
 use crate::client::Client;
 use crate::errors::LoginError;
@@ -34,7 +34,7 @@ use oidc_oauth2::{
     StandardErrorResponse, SyncHttpClient, token_answer,
 };
 use oidc_pairs::Pairs;
-use oidc_tokens::{ClaimsVerificationError, CoreIdTokenVerifier, from_token};
+use oidc_tokens::{CoreIdTokenVerifier, from_token};
 use oidc_types::{AccessToken, AccessTokenHash, AuthorizationCode, SigningError};
 use std::alloc::{AllocError, Global};
 use std::marker::Model;
@@ -217,7 +217,6 @@ fn check_hash<E>(
 }
 
 // The rows on the ID token, which came beside this access token.
-#[tactic(auto, unfolding(crate::specs::Rows::accepting))]
 fn accepting<E>(
     alloc: Global,
     client: &Client,
@@ -236,13 +235,33 @@ fn accepting<E>(
     };
     match token.claims(alloc, &verifier, &login.nonce, now) {
         Ok(_) => check_hash(alloc, &verifier, token, access_token),
-        Err(ClaimsVerificationError::Memory) => Err(LoginError::Memory { spent: true }),
-        Err(kind) => Err(LoginError::Claims(kind)),
+        Err(error) => Err(LoginError::of_check(error)),
     }
 }
 
+// The rows on tokens that somebody else keeps.
+fn checking<E>(
+    alloc: Global,
+    client: &Client,
+    now: Timestamp,
+    login: &Login,
+    tokens: &TokenResponse,
+) -> Result<(), LoginError<E>>
+    ensures there { IfOk result (λ u. is_some tokens.now.extra_fields.id_token ≡ true) }
+    ensures passed { IfOk result (λ u.
+        IsPassed client.now now.nanosecond login.now tokens.now) }
+    ensures refused { let meant = rows.signing_in client.now now.nanosecond login.now tokens.now in
+        IfErr result (λ e. Unless (memory_of e) (meant ≡ Err (seen e))) }
+    ensures no_fault { IfErr result (λ e. faulted e ≡ false) }
+    ensures spent { is_spent_by result ≡ true }
+{
+    let Some(token) = tokens.extra_fields().id_token() else {
+        return Err(LoginError::NoIdToken);
+    };
+    accepting(alloc, client, now, login, token, tokens.access_token())
+}
+
 // The rows on the tokens.
-#[tactic(auto, unfolding(crate::specs::Rows::signing_in))]
 fn signing_in<E>(
     alloc: Global,
     client: &Client,
@@ -255,10 +274,7 @@ fn signing_in<E>(
     ensures no_fault { IfErr result (λ e. faulted e ≡ false) }
     ensures spent { is_spent_by result ≡ true }
 {
-    let Some(token) = tokens.extra_fields().id_token() else {
-        return Err(LoginError::NoIdToken);
-    };
-    match accepting(alloc, client, now, login, token, tokens.access_token()) {
+    match checking(alloc, client, now, login, &tokens) {
         Ok(()) => Ok(SignedIn::new(tokens)),
         Err(error) => Err(error),
     }

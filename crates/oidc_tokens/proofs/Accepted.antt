@@ -1,6 +1,6 @@
 -- The checks, one after the other, are those of acceptance.
 use Rattle.std.proofs.Common.{◌≡◌, ℕ, suc, ℤ, Bool, true, false, List, [], ◌∷◌, Option, None, Some, refl, ap, ◌∙◌, arith, ⊎_elim}
-use Rattle.std.specs.Prelude.{Result, Ok, Err, not, ◌&&◌, if◌then◌else◌, Contains, All, int_lt, ◌<ℤ◌, is_none, ◌↔◌}
+use Rattle.std.specs.Prelude.{Result, Ok, Err, not, ◌&&◌, if◌then◌else◌, Contains, All, int_lt, ◌<ℤ◌, is_none}
 use Rattle.std.specs.List.{list_all, list_any}
 use Rattle.std.specs.Option.{option_or}
 use Rattle.std.specs.Str.{bytes_eq}
@@ -177,7 +177,7 @@ module _ {Key Use Algorithm Type' : Type 0} (k : KeyMeanings Key Use Algorithm T
         chosen = signed.chosen;
         verified = signed.verified;
         unexpired = less now own.expiration (passes (int_lt now own.expiration) Expired six.4);
-        nonce = passes (allows own.nonce) InvalidNonce six.1.1.1.1.1;
+        nonce = passes (allows own.nonce) InvalidNonce six.5;
       }
 
   pub accepted : (v : SeenVerifier Key Algorithm) (allows : Option (List ℕ) → Bool) (now : ℤ) (token : SeenToken JE Algorithm (SeenIdTokenClaims AC GC))

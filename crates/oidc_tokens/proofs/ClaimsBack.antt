@@ -1,8 +1,7 @@
 -- Claims of an ID token that were written are read back.
-use Rattle.std.proofs.Common.{◌≡◌, ℕ, ◌≤◌, List, [], ◌∷◌, ◌++◌, map, Bool, true, false, ◌&&◌, ◌||◌, not, cond, Option, None, Some, option_map, Result, Ok, Err, codes, refl, sym, ap, ◌∙◌, filter, All, is_some, arith, append-nil, length, suc, ℤ}
+use Rattle.std.proofs.Common.{◌≡◌, ℕ, ◌≤◌, List, [], ◌∷◌, ◌++◌, map, Bool, true, false, ◌&&◌, not, cond, Option, None, Some, option_map, Result, Ok, refl, sym, ap, subst, append_assoc, ◌∙◌, filter, All, is_some, arith, append-nil, suc, ℤ}
 use Rattle.std.specs.Prelude.{IsFalse}
-use Rattle.std.specs.FinMap as finite
-use Rattle.std.specs.List.{flat_map, list_any, list_all}
+use Rattle.std.specs.List.{list_any, list_all}
 use Rattle.std.specs.Str.{bytes_eq}
 use Rattle.std.proofs.lemmas.Bool.{and_parts, and_from, false≢true, true≢false}
 use Rattle.std.proofs.lemmas.List.{map-append}
@@ -11,35 +10,29 @@ use Rattle.std.proofs.lemmas.List.Folds.{list_all-append}
 use Rattle.std.proofs.lemmas.List.Sums.{list_all-from_AllPass}
 use Rattle.serde_json.specs.Data.{Data, string, items_depth}
 use Rattle.serde_json.specs.View.{items_of}
-use Rattle.oidc_types.specs.{Variants}
 use Rattle.oidc_members.specs.Seen.{SeenMember, OutSeen}
 use Rattle.oidc_members.specs.Objects.{members_of}
 use Rattle.oidc_members.specs.Write.{object_text}
 use Rattle.oidc_members.specs.declared.refusal.Refusal.{Refusal}
 use Rattle.oidc_readers.specs.Moments.{seconds_data}
 use Rattle.oidc_readers.specs.Passes.{first_by}
-use Rattle.oidc_readers.specs.Records.{◌>>=◌}
 use Rattle.oidc_readers.specs.WrittenBack.{ItemsAreWhole, MayStand, IsUtf8Member, as_read}
-use Rattle.oidc_readers.specs.Writing.{one_member, text_member, moment_member}
 use Rattle.oidc_readers.proofs.Theorems.{written_split_back}
-use Rattle.oidc_claims.specs.declared.claim.Claim.{Claim}
-use Rattle.oidc_claims.specs.declared.claim.Claim.TheVariants.{Subject, Name, GivenName, FamilyName, MiddleName, Nickname, PreferredUsername, Profile, Picture, Website, Email, EmailVerified, Gender, Birthday, Birthdate, Zoneinfo, Locale, PhoneNumber, PhoneNumberVerified, Address, UpdatedAt}
-use Rattle.oidc_claims.specs.Seen.{SeenClaims}
-use Rattle.oidc_claims.specs.Table.{name_of, kind_of, all_claims, base_of, claim_of}
+use Rattle.oidc_claims.specs.Table.{base_of, claim_of}
 use Rattle.oidc_claims.specs.Additional.{ReadsBack, StaysAdditional, are_written_additional, out_of}
-use Rattle.oidc_claims.specs.Claims.{fault_of_kind, fault_by, fault_at, first_fault}
+use Rattle.oidc_claims.specs.Claims.{fault_at, first_fault}
 use Rattle.oidc_claims.specs.Gender.{GenderReadsBack, GenderIsValue}
 use Rattle.oidc_claims.specs.Home.{home_by, is_additional_home, id_token_fields, user_info_fields}
-use Rattle.oidc_claims.specs.Standard.{claims_of, at_place, faultless_claims, unless_refused}
-use Rattle.oidc_claims.specs.Write.{written, claim_members, plain_member, with_tag, variant_member, variant_members, IsWholeSecond}
-use Rattle.oidc_claims.proofs.Theorems.{EachStands, moments_stand, written_stands, split_reads_back}
-use Rattle.oidc_tokens.specs.OwnClaims.{SeenOwnClaims, texts_data, texts_member, own_rule, own_of, own_members}
+use Rattle.oidc_claims.specs.Standard.{claims_of, faultless_claims}
+use Rattle.oidc_claims.specs.Write.{written, IsWholeSecond}
+use Rattle.oidc_claims.proofs.Theorems.{EachStands, written_stands, split_reads_back, moment_stands, standard_name, is_claim, standard_same, fault_outside, fault_narrowed, claims_by, standard_named}
+use Rattle.oidc_tokens.specs.OwnClaims.{SeenOwnClaims, texts_data, own_rule, own_of, own_members}
 use Rattle.oidc_tokens.specs.IdTokenClaims.{SeenIdTokenClaims, is_own_field, is_additional_claim, additional_members, id_token_rule, parts_in, id_token_claims_of, id_token_members}
 use Rattle.oidc_tokens.specs.Homes.{is_field, is_standard}
 use Rattle.oidc_tokens.specs.Issuing.{ComesBack}
 use Rattle.oidc_tokens.specs.RoundTrip.{IsInRange, GivesClaims}
-use Rattle.oidc_tokens.proofs.Entries.{Entry, out_at, outs}
-use Rattle.oidc_tokens.proofs.OneHome.{standard_name, no_claim, is_claim, claim_same, own_same, standard_same}
+use Rattle.oidc_tokens.proofs.Entries.{Entry, out_at, outs, Holds, EachHolds}
+use Rattle.oidc_tokens.proofs.OneHome.{no_claim, own_same}
 use Rattle.oidc_tokens.proofs.OwnBack.{entries, written_as, own_back, own_clean}
 use Rattle.oidc_tokens.proofs.OwnRule.{rule_outside, rule_narrowed}
 use Rattle.oidc_tokens.proofs.Issued.{may_be_written}
@@ -60,9 +53,6 @@ last_false false b h = refl
 
 abbrev are_fields : List OutSeen → Bool
 are_fields ms = list_all (λ m. is_own_field m.name) ms
-
-abbrev are_standard : List OutSeen → Bool
-are_standard ms = list_all (λ m. standard_name m.name) ms
 
 abbrev are_neither : List OutSeen → Bool
 are_neither ms = list_all (λ m. not (is_own_field m.name) && not (standard_name m.name)) ms
@@ -127,102 +117,6 @@ entries_named (e ∷ es) h =
 fields_named : (c : SeenOwnClaims) → are_fields (own_members c) ≡ true
 fields_named c = ap are_fields (written_as c) ∙ entries_named (entries c) refl
 
--- a standard claim's name, with any tag
-known : (c : Claim) → standard_name (name_of c) ≡ true
-known Subject = refl
-known Name = refl
-known GivenName = refl
-known FamilyName = refl
-known MiddleName = refl
-known Nickname = refl
-known PreferredUsername = refl
-known Profile = refl
-known Picture = refl
-known Website = refl
-known Email = refl
-known EmailVerified = refl
-known Gender = refl
-known Birthday = refl
-known Birthdate = refl
-known Zoneinfo = refl
-known Locale = refl
-known PhoneNumber = refl
-known PhoneNumberVerified = refl
-known Address = refl
-known UpdatedAt = refl
-
-known_tagged : (c : Claim) (tag : List ℕ) → standard_name (name_of c ++ codes "#" ++ tag) ≡ true
-known_tagged Subject tag = refl
-known_tagged Name tag = refl
-known_tagged GivenName tag = refl
-known_tagged FamilyName tag = refl
-known_tagged MiddleName tag = refl
-known_tagged Nickname tag = refl
-known_tagged PreferredUsername tag = refl
-known_tagged Profile tag = refl
-known_tagged Picture tag = refl
-known_tagged Website tag = refl
-known_tagged Email tag = refl
-known_tagged EmailVerified tag = refl
-known_tagged Gender tag = refl
-known_tagged Birthday tag = refl
-known_tagged Birthdate tag = refl
-known_tagged Zoneinfo tag = refl
-known_tagged Locale tag = refl
-known_tagged PhoneNumber tag = refl
-known_tagged PhoneNumberVerified tag = refl
-known_tagged Address tag = refl
-known_tagged UpdatedAt tag = refl
-
-with_tag_known : (c : Claim) (tag : Option (List ℕ)) → standard_name (with_tag (name_of c) tag) ≡ true
-with_tag_known c None = known c
-with_tag_known c (Some tag) = known_tagged c tag
-
-plain_named : (c : Claim) (o : Option Data) → are_standard (plain_member c o) ≡ true
-plain_named c None = refl
-plain_named c (Some value) = and_from (standard_name (name_of c)) true (known c) refl
-
-entries_standard : (c : Claim) (es : List (Option (List ℕ) × List ℕ)) → are_standard (map (variant_member c) es) ≡ true
-entries_standard c [] = refl
-entries_standard c (e ∷ es) = and_from (standard_name (with_tag (name_of c) e.0)) (are_standard (map (variant_member c) es)) (with_tag_known c e.0) (entries_standard c es)
-
-variants_named : (c : Claim) (o : Option (Variants (List ℕ))) → are_standard (variant_members c o) ≡ true
-variants_named c None = refl
-variants_named c (Some variants) = entries_standard c (finite.entries variants)
-
-module _ {GC : Type 0} (gender_data : GC → Data) (s : SeenClaims GC) where
-  claim_named : (c : Claim) → are_standard (claim_members gender_data s c) ≡ true
-  claim_named Subject = plain_named Subject (Some (string s.subject))
-  claim_named Name = variants_named Name s.name
-  claim_named GivenName = variants_named GivenName s.given_name
-  claim_named FamilyName = variants_named FamilyName s.family_name
-  claim_named MiddleName = variants_named MiddleName s.middle_name
-  claim_named Nickname = variants_named Nickname s.nickname
-  claim_named PreferredUsername = plain_named PreferredUsername _
-  claim_named Profile = variants_named Profile s.profile
-  claim_named Picture = variants_named Picture s.picture
-  claim_named Website = variants_named Website s.website
-  claim_named Email = plain_named Email _
-  claim_named EmailVerified = plain_named EmailVerified _
-  claim_named Gender = plain_named Gender _
-  claim_named Birthday = plain_named Birthday _
-  claim_named Birthdate = plain_named Birthdate _
-  claim_named Zoneinfo = plain_named Zoneinfo _
-  claim_named Locale = plain_named Locale _
-  claim_named PhoneNumber = plain_named PhoneNumber _
-  claim_named PhoneNumberVerified = plain_named PhoneNumberVerified _
-  claim_named Address = plain_named Address _
-  claim_named UpdatedAt = plain_named UpdatedAt _
-
-  claims_named : (cs : List Claim) → are_standard (flat_map (claim_members gender_data s) cs) ≡ true
-  claims_named [] = refl
-  claims_named (c ∷ cs) =
-      list_all-append (λ m. standard_name m.name) (claim_members gender_data s c) (flat_map (claim_members gender_data s) cs)
-      ∙ (λ i. claim_named c i && claims_named cs i)
-
-  standard_named : are_standard (written gender_data s) ≡ true
-  standard_named = claims_named all_claims
-
 -- what additional claims are written as is neither
 neither_by : (field standard of_user : Bool) → field ≡ false → is_additional_home (home_by of_user standard) ≡ true → (not field && not standard) ≡ true
 neither_by false false of_user is h = refl
@@ -240,56 +134,8 @@ neither_named (m ∷ ms) h k =
     (ap (λ standard. is_additional_home (home_by (list_any (λ field. bytes_eq field m.name) user_info_fields) standard)) (sym (is_claim (as_read m))) ∙ b.0))
     (neither_named ms a.1 b.1)
 
--- ---- the rule of the standard claims
-
-all_known : (c : Claim) → list_any (λ d. bytes_eq (name_of c) (name_of d)) all_claims ≡ true
-all_known Subject = refl
-all_known Name = refl
-all_known GivenName = refl
-all_known FamilyName = refl
-all_known MiddleName = refl
-all_known Nickname = refl
-all_known PreferredUsername = refl
-all_known Profile = refl
-all_known Picture = refl
-all_known Website = refl
-all_known Email = refl
-all_known EmailVerified = refl
-all_known Gender = refl
-all_known Birthday = refl
-all_known Birthdate = refl
-all_known Zoneinfo = refl
-all_known Locale = refl
-all_known PhoneNumber = refl
-all_known PhoneNumberVerified = refl
-all_known Address = refl
-all_known UpdatedAt = refl
-
-placed_ok : {A : Type 0} (answer : Result A Refusal) (place : ℕ) (x : A) → at_place place answer ≡ Ok x → answer ≡ Ok x
-placed_ok (Ok y) place x h = cc
-placed_ok (Err refusal) place x h = absurd cc
-
 same_some : {A : Type 0} (x y : A) → Some x ≡ Some y → x ≡ y
 same_some x y h = cc
-
-module _ {GC : Type 0} (gender_read : SeenMember → Result GC Refusal) where
-  silent_by : (o : Option Claim) (before : List SeenMember) (m : SeenMember) → is_some o ≡ false → fault_by gender_read o before m ≡ None
-  silent_by None before m h = refl
-  silent_by (Some c) before m h = absurd (true≢false h)
-
-  fault_outside : (before : List SeenMember) (m : SeenMember) → is_standard m ≡ false → fault_at gender_read before m ≡ None
-  fault_outside before m h = silent_by (claim_of (base_of m.name)) before m (is_claim m ∙ h)
-
-  narrowed_by_claim : (o : Option Claim) (before : List SeenMember) (m : SeenMember) → fault_by gender_read o before m ≡ fault_by gender_read o (filter is_standard before) m
-  narrowed_by_claim None before m = refl
-  narrowed_by_claim (Some c) before m = ap (λ came. fault_of_kind gender_read (kind_of c) came m) (sym (claim_same gender_read before c (all_known c)))
-
-  fault_narrowed : (before : List SeenMember) (m : SeenMember) → fault_at gender_read before m ≡ fault_at gender_read (filter is_standard before) m
-  fault_narrowed before m = narrowed_by_claim (claim_of (base_of m.name)) before m
-
-  claims_by : (fault : Option (ℕ × Refusal)) (ms : List SeenMember) (s : SeenClaims GC) → unless_refused gender_read fault ms ≡ Ok s → (fault ≡ None) × (faultless_claims gender_read ms ≡ Ok s)
-  claims_by (Some fault) ms s h = absurd cc
-  claims_by None ms s h = (refl, placed_ok (faultless_claims gender_read ms) (length ms) s h)
 
 module _ (P : OutSeen → Type 0) where
   behind : (xs ys : List OutSeen) → All P (xs ++ ys) → All P ys
@@ -324,40 +170,47 @@ texts_stand texts = (texts_whole texts, let shallow = texts_shallow texts in ome
 text_stands : (text : List ℕ) → MayStand (string text)
 text_stands text = (tt, omega arith)
 
-moment_stands : (moment : ℤ) → IsWholeSecond (Some moment) → MayStand (seconds_data moment)
-moment_stands moment h = (moments_stand UpdatedAt (Some moment) h).0
+stand_out : (name : List ℕ) (o : Option Data) → Holds MayStand o → All (λ (m : OutSeen). MayStand m.value) (out_at name o)
+stand_out name None h = All-nil (λ (m : OutSeen). MayStand m.value)
+stand_out name (Some value) h = All-cons (λ (m : OutSeen). MayStand m.value) (record { name = name; value = value }) [] h (All-nil (λ (m : OutSeen). MayStand m.value))
+
+stand_outs : (es : List Entry) → EachHolds MayStand es → All (λ (m : OutSeen). MayStand m.value) (outs es)
+stand_outs [] h = All-nil (λ (m : OutSeen). MayStand m.value)
+stand_outs (e ∷ es) h = All-append (λ (m : OutSeen). MayStand m.value) (out_at e.0 e.1) (outs es) (stand_out e.0 e.1 h.0) (stand_outs es h.1)
+
+stand_text : (o : Option (List ℕ)) → Holds MayStand (option_map string o)
+stand_text None = tt
+stand_text (Some text) = text_stands text
+
+stand_texts : (o : Option (List (List ℕ))) → Holds MayStand (option_map texts_data o)
+stand_texts None = tt
+stand_texts (Some texts) = texts_stand texts
+
+stand_moment : (o : Option ℤ) → IsWholeSecond o → Holds MayStand (option_map seconds_data o)
+stand_moment None h = tt
+stand_moment (Some moment) h = moment_stands moment h
 
 module _ (c : SeenOwnClaims) (expiration : IsWholeSecond (Some c.expiration)) (issue_time : IsWholeSecond (Some c.issue_time)) (authenticated : IsWholeSecond c.auth_time) where
-  stand_one : (name : List ℕ) (value : Data) → MayStand value → All (λ (m : OutSeen). MayStand m.value) (one_member name value)
-  stand_one name value h = All-cons (λ (m : OutSeen). MayStand m.value) _ [] h (All-nil (λ (m : OutSeen). MayStand m.value))
-
-  stand_text : (name : List ℕ) (o : Option (List ℕ)) → All (λ (m : OutSeen). MayStand m.value) (text_member name o)
-  stand_text name None = All-nil (λ (m : OutSeen). MayStand m.value)
-  stand_text name (Some text) = stand_one name (string text) (text_stands text)
-
-  stand_texts : (name : List ℕ) (o : Option (List (List ℕ))) → All (λ (m : OutSeen). MayStand m.value) (texts_member name o)
-  stand_texts name None = All-nil (λ (m : OutSeen). MayStand m.value)
-  stand_texts name (Some texts) = stand_one name (texts_data texts) (texts_stand texts)
-
-  stand_moment : (name : List ℕ) (o : Option ℤ) → IsWholeSecond o → All (λ (m : OutSeen). MayStand m.value) (moment_member name o)
-  stand_moment name None h = All-nil (λ (m : OutSeen). MayStand m.value)
-  stand_moment name (Some moment) h = stand_one name (seconds_data moment) (moment_stands moment h)
-
-  abbrev then_ : (xs ys : List OutSeen) → All (λ (m : OutSeen). MayStand m.value) xs → All (λ (m : OutSeen). MayStand m.value) ys → All (λ (m : OutSeen). MayStand m.value) (xs ++ ys)
-  then_ xs ys h k = All-append (λ (m : OutSeen). MayStand m.value) xs ys h k
+  each_own_stands : EachHolds MayStand (entries c)
+  each_own_stands = (
+    text_stands c.issuer.text,
+    (
+      texts_stand c.audiences,
+      (
+        moment_stands c.expiration expiration,
+        (
+          moment_stands c.issue_time issue_time,
+          (
+            stand_moment c.auth_time authenticated,
+            (stand_text c.nonce, (stand_text c.auth_context_ref, (stand_texts c.auth_method_refs, (stand_text c.authorized_party, (stand_text c.access_token_hash, (stand_text c.code_hash, tt)))))),
+          ),
+        ),
+      ),
+    ),
+  )
 
   own_stand : All (λ (m : OutSeen). MayStand m.value) (own_members c)
-  own_stand =
-      then_ _ _ (stand_one (codes "iss") (string c.issuer.text) (text_stands c.issuer.text))
-      (then_ _ _ (stand_one (codes "aud") (texts_data c.audiences) (texts_stand c.audiences))
-      (then_ _ _ (stand_one (codes "exp") (seconds_data c.expiration) (moment_stands c.expiration expiration))
-      (then_ _ _ (stand_one (codes "iat") (seconds_data c.issue_time) (moment_stands c.issue_time issue_time))
-      (then_ _ _ (stand_moment (codes "auth_time") c.auth_time authenticated)
-      (then_ _ _ (stand_text (codes "nonce") c.nonce)
-      (then_ _ _ (stand_text (codes "acr") c.auth_context_ref)
-      (then_ _ _ (stand_texts (codes "amr") c.auth_method_refs)
-      (then_ _ _ (stand_text (codes "azp") c.authorized_party)
-      (then_ _ _ (stand_text (codes "at_hash") c.access_token_hash) (stand_text (codes "c_hash") c.code_hash))))))))))
+  own_stand = subst (All (λ (m : OutSeen). MayStand m.value)) (sym (written_as c)) (stand_outs (entries c) each_own_stands)
 
 -- ---- all claims
 
@@ -386,7 +239,9 @@ module _
   all = map as_read (id_token_members additional_out gender_data c)
 
   cut : all ≡ map as_read first_part ++ (map as_read second_part ++ map as_read third_part)
-  cut = map-append as_read first_part (second_part ++ third_part) ∙ ap (λ l. map as_read first_part ++ l) (map-append as_read second_part third_part)
+  cut =
+      map-append as_read (first_part ++ second_part) third_part ∙ ap (λ l. l ++ map as_read third_part) (map-append as_read first_part second_part)
+      ∙ append_assoc (map as_read first_part) (map as_read second_part) (map as_read third_part)
 
   kept_in : (test : List ℕ → Bool) → filter (λ m. test m.name) all
       ≡ filter (λ m. test m.name) (map as_read first_part) ++ (filter (λ m. test m.name) (map as_read second_part) ++ filter (λ m. test m.name) (map as_read third_part))
@@ -430,9 +285,9 @@ module _
 
   pub values_stand : All (λ (m : OutSeen). MayStand m.value) (id_token_members additional_out gender_data c)
   values_stand =
-      All-append (λ (m : OutSeen). MayStand m.value) first_part (second_part ++ third_part) (own_stand c.own range.expiration range.issue_time range.auth_time)
-      (All-append (λ (m : OutSeen). MayStand m.value) second_part third_part
-      (each_stands second_part (written_stands gender_data gender_there c.standard_claims range.standard_claims)) range.values)
+      All-append (λ (m : OutSeen). MayStand m.value) (first_part ++ second_part) third_part
+      (All-append (λ (m : OutSeen). MayStand m.value) first_part second_part (own_stand c.own range.expiration range.issue_time range.auth_time)
+      (each_stands second_part (written_stands gender_data gender_there c.standard_claims range.standard_claims))) range.values
 
   own_there : own_of all ≡ Ok c.own
   own_there =
@@ -449,7 +304,7 @@ module _
 
   module _ (texts : All IsUtf8Member (id_token_members additional_out gender_data c)) where
     standard_texts : All IsUtf8Member second_part
-    standard_texts = before IsUtf8Member second_part third_part (behind IsUtf8Member first_part (second_part ++ third_part) texts)
+    standard_texts = behind IsUtf8Member first_part second_part (before IsUtf8Member (first_part ++ second_part) third_part texts)
 
     standard_split : members_of (object_text second_part) ≡ Some (map as_read second_part)
     standard_split =

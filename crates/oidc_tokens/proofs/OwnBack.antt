@@ -1,23 +1,26 @@
 -- An ID token's own fields that were written are read back.
-use Rattle.std.proofs.Common.{◌≡◌, ℕ, ℤ, pos, negsuc, ◌≤◌, List, [], ◌∷◌, ◌++◌, map, Option, None, Some, option_map, Ok, codes, refl, sym, ap, ◌∙◌, append-nil, take, drop}
+use Rattle.std.proofs.Common.{◌≡◌, ℕ, ℤ, pos, negsuc, List, [], ◌∷◌, ◌++◌, map, Option, None, Some, option_map, Result, Ok, codes, refl, ap, ◌∙◌, append-nil, append_assoc, take, drop}
 use Rattle.std.specs.Option.{ok_or, option_flatten}
 use Rattle.std.specs.Result.{result_ok}
-use Rattle.std.specs.Prelude.{option_and_then}
+use Rattle.std.specs.Prelude.{option_and_then, unwrap_or}
 use Rattle.url.specs.Parser.{parse_url}
 use Rattle.serde_json.specs.Data.{Data, string}
 use Rattle.serde_json.specs.Find.{as_number, as_integer, of_integer}
 use Rattle.serde_json.specs.View.{items_of}
-use Rattle.oidc_members.specs.Seen.{SeenMember}
+use Rattle.oidc_members.specs.Seen.{SeenMember, OutSeen}
+use Rattle.oidc_members.specs.declared.refusal.Refusal.{Refusal}
 use Rattle.oidc_members.specs.declared.refusal.ParseKind.TheVariants.{Moment, WrongType}
-use Rattle.oidc_readers.specs.Kinds.{of_member, url_parsed, url_kind, seconds_read, moment_kind, text_kind, texts_in, texts_kind, there, or_null}
-use Rattle.oidc_readers.specs.Fields.{judged, first_value}
+use Rattle.oidc_types.specs.{TextAndUrl}
+use Rattle.oidc_readers.specs.Kinds.{of_member, url_parsed, url_kind, seconds_read, moment_kind, text_kind, texts_in, texts_kind, text_or_texts_kind, there, or_null}
+use Rattle.oidc_readers.specs.Fields.{Field, own, value_in, judged, first_value}
+use Rattle.oidc_readers.specs.Records.{◌>>=◌, missing, required, optional}
 use Rattle.oidc_readers.specs.Moments.{seconds_of, seconds_data}
 use Rattle.oidc_readers.specs.Passes.{first_by}
 use Rattle.oidc_readers.specs.WrittenBack.{as_read}
 use Rattle.oidc_readers.specs.Writing.{one_member, text_member, moment_member}
 use Rattle.oidc_claims.specs.Write.{IsWholeSecond}
 use Rattle.oidc_claims.proofs.Theorems.{whole_second}
-use Rattle.oidc_tokens.specs.OwnClaims.{SeenOwnClaims, iss, aud, exp, iat, auth_time, nonce, acr, amr, azp, at_hash, c_hash, own_rule, needed_of, own_of, texts_data, texts_member, own_members}
+use Rattle.oidc_tokens.specs.OwnClaims.{SeenOwnClaims, Needed, iss, aud, exp, iat, auth_time, nonce, acr, amr, azp, at_hash, c_hash, own_rule, needed_of, own_of, texts_data, texts_member, own_members}
 use Rattle.oidc_tokens.proofs.Entries.{Entry, out_at, outs, seen, with_name, alone_named}
 use Rattle.oidc_tokens.proofs.OwnRule.{Good, AllGood, clean}
 
@@ -50,19 +53,24 @@ texts_out : (name : List ℕ) (o : Option (List (List ℕ))) → texts_member na
 texts_out name None = refl
 texts_out name (Some texts) = refl
 
+seven : (a b c d e f g : List OutSeen) → ((((((a ++ b) ++ c) ++ d) ++ e) ++ f) ++ g) ≡ a ++ (b ++ (c ++ (d ++ (e ++ (f ++ (g ++ []))))))
+seven a b c d e f g = simp (append_assoc, append-nil)
+
+-- the fields that may be absent
+optional_as : (c : SeenOwnClaims) → ((((((moment_member (codes "auth_time") c.auth_time ++ text_member (codes "nonce") c.nonce) ++ text_member (codes "acr") c.auth_context_ref)
+    ++ texts_member (codes "amr") c.auth_method_refs) ++ text_member (codes "azp") c.authorized_party) ++ text_member (codes "at_hash") c.access_token_hash) ++ text_member (codes "c_hash") c.code_hash)
+    ≡ outs (drop 4 (entries c))
+optional_as c =
+    (λ i. ((((((moment_out (codes "auth_time") c.auth_time i ++ text_out (codes "nonce") c.nonce i) ++ text_out (codes "acr") c.auth_context_ref i)
+    ++ texts_out (codes "amr") c.auth_method_refs i) ++ text_out (codes "azp") c.authorized_party i) ++ text_out (codes "at_hash") c.access_token_hash i) ++ text_out (codes "c_hash") c.code_hash i))
+    ∙ seven (out_at (codes "auth_time") (option_map seconds_data c.auth_time)) (out_at (codes "nonce") (option_map string c.nonce)) (out_at (codes "acr") (option_map string c.auth_context_ref))
+    (out_at (codes "amr") (option_map texts_data c.auth_method_refs)) (out_at (codes "azp") (option_map string c.authorized_party)) (out_at (codes "at_hash") (option_map string c.access_token_hash))
+    (out_at (codes "c_hash") (option_map string c.code_hash))
+
 pub written_as : (c : SeenOwnClaims) → own_members c ≡ outs (entries c)
 written_as c =
-    (λ i. one_member (codes "iss") (string c.issuer.text)
-    ++ one_member (codes "aud") (texts_data c.audiences)
-    ++ one_member (codes "exp") (seconds_data c.expiration)
-    ++ one_member (codes "iat") (seconds_data c.issue_time)
-    ++ moment_out (codes "auth_time") c.auth_time i
-    ++ text_out (codes "nonce") c.nonce i
-    ++ text_out (codes "acr") c.auth_context_ref i
-    ++ texts_out (codes "amr") c.auth_method_refs i
-    ++ text_out (codes "azp") c.authorized_party i
-    ++ text_out (codes "at_hash") c.access_token_hash i
-    ++ (text_out (codes "c_hash") c.code_hash ∙ sym (append-nil (out_at (codes "c_hash") (option_map string c.code_hash)))) i)
+    ap (λ l. one_member (codes "iss") (string c.issuer.text) ++ (one_member (codes "aud") (texts_data c.audiences)
+    ++ (one_member (codes "exp") (seconds_data c.expiration) ++ (one_member (codes "iat") (seconds_data c.issue_time) ++ l)))) (optional_as c)
 
 -- ---- values that read back
 
@@ -132,6 +140,14 @@ optional_moment name (Some moment) h =
 
 -- ---- the fields of all members
 
+abbrev needed_answer : TextAndUrl → ℤ → ℤ → Result Needed Refusal
+needed_answer issuer expiration issue_time = Ok (record { issuer = issuer; expiration = expiration; issue_time = issue_time })
+
+three_steps : (a : Result TextAndUrl Refusal) (b d : Result ℤ Refusal) (issuer : TextAndUrl) (expiration issue_time : ℤ) → a ≡ Ok issuer → b ≡ Ok expiration → d ≡ Ok issue_time
+    → (a >>= λ issuer. b >>= λ expiration. d >>= λ issue_time. Ok (record { issuer = issuer; expiration = expiration; issue_time = issue_time }))
+    ≡ needed_answer issuer expiration issue_time
+three_steps a b d issuer expiration issue_time p q r = rw (p, q, r) refl
+
 module _
     (c : SeenOwnClaims)
     (url : parse_url None c.issuer.text ≡ Ok c.issuer.url)
@@ -150,32 +166,64 @@ module _
   iat_back : moment_kind (read_at (codes "iat") (seconds_data c.issue_time)) ≡ Ok c.issue_time
   iat_back = moment_back (read_at (codes "iat") (seconds_data c.issue_time)) c.issue_time refl issue_time
 
+  iss_there : required iss (seen (entries c)) ≡ Ok c.issuer
+  iss_there = ap (λ ms. ok_or (first_value url_kind ms) (missing (codes "iss"))) (iss_alone c) ∙ ap (λ r. ok_or (result_ok r) (missing (codes "iss"))) url_back
+
+  exp_there : required exp (seen (entries c)) ≡ Ok c.expiration
+  exp_there = ap (λ ms. ok_or (first_value moment_kind ms) (missing (codes "exp"))) (exp_alone c) ∙ ap (λ r. ok_or (result_ok r) (missing (codes "exp"))) exp_back
+
+  iat_there : required iat (seen (entries c)) ≡ Ok c.issue_time
+  iat_there = ap (λ ms. ok_or (first_value moment_kind ms) (missing (codes "iat"))) (iat_alone c) ∙ ap (λ r. ok_or (result_ok r) (missing (codes "iat"))) iat_back
+
   pub needed_back : needed_of (seen (entries c)) ≡ Ok (record { issuer = c.issuer; expiration = c.expiration; issue_time = c.issue_time })
   unfolding needed_of
-  needed_back = rw (iss_alone c, exp_alone c, iat_alone c, url_back, exp_back, iat_back) refl
+  needed_back = three_steps (required iss (seen (entries c))) (required exp (seen (entries c))) (required iat (seen (entries c))) c.issuer c.expiration c.issue_time iss_there exp_there iat_there
+
+  aud_there : unwrap_or (value_in aud (seen (entries c))) [] ≡ c.audiences
+  aud_there =
+      ap (λ ms. unwrap_or (first_value text_or_texts_kind ms) []) (aud_alone c)
+      ∙ ap (λ o. unwrap_or (result_ok (ok_or o (of_member WrongType (read_at (codes "aud") (texts_data c.audiences))))) []) (texts_back c.audiences)
+
+  text_there : (f : Field (Option (List ℕ))) (name : List ℕ) (o : Option (List ℕ)) → own f (seen (entries c)) ≡ map as_read (out_at name (option_map string o)) → f.kind ≡ or_null text_kind
+      → optional f (seen (entries c)) ≡ o
+  text_there f name o alone kind =
+      ap (λ ms. option_flatten (first_value f.kind ms)) alone ∙ ap (λ k. option_flatten (first_value k (map as_read (out_at name (option_map string o))))) kind ∙ optional_text name o
+
+  auth_time_there : optional auth_time (seen (entries c)) ≡ c.auth_time
+  auth_time_there = ap (λ ms. option_flatten (first_value (or_null moment_kind) ms)) (auth_time_alone c) ∙ optional_moment (codes "auth_time") c.auth_time authenticated
+
+  amr_there : optional amr (seen (entries c)) ≡ c.auth_method_refs
+  amr_there = ap (λ ms. option_flatten (first_value (or_null texts_kind) ms)) (amr_alone c) ∙ optional_texts (codes "amr") c.auth_method_refs
 
   pub own_back : own_of (seen (entries c)) ≡ Ok c
   unfolding own_of
   own_back =
-      rw (
-        needed_back,
-        aud_alone c,
-        auth_time_alone c,
-        nonce_alone c,
-        acr_alone c,
-        amr_alone c,
-        azp_alone c,
-        at_hash_alone c,
-        c_hash_alone c,
-        texts_back c.audiences,
-        optional_moment (codes "auth_time") c.auth_time authenticated,
-        optional_text (codes "nonce") c.nonce,
-        optional_text (codes "acr") c.auth_context_ref,
-        optional_texts (codes "amr") c.auth_method_refs,
-        optional_text (codes "azp") c.authorized_party,
-        optional_text (codes "at_hash") c.access_token_hash,
-        optional_text (codes "c_hash") c.code_hash,
-      ) refl
+      ap (λ n. n >>= λ there. Ok (record {
+        issuer = there.issuer;
+        audiences = unwrap_or (value_in aud (seen (entries c))) [];
+        expiration = there.expiration;
+        issue_time = there.issue_time;
+        auth_time = optional auth_time (seen (entries c));
+        nonce = optional nonce (seen (entries c));
+        auth_context_ref = optional acr (seen (entries c));
+        auth_method_refs = optional amr (seen (entries c));
+        authorized_party = optional azp (seen (entries c));
+        access_token_hash = optional at_hash (seen (entries c));
+        code_hash = optional c_hash (seen (entries c));
+      })) needed_back
+      ∙ (λ i. Ok (record {
+        issuer = c.issuer;
+        audiences = aud_there i;
+        expiration = c.expiration;
+        issue_time = c.issue_time;
+        auth_time = auth_time_there i;
+        nonce = text_there nonce (codes "nonce") c.nonce (nonce_alone c) refl i;
+        auth_context_ref = text_there acr (codes "acr") c.auth_context_ref (acr_alone c) refl i;
+        auth_method_refs = amr_there i;
+        authorized_party = text_there azp (codes "azp") c.authorized_party (azp_alone c) refl i;
+        access_token_hash = text_there at_hash (codes "at_hash") c.access_token_hash (at_hash_alone c) refl i;
+        code_hash = text_there c_hash (codes "c_hash") c.code_hash (c_hash_alone c) refl i;
+      }))
 
   -- ---- none of them is faulty
 
