@@ -30,3 +30,14 @@ of_failure Fact failure (SignatureVerification r) h fails memory = fails (Signat
 of_failure Fact failure Expired h fails memory = fails Expired h
 of_failure Fact failure InvalidNonce h fails memory = fails InvalidNonce h
 of_failure Fact failure InvalidSubject h fails memory = fails InvalidSubject h
+
+-- what is answered at one type is at another
+pub judges_as : {C D : Type 0} (failure : Option ClaimsVerificationError) (e : ClaimsVerificationError) → Judges {C = C} failure (Err e) → Judges {C = D} failure (Err e)
+judges_as failure Memory h = tt
+judges_as failure Unsupported h = h
+judges_as failure InvalidIssuer h = h
+judges_as failure InvalidAudience h = h
+judges_as failure (SignatureVerification r) h = h
+judges_as failure Expired h = h
+judges_as failure InvalidNonce h = h
+judges_as failure InvalidSubject h = h

@@ -8,3 +8,4 @@ mod low;
 mod oauth2;
 mod readers;
 mod types;
+mod user_info;

@@ -1,13 +1,12 @@
 // What a client expects of a user info answer that is a token (OpenID Connect Core 1.0 sections 5.3.2 and
 // 5.3.4).
 
-ghost use Rattle.std.specs.Prelude.{◌≡◌, true, IfOk, IfErr};
+ghost use Rattle.std.specs.Prelude.{◌≡◌, true};
 ghost use Rattle.std.specs.Option.{option_copied};
 ghost use Rattle.oidc_tokens.specs.Signatures.{meanings};
 ghost use Rattle.oidc_tokens.specs.Verification.{Judges};
 ghost use Rattle.oidc_tokens.specs.UserInfoVerification as spec;
-ghost use Rattle.oidc_tokens.specs.UserInfoVerification.{AcceptsInfo, first_info_failure, parties};
-ghost use Rattle.oidc_tokens.specs.UserInfoCauses.{InfoCause};
+ghost use Rattle.oidc_tokens.specs.UserInfoVerification.{first_info_failure, parties};
 
 use crate::jwt::JsonWebToken;
 use crate::verification::claims::{AudiencesClaim, IssuerClaim};
@@ -172,31 +171,12 @@ impl<'a, JE, K: JsonWebKey> UserInfoVerifier<'a, JE, K> {
         token: &JsonWebToken<JE, K::SigningAlgorithm, P>,
         subject: &SubjectIdentifier,
     ) -> Result<(), ClaimsVerificationError>
-        ensures judged { let k = meanings K.JsonWebKey K.KeyUse.JsonWebKeyUse
+        ensures { let k = meanings K.JsonWebKey K.KeyUse.JsonWebKeyUse
             K.SigningAlgorithm.JwsSigningAlgorithm.own K.SigningAlgorithm.ClosedVocabulary
             K.SigningAlgorithm.KeyType.ClosedVocabulary in
             let said = token.now.payload in
             let named = parties (P.issuer said) (P.audiences said) subject.now in
             Judges (first_info_failure k self.now token.now named) result }
-        ensures accepted { let k = meanings K.JsonWebKey K.KeyUse.JsonWebKeyUse
-            K.SigningAlgorithm.JwsSigningAlgorithm.own K.SigningAlgorithm.ClosedVocabulary
-            K.SigningAlgorithm.KeyType.ClosedVocabulary in
-            let said = token.now.payload in
-            let named = parties (P.issuer said) (P.audiences said) subject.now in
-            IfOk result (λ u. AcceptsInfo k self.now token.now named) }
-        ensures refused { let k = meanings K.JsonWebKey K.KeyUse.JsonWebKeyUse
-            K.SigningAlgorithm.JwsSigningAlgorithm.own K.SigningAlgorithm.ClosedVocabulary
-            K.SigningAlgorithm.KeyType.ClosedVocabulary in
-            let said = token.now.payload in
-            let named = parties (P.issuer said) (P.audiences said) subject.now in
-            AcceptsInfo k self.now token.now named
-            → IfErr result (λ error. error ≡ ClaimsVerificationError.Memory) }
-        ensures cause { let k = meanings K.JsonWebKey K.KeyUse.JsonWebKeyUse
-            K.SigningAlgorithm.JwsSigningAlgorithm.own K.SigningAlgorithm.ClosedVocabulary
-            K.SigningAlgorithm.KeyType.ClosedVocabulary in
-            let said = token.now.payload in
-            let named = parties (P.issuer said) (P.audiences said) subject.now in
-            IfErr result (InfoCause k self.now token.now named) }
     {
         let claims = token.unverified_payload();
         if !is_supported(token.header()) {
