@@ -68,20 +68,20 @@ abbrev are_neither : List OutSeen → Bool
 are_neither ms = list_all (λ m. not (is_own_field m.name) && not (standard_name m.name)) ms
 
 -- the test of a name is passed by the member that is read
-all_kept : (test : List ℕ → Bool) (ms : List OutSeen) → list_all (λ m. test m.name) ms ≡ true → filter (λ m. test m.name) (map as_read ms) ≡ map as_read ms
+pub all_kept : (test : List ℕ → Bool) (ms : List OutSeen) → list_all (λ m. test m.name) ms ≡ true → filter (λ m. test m.name) (map as_read ms) ≡ map as_read ms
 all_kept test [] h = refl
 all_kept test (m ∷ ms) h =
     let parts = and_parts (test m.name) (list_all (λ m. test m.name) ms) h in
     λ i. cond (parts.0 i) (as_read m ∷ all_kept test ms parts.1 i) (filter (λ m. test m.name) (map as_read ms))
 
-none_kept : (test : List ℕ → Bool) (ms : List OutSeen) → list_all (λ m. not (test m.name)) ms ≡ true → filter (λ m. test m.name) (map as_read ms) ≡ []
+pub none_kept : (test : List ℕ → Bool) (ms : List OutSeen) → list_all (λ m. not (test m.name)) ms ≡ true → filter (λ m. test m.name) (map as_read ms) ≡ []
 none_kept test [] h = refl
 none_kept test (m ∷ ms) h =
     let parts = and_parts (not (test m.name)) (list_all (λ m. not (test m.name)) ms) h in
     (λ i. cond (not_true (test m.name) parts.0 i) (as_read m ∷ filter (λ m. test m.name) (map as_read ms)) (filter (λ m. test m.name) (map as_read ms)))
     ∙ none_kept test ms parts.1
 
-weaker : (p q : OutSeen → Bool) → ((m : OutSeen) → p m ≡ true → q m ≡ true) → (ms : List OutSeen) → list_all p ms ≡ true → list_all q ms ≡ true
+pub weaker : (p q : OutSeen → Bool) → ((m : OutSeen) → p m ≡ true → q m ≡ true) → (ms : List OutSeen) → list_all p ms ≡ true → list_all q ms ≡ true
 weaker p q all [] h = refl
 weaker p q all (m ∷ ms) h =
     let parts = and_parts (p m) (list_all p ms) h in and_from (q m) (list_all q ms) (all m parts.0) (weaker p q all ms parts.1)
@@ -220,7 +220,7 @@ module _ {GC : Type 0} (gender_data : GC → Data) (s : SeenClaims GC) where
       list_all-append (λ m. standard_name m.name) (claim_members gender_data s c) (flat_map (claim_members gender_data s) cs)
       ∙ (λ i. claim_named c i && claims_named cs i)
 
-  standard_named : are_standard (written gender_data s) ≡ true
+  pub standard_named : are_standard (written gender_data s) ≡ true
   standard_named = claims_named all_claims
 
 -- what additional claims are written as is neither
@@ -269,7 +269,7 @@ placed_ok : {A : Type 0} (answer : Result A Refusal) (place : ℕ) (x : A) → a
 placed_ok (Ok y) place x h = cc
 placed_ok (Err refusal) place x h = absurd cc
 
-same_some : {A : Type 0} (x y : A) → Some x ≡ Some y → x ≡ y
+pub same_some : {A : Type 0} (x y : A) → Some x ≡ Some y → x ≡ y
 same_some x y h = cc
 
 module _ {GC : Type 0} (gender_read : SeenMember → Result GC Refusal) where
@@ -277,34 +277,34 @@ module _ {GC : Type 0} (gender_read : SeenMember → Result GC Refusal) where
   silent_by None before m h = refl
   silent_by (Some c) before m h = absurd (true≢false h)
 
-  fault_outside : (before : List SeenMember) (m : SeenMember) → is_standard m ≡ false → fault_at gender_read before m ≡ None
+  pub fault_outside : (before : List SeenMember) (m : SeenMember) → is_standard m ≡ false → fault_at gender_read before m ≡ None
   fault_outside before m h = silent_by (claim_of (base_of m.name)) before m (is_claim m ∙ h)
 
   narrowed_by_claim : (o : Option Claim) (before : List SeenMember) (m : SeenMember) → fault_by gender_read o before m ≡ fault_by gender_read o (filter is_standard before) m
   narrowed_by_claim None before m = refl
   narrowed_by_claim (Some c) before m = ap (λ came. fault_of_kind gender_read (kind_of c) came m) (sym (claim_same gender_read before c (all_known c)))
 
-  fault_narrowed : (before : List SeenMember) (m : SeenMember) → fault_at gender_read before m ≡ fault_at gender_read (filter is_standard before) m
+  pub fault_narrowed : (before : List SeenMember) (m : SeenMember) → fault_at gender_read before m ≡ fault_at gender_read (filter is_standard before) m
   fault_narrowed before m = narrowed_by_claim (claim_of (base_of m.name)) before m
 
-  claims_by : (fault : Option (ℕ × Refusal)) (ms : List SeenMember) (s : SeenClaims GC) → unless_refused gender_read fault ms ≡ Ok s → (fault ≡ None) × (faultless_claims gender_read ms ≡ Ok s)
+  pub claims_by : (fault : Option (ℕ × Refusal)) (ms : List SeenMember) (s : SeenClaims GC) → unless_refused gender_read fault ms ≡ Ok s → (fault ≡ None) × (faultless_claims gender_read ms ≡ Ok s)
   claims_by (Some fault) ms s h = absurd cc
   claims_by None ms s h = (refl, placed_ok (faultless_claims gender_read ms) (length ms) s h)
 
 module _ (P : OutSeen → Type 0) where
-  behind : (xs ys : List OutSeen) → All P (xs ++ ys) → All P ys
+  pub behind : (xs ys : List OutSeen) → All P (xs ++ ys) → All P ys
   behind [] ys h = h
   behind (x ∷ xs) ys h = behind xs ys (λ k d within. h (suc k) d (omega arith))
 
-  before : (xs ys : List OutSeen) → All P (xs ++ ys) → All P xs
+  pub before : (xs ys : List OutSeen) → All P (xs ++ ys) → All P xs
   before [] ys h = All-nil P
   before (x ∷ xs) ys h = All-cons P x xs (h 0 x (omega arith)) (before xs ys (λ k d within. h (suc k) d (omega arith)))
 
-each_stands : (ms : List OutSeen) → EachStands ms → All (λ (m : OutSeen). MayStand m.value) ms
+pub each_stands : (ms : List OutSeen) → EachStands ms → All (λ (m : OutSeen). MayStand m.value) ms
 each_stands [] h = All-nil (λ (m : OutSeen). MayStand m.value)
 each_stands (m ∷ ms) h = All-cons (λ (m : OutSeen). MayStand m.value) m ms h.0 (each_stands ms h.1)
 
-outs_back : (ms : List OutSeen) → map out_of (map as_read ms) ≡ ms
+pub outs_back : (ms : List OutSeen) → map out_of (map as_read ms) ≡ ms
 outs_back [] = refl
 outs_back (m ∷ ms) = λ i. m ∷ outs_back ms i
 
@@ -318,10 +318,10 @@ texts_shallow : (texts : List (List ℕ)) → items_depth (items_of (map string 
 texts_shallow [] = omega arith
 texts_shallow (text ∷ texts) = let rest = texts_shallow texts in omega arith
 
-texts_stand : (texts : List (List ℕ)) → MayStand (texts_data texts)
+pub texts_stand : (texts : List (List ℕ)) → MayStand (texts_data texts)
 texts_stand texts = (texts_whole texts, let shallow = texts_shallow texts in omega arith)
 
-text_stands : (text : List ℕ) → MayStand (string text)
+pub text_stands : (text : List ℕ) → MayStand (string text)
 text_stands text = (tt, omega arith)
 
 moment_stands : (moment : ℤ) → IsWholeSecond (Some moment) → MayStand (seconds_data moment)

@@ -86,7 +86,7 @@ narrowed_by p q within m ms true false pm qm h = absurd (true≢false (sym (with
 narrowed_by p q within m ms false false pm qm h = h
 
 -- members that pass the one test pass the other, which so takes none of them away
-narrowed : (p q : SeenMember → Bool) → ((m : SeenMember) → p m ≡ true → q m ≡ true) → (ms : List SeenMember) → filter p (filter q ms) ≡ filter p ms
+pub narrowed : (p q : SeenMember → Bool) → ((m : SeenMember) → p m ≡ true → q m ≡ true) → (ms : List SeenMember) → filter p (filter q ms) ≡ filter p ms
 narrowed p q within [] = refl
 narrowed p q within (m ∷ ms) =
     ap (filter p) refl ∙ narrowed_by p q within m ms _ _ refl refl (narrowed p q within ms)

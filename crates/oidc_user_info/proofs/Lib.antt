@@ -1,2 +1,4 @@
+mod OwnBack
+mod ClaimsBack
 mod Rows
 mod Runs
