@@ -1,5 +1,5 @@
 -- Claims of an ID token that were written are read back.
-use Rattle.std.proofs.Common.{◌≡◌, ℕ, ◌≤◌, List, [], ◌∷◌, ◌++◌, map, Bool, true, false, ◌&&◌, ◌||◌, not, cond, Option, None, Some, option_map, Result, Ok, Err, codes, refl, sym, ap, ◌∙◌, filter, All, is_some, arith, append-nil, length, suc, ℤ}
+use Rattle.std.proofs.Common.{◌≡◌, ℕ, ◌≤◌, List, [], ◌∷◌, ◌++◌, map, Bool, true, false, ◌&&◌, ◌||◌, not, cond, Option, None, Some, option_map, Result, Ok, Err, codes, refl, sym, ap, subst, append_assoc, ◌∙◌, filter, All, is_some, arith, append-nil, length, suc, ℤ}
 use Rattle.std.specs.Prelude.{IsFalse}
 use Rattle.std.specs.FinMap as finite
 use Rattle.std.specs.List.{flat_map, list_any, list_all}
@@ -38,7 +38,7 @@ use Rattle.oidc_tokens.specs.IdTokenClaims.{SeenIdTokenClaims, is_own_field, is_
 use Rattle.oidc_tokens.specs.Homes.{is_field, is_standard}
 use Rattle.oidc_tokens.specs.Issuing.{ComesBack}
 use Rattle.oidc_tokens.specs.RoundTrip.{IsInRange, GivesClaims}
-use Rattle.oidc_tokens.proofs.Entries.{Entry, out_at, outs}
+use Rattle.oidc_tokens.proofs.Entries.{Entry, out_at, outs, Holds, EachHolds}
 use Rattle.oidc_tokens.proofs.OneHome.{standard_name, no_claim, is_claim, claim_same, own_same, standard_same}
 use Rattle.oidc_tokens.proofs.OwnBack.{entries, written_as, own_back, own_clean}
 use Rattle.oidc_tokens.proofs.OwnRule.{rule_outside, rule_narrowed}
@@ -327,37 +327,47 @@ text_stands text = (tt, omega arith)
 moment_stands : (moment : ℤ) → IsWholeSecond (Some moment) → MayStand (seconds_data moment)
 moment_stands moment h = (moments_stand UpdatedAt (Some moment) h).0
 
+stand_out : (name : List ℕ) (o : Option Data) → Holds MayStand o → All (λ (m : OutSeen). MayStand m.value) (out_at name o)
+stand_out name None h = All-nil (λ (m : OutSeen). MayStand m.value)
+stand_out name (Some value) h = All-cons (λ (m : OutSeen). MayStand m.value) (record { name = name; value = value }) [] h (All-nil (λ (m : OutSeen). MayStand m.value))
+
+stand_outs : (es : List Entry) → EachHolds MayStand es → All (λ (m : OutSeen). MayStand m.value) (outs es)
+stand_outs [] h = All-nil (λ (m : OutSeen). MayStand m.value)
+stand_outs (e ∷ es) h = All-append (λ (m : OutSeen). MayStand m.value) (out_at e.0 e.1) (outs es) (stand_out e.0 e.1 h.0) (stand_outs es h.1)
+
+stand_text : (o : Option (List ℕ)) → Holds MayStand (option_map string o)
+stand_text None = tt
+stand_text (Some text) = text_stands text
+
+stand_texts : (o : Option (List (List ℕ))) → Holds MayStand (option_map texts_data o)
+stand_texts None = tt
+stand_texts (Some texts) = texts_stand texts
+
+stand_moment : (o : Option ℤ) → IsWholeSecond o → Holds MayStand (option_map seconds_data o)
+stand_moment None h = tt
+stand_moment (Some moment) h = moment_stands moment h
+
 module _ (c : SeenOwnClaims) (expiration : IsWholeSecond (Some c.expiration)) (issue_time : IsWholeSecond (Some c.issue_time)) (authenticated : IsWholeSecond c.auth_time) where
-  stand_one : (name : List ℕ) (value : Data) → MayStand value → All (λ (m : OutSeen). MayStand m.value) (one_member name value)
-  stand_one name value h = All-cons (λ (m : OutSeen). MayStand m.value) _ [] h (All-nil (λ (m : OutSeen). MayStand m.value))
-
-  stand_text : (name : List ℕ) (o : Option (List ℕ)) → All (λ (m : OutSeen). MayStand m.value) (text_member name o)
-  stand_text name None = All-nil (λ (m : OutSeen). MayStand m.value)
-  stand_text name (Some text) = stand_one name (string text) (text_stands text)
-
-  stand_texts : (name : List ℕ) (o : Option (List (List ℕ))) → All (λ (m : OutSeen). MayStand m.value) (texts_member name o)
-  stand_texts name None = All-nil (λ (m : OutSeen). MayStand m.value)
-  stand_texts name (Some texts) = stand_one name (texts_data texts) (texts_stand texts)
-
-  stand_moment : (name : List ℕ) (o : Option ℤ) → IsWholeSecond o → All (λ (m : OutSeen). MayStand m.value) (moment_member name o)
-  stand_moment name None h = All-nil (λ (m : OutSeen). MayStand m.value)
-  stand_moment name (Some moment) h = stand_one name (seconds_data moment) (moment_stands moment h)
-
-  abbrev then_ : (xs ys : List OutSeen) → All (λ (m : OutSeen). MayStand m.value) xs → All (λ (m : OutSeen). MayStand m.value) ys → All (λ (m : OutSeen). MayStand m.value) (xs ++ ys)
-  then_ xs ys h k = All-append (λ (m : OutSeen). MayStand m.value) xs ys h k
+  each_own_stands : EachHolds MayStand (entries c)
+  each_own_stands = (
+    text_stands c.issuer.text,
+    (
+      texts_stand c.audiences,
+      (
+        moment_stands c.expiration expiration,
+        (
+          moment_stands c.issue_time issue_time,
+          (
+            stand_moment c.auth_time authenticated,
+            (stand_text c.nonce, (stand_text c.auth_context_ref, (stand_texts c.auth_method_refs, (stand_text c.authorized_party, (stand_text c.access_token_hash, (stand_text c.code_hash, tt)))))),
+          ),
+        ),
+      ),
+    ),
+  )
 
   own_stand : All (λ (m : OutSeen). MayStand m.value) (own_members c)
-  own_stand =
-      then_ _ _ (stand_one (codes "iss") (string c.issuer.text) (text_stands c.issuer.text))
-      (then_ _ _ (stand_one (codes "aud") (texts_data c.audiences) (texts_stand c.audiences))
-      (then_ _ _ (stand_one (codes "exp") (seconds_data c.expiration) (moment_stands c.expiration expiration))
-      (then_ _ _ (stand_one (codes "iat") (seconds_data c.issue_time) (moment_stands c.issue_time issue_time))
-      (then_ _ _ (stand_moment (codes "auth_time") c.auth_time authenticated)
-      (then_ _ _ (stand_text (codes "nonce") c.nonce)
-      (then_ _ _ (stand_text (codes "acr") c.auth_context_ref)
-      (then_ _ _ (stand_texts (codes "amr") c.auth_method_refs)
-      (then_ _ _ (stand_text (codes "azp") c.authorized_party)
-      (then_ _ _ (stand_text (codes "at_hash") c.access_token_hash) (stand_text (codes "c_hash") c.code_hash))))))))))
+  own_stand = subst (All (λ (m : OutSeen). MayStand m.value)) (sym (written_as c)) (stand_outs (entries c) each_own_stands)
 
 -- ---- all claims
 
@@ -386,7 +396,9 @@ module _
   all = map as_read (id_token_members additional_out gender_data c)
 
   cut : all ≡ map as_read first_part ++ (map as_read second_part ++ map as_read third_part)
-  cut = map-append as_read first_part (second_part ++ third_part) ∙ ap (λ l. map as_read first_part ++ l) (map-append as_read second_part third_part)
+  cut =
+      map-append as_read (first_part ++ second_part) third_part ∙ ap (λ l. l ++ map as_read third_part) (map-append as_read first_part second_part)
+      ∙ append_assoc (map as_read first_part) (map as_read second_part) (map as_read third_part)
 
   kept_in : (test : List ℕ → Bool) → filter (λ m. test m.name) all
       ≡ filter (λ m. test m.name) (map as_read first_part) ++ (filter (λ m. test m.name) (map as_read second_part) ++ filter (λ m. test m.name) (map as_read third_part))
@@ -430,9 +442,9 @@ module _
 
   pub values_stand : All (λ (m : OutSeen). MayStand m.value) (id_token_members additional_out gender_data c)
   values_stand =
-      All-append (λ (m : OutSeen). MayStand m.value) first_part (second_part ++ third_part) (own_stand c.own range.expiration range.issue_time range.auth_time)
-      (All-append (λ (m : OutSeen). MayStand m.value) second_part third_part
-      (each_stands second_part (written_stands gender_data gender_there c.standard_claims range.standard_claims)) range.values)
+      All-append (λ (m : OutSeen). MayStand m.value) (first_part ++ second_part) third_part
+      (All-append (λ (m : OutSeen). MayStand m.value) first_part second_part (own_stand c.own range.expiration range.issue_time range.auth_time)
+      (each_stands second_part (written_stands gender_data gender_there c.standard_claims range.standard_claims))) range.values
 
   own_there : own_of all ≡ Ok c.own
   own_there =
@@ -449,7 +461,7 @@ module _
 
   module _ (texts : All IsUtf8Member (id_token_members additional_out gender_data c)) where
     standard_texts : All IsUtf8Member second_part
-    standard_texts = before IsUtf8Member second_part third_part (behind IsUtf8Member first_part (second_part ++ third_part) texts)
+    standard_texts = behind IsUtf8Member first_part second_part (before IsUtf8Member (first_part ++ second_part) third_part texts)
 
     standard_split : members_of (object_text second_part) ≡ Some (map as_read second_part)
     standard_split =

@@ -21,6 +21,15 @@ out_at name (Some value) = one_member name value
 abbrev pub outs : List Entry → List OutSeen
 outs es = flat_map (λ e. out_at e.0 e.1) es
 
+-- Each value that is there is of this kind.
+abbrev pub Holds : (Data → Type 0) → Option Data → Type 0
+Holds P None = Unit {0}
+Holds P (Some value) = P value
+
+abbrev pub EachHolds : (Data → Type 0) → List Entry → Type 0
+EachHolds P [] = Unit {0}
+EachHolds P (e ∷ es) = Holds P e.1 × EachHolds P es
+
 -- the members as they are read
 abbrev pub seen : List Entry → List SeenMember
 seen es = map as_read (outs es)

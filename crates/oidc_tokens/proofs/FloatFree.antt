@@ -1,16 +1,22 @@
 -- An ID token's own fields hold no float.
-use Rattle.std.proofs.Common.{◌≡◌, ℕ, ℤ, pos, negsuc, List, [], ◌∷◌, ◌++◌, map, Bool, true, false, ◌||◌, Option, None, Some, codes, refl, sym, ◌∙◌}
+use Rattle.std.proofs.Common.{◌≡◌, ℕ, suc, ℤ, pos, negsuc, List, [], ◌∷◌, ◌++◌, map, Bool, true, false, ◌||◌, Option, None, Some, option_map, refl, sym, ap, ◌∙◌, All, arith}
 use Rattle.std.proofs.lemmas.Bool.{false≢true}
-use Rattle.serde_json.specs.Data.{Data, string}
+use Rattle.serde_json.specs.Data.{unsigned, negative, float, Data, null, boolean, number, string, array, object, Items, no_items, item, Members, no_members, member}
 use Rattle.serde_json.specs.Find.{of_integer, is_float}
 use Rattle.serde_json.specs.View.{items_of}
-use Rattle.serde_json.specs.Written.{has_float, items_have_float}
+use Rattle.serde_json.specs.Written.{has_float, items_have_float, members_have_float}
 use Rattle.oidc_members.specs.Seen.{OutSeen}
 use Rattle.oidc_members.specs.Write.{any_float}
 use Rattle.oidc_readers.specs.Moments.{seconds_of, seconds_data}
-use Rattle.oidc_readers.specs.Writing.{one_member, text_member, moment_member}
+use Rattle.oidc_readers.specs.WrittenBack.{IsWhole, ItemsAreWhole, MembersAreWhole, MayStand}
+use Rattle.oidc_claims.specs.Gender.{GenderIsValue}
+use Rattle.oidc_claims.specs.Write.{written}
+use Rattle.oidc_claims.proofs.Theorems.{written_free}
 use Rattle.oidc_tokens.specs.Header.{written_header}
-use Rattle.oidc_tokens.specs.OwnClaims.{SeenOwnClaims, texts_data, texts_member, own_members}
+use Rattle.oidc_tokens.specs.OwnClaims.{SeenOwnClaims, texts_data, own_members}
+use Rattle.oidc_tokens.specs.IdTokenClaims.{SeenIdTokenClaims, id_token_members}
+use Rattle.oidc_tokens.proofs.Entries.{Entry, out_at, outs, Holds, EachHolds}
+use Rattle.oidc_tokens.proofs.OwnBack.{entries, written_as}
 
 not_or : (a b : Bool) → (a || b) ≡ false → (a ≡ false) × (b ≡ false)
 not_or false b h = (refl, h)
@@ -32,33 +38,83 @@ texts_free : (texts : List (List ℕ)) → items_have_float (items_of (map strin
 texts_free [] = refl
 texts_free (text ∷ texts) = texts_free texts
 
-one_free : (name : List ℕ) (value : Data) → has_float value ≡ false → any_float (one_member name value) ≡ false
-one_free name value h = nor (has_float value) false h refl
+abbrev IsFree : Data → Type 0
+IsFree value = has_float value ≡ false
 
-text_free : (name : List ℕ) (o : Option (List ℕ)) → any_float (text_member name o) ≡ false
-text_free name None = refl
-text_free name (Some text) = refl
+out_free : (name : List ℕ) (o : Option Data) → Holds IsFree o → any_float (out_at name o) ≡ false
+out_free name None h = refl
+out_free name (Some value) h = nor (has_float value) false h refl
 
-moment_free : (name : List ℕ) (o : Option ℤ) → any_float (moment_member name o) ≡ false
-moment_free name None = refl
-moment_free name (Some moment) = one_free name (seconds_data moment) (integer_free (seconds_of moment))
+outs_free : (es : List Entry) → EachHolds IsFree es → any_float (outs es) ≡ false
+outs_free [] h = refl
+outs_free (e ∷ es) h = free_append (out_at e.0 e.1) (outs es) (out_free e.0 e.1 h.0) (outs_free es h.1)
 
-texts_member_free : (name : List ℕ) (o : Option (List (List ℕ))) → any_float (texts_member name o) ≡ false
-texts_member_free name None = refl
-texts_member_free name (Some texts) = one_free name (texts_data texts) (texts_free texts)
+text_free : (o : Option (List ℕ)) → Holds IsFree (option_map string o)
+text_free None = tt
+text_free (Some text) = refl
+
+moment_free : (o : Option ℤ) → Holds IsFree (option_map seconds_data o)
+moment_free None = tt
+moment_free (Some moment) = integer_free (seconds_of moment)
+
+list_free : (o : Option (List (List ℕ))) → Holds IsFree (option_map texts_data o)
+list_free None = tt
+list_free (Some texts) = texts_free texts
+
+each_free : (c : SeenOwnClaims) → EachHolds IsFree (entries c)
+each_free c = (
+  refl,
+  (
+    texts_free c.audiences,
+    (
+      integer_free (seconds_of c.expiration),
+      (
+        integer_free (seconds_of c.issue_time),
+        (
+          moment_free c.auth_time,
+          (text_free c.nonce, (text_free c.auth_context_ref, (list_free c.auth_method_refs, (text_free c.authorized_party, (text_free c.access_token_hash, (text_free c.code_hash, tt)))))),
+        ),
+      ),
+    ),
+  ),
+)
 
 pub own_free : (c : SeenOwnClaims) → any_float (own_members c) ≡ false
-own_free c =
-    free_append (one_member (codes "iss") (string c.issuer.text)) _ refl
-    (free_append (one_member (codes "aud") (texts_data c.audiences)) _ (one_free (codes "aud") (texts_data c.audiences) (texts_free c.audiences))
-    (free_append (one_member (codes "exp") (seconds_data c.expiration)) _ (one_free (codes "exp") (seconds_data c.expiration) (integer_free (seconds_of c.expiration)))
-    (free_append (one_member (codes "iat") (seconds_data c.issue_time)) _ (one_free (codes "iat") (seconds_data c.issue_time) (integer_free (seconds_of c.issue_time)))
-    (free_append (moment_member (codes "auth_time") c.auth_time) _ (moment_free (codes "auth_time") c.auth_time)
-    (free_append (text_member (codes "nonce") c.nonce) _ (text_free (codes "nonce") c.nonce)
-    (free_append (text_member (codes "acr") c.auth_context_ref) _ (text_free (codes "acr") c.auth_context_ref)
-    (free_append (texts_member (codes "amr") c.auth_method_refs) _ (texts_member_free (codes "amr") c.auth_method_refs)
-    (free_append (text_member (codes "azp") c.authorized_party) _ (text_free (codes "azp") c.authorized_party)
-    (free_append (text_member (codes "at_hash") c.access_token_hash) _ (text_free (codes "at_hash") c.access_token_hash) (text_free (codes "c_hash") c.code_hash))))))))))
+own_free c = ap any_float (written_as c) ∙ outs_free (entries c) (each_free c)
+
+-- all claims, where the additional ones hold none
+pub members_free : {AC GC : Type 0} (additional_out : AC → List OutSeen) (gender_data : GC → Data) → GenderIsValue gender_data → (c : SeenIdTokenClaims AC GC)
+    → any_float (additional_out c.additional_claims) ≡ false → any_float (id_token_members additional_out gender_data c) ≡ false
+members_free additional_out gender_data there c h =
+    free_append (own_members c.own ++ written gender_data c.standard_claims) (additional_out c.additional_claims)
+    (free_append (own_members c.own) (written gender_data c.standard_claims) (own_free c.own) (written_free gender_data there c.standard_claims)) h
+
+-- ---- what may stand in an object holds none
+
+mutual
+  whole_value : (d : Data) → IsWhole d → has_float d ≡ false
+  whole_value null h = refl
+  whole_value (boolean b) h = refl
+  whole_value (number (unsigned n)) h = refl
+  whole_value (number (negative z)) h = refl
+  whole_value (number (float x)) h = absurd h
+  whole_value (string s) h = refl
+  whole_value (array ds) h = whole_items ds h
+  whole_value (object ms) h = whole_members ms h.1
+
+  whole_items : (ds : Items) → ItemsAreWhole ds → items_have_float ds ≡ false
+  whole_items no_items h = refl
+  whole_items (item d ds) h = nor (has_float d) (items_have_float ds) (whole_value d h.0) (whole_items ds h.1)
+
+  whole_members : (ms : Members) → MembersAreWhole ms → members_have_float ms ≡ false
+  whole_members no_members h = refl
+  whole_members (member k d ms) h = nor (has_float d) (members_have_float ms) (whole_value d h.0) (whole_members ms h.1)
+
+pub standing_free : (ms : List OutSeen) → All (λ (m : OutSeen). MayStand m.value) ms → any_float ms ≡ false
+standing_free [] h = refl
+standing_free (m ∷ ms) h =
+    let first : MayStand m.value = h 0 m (omega arith) in
+    nor (has_float m.value) (any_float ms) (whole_value m.value first.0) (standing_free ms (λ k d within. h (suc k) d (omega arith)))
 
 pub header_free : (text : List ℕ) (id : Option (List ℕ)) → any_float (written_header text id) ≡ false
 header_free text None = refl

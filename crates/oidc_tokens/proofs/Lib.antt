@@ -20,6 +20,7 @@ mod IssuedAccepted
 mod Causes
 mod UserInfo
 mod IssuedToken
+mod IssuedClaims
 mod Judged
 mod NeverMemory
 mod ReadFree

@@ -1,5 +1,5 @@
 -- An ID token's own fields that were written are read back.
-use Rattle.std.proofs.Common.{◌≡◌, ℕ, ℤ, pos, negsuc, ◌≤◌, List, [], ◌∷◌, ◌++◌, map, Option, None, Some, option_map, Ok, codes, refl, sym, ap, ◌∙◌, append-nil, take, drop}
+use Rattle.std.proofs.Common.{◌≡◌, ℕ, ℤ, pos, negsuc, ◌≤◌, List, [], ◌∷◌, ◌++◌, map, Option, None, Some, option_map, Ok, codes, refl, sym, ap, ◌∙◌, append-nil, append_assoc, take, drop}
 use Rattle.std.specs.Option.{ok_or, option_flatten}
 use Rattle.std.specs.Result.{result_ok}
 use Rattle.std.specs.Prelude.{option_and_then}
@@ -7,7 +7,7 @@ use Rattle.url.specs.Parser.{parse_url}
 use Rattle.serde_json.specs.Data.{Data, string}
 use Rattle.serde_json.specs.Find.{as_number, as_integer, of_integer}
 use Rattle.serde_json.specs.View.{items_of}
-use Rattle.oidc_members.specs.Seen.{SeenMember}
+use Rattle.oidc_members.specs.Seen.{SeenMember, OutSeen}
 use Rattle.oidc_members.specs.declared.refusal.ParseKind.TheVariants.{Moment, WrongType}
 use Rattle.oidc_readers.specs.Kinds.{of_member, url_parsed, url_kind, seconds_read, moment_kind, text_kind, texts_in, texts_kind, there, or_null}
 use Rattle.oidc_readers.specs.Fields.{judged, first_value}
@@ -50,19 +50,24 @@ texts_out : (name : List ℕ) (o : Option (List (List ℕ))) → texts_member na
 texts_out name None = refl
 texts_out name (Some texts) = refl
 
+seven : (a b c d e f g : List OutSeen) → ((((((a ++ b) ++ c) ++ d) ++ e) ++ f) ++ g) ≡ a ++ (b ++ (c ++ (d ++ (e ++ (f ++ (g ++ []))))))
+seven a b c d e f g = simp (append_assoc, append-nil)
+
+-- the fields that may be absent
+optional_as : (c : SeenOwnClaims) → ((((((moment_member (codes "auth_time") c.auth_time ++ text_member (codes "nonce") c.nonce) ++ text_member (codes "acr") c.auth_context_ref)
+    ++ texts_member (codes "amr") c.auth_method_refs) ++ text_member (codes "azp") c.authorized_party) ++ text_member (codes "at_hash") c.access_token_hash) ++ text_member (codes "c_hash") c.code_hash)
+    ≡ outs (drop 4 (entries c))
+optional_as c =
+    (λ i. ((((((moment_out (codes "auth_time") c.auth_time i ++ text_out (codes "nonce") c.nonce i) ++ text_out (codes "acr") c.auth_context_ref i)
+    ++ texts_out (codes "amr") c.auth_method_refs i) ++ text_out (codes "azp") c.authorized_party i) ++ text_out (codes "at_hash") c.access_token_hash i) ++ text_out (codes "c_hash") c.code_hash i))
+    ∙ seven (out_at (codes "auth_time") (option_map seconds_data c.auth_time)) (out_at (codes "nonce") (option_map string c.nonce)) (out_at (codes "acr") (option_map string c.auth_context_ref))
+    (out_at (codes "amr") (option_map texts_data c.auth_method_refs)) (out_at (codes "azp") (option_map string c.authorized_party)) (out_at (codes "at_hash") (option_map string c.access_token_hash))
+    (out_at (codes "c_hash") (option_map string c.code_hash))
+
 pub written_as : (c : SeenOwnClaims) → own_members c ≡ outs (entries c)
 written_as c =
-    (λ i. one_member (codes "iss") (string c.issuer.text)
-    ++ one_member (codes "aud") (texts_data c.audiences)
-    ++ one_member (codes "exp") (seconds_data c.expiration)
-    ++ one_member (codes "iat") (seconds_data c.issue_time)
-    ++ moment_out (codes "auth_time") c.auth_time i
-    ++ text_out (codes "nonce") c.nonce i
-    ++ text_out (codes "acr") c.auth_context_ref i
-    ++ texts_out (codes "amr") c.auth_method_refs i
-    ++ text_out (codes "azp") c.authorized_party i
-    ++ text_out (codes "at_hash") c.access_token_hash i
-    ++ (text_out (codes "c_hash") c.code_hash ∙ sym (append-nil (out_at (codes "c_hash") (option_map string c.code_hash)))) i)
+    ap (λ l. one_member (codes "iss") (string c.issuer.text) ++ (one_member (codes "aud") (texts_data c.audiences)
+    ++ (one_member (codes "exp") (seconds_data c.expiration) ++ (one_member (codes "iat") (seconds_data c.issue_time) ++ l)))) (optional_as c)
 
 -- ---- values that read back
 

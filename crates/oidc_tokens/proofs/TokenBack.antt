@@ -1,12 +1,12 @@
 -- The text of a token that is issued is read as that token.
-use Rattle.std.proofs.Common.{◌≡◌, ◌≢◌, ℕ, List, [], ◌∷◌, ◌++◌, Option, Result, Ok, codes, refl, ap, ◌∙◌, All}
+use Rattle.std.proofs.Common.{◌≡◌, ◌≢◌, ℕ, List, [], ◌∷◌, ◌++◌, Option, Result, Ok, codes, refl, ap, ◌∙◌, All, append_assoc}
 use Rattle.oidc_members.specs.Seen.{SeenMember, OutSeen}
 use Rattle.oidc_members.specs.Write.{object_text}
 use Rattle.oidc_members.specs.declared.refusal.Refusal.{Refusal}
 use Rattle.oidc_readers.specs.Records.{◌>>=◌}
 use Rattle.oidc_readers.specs.WrittenBack.{IsUtf8Member}
 use Rattle.oidc_tokens.specs.Header.{written_header}
-use Rattle.oidc_tokens.specs.Tokens.{contents_of, token_of}
+use Rattle.oidc_tokens.specs.Tokens.{parts_of, contents_of, token_of}
 use Rattle.oidc_tokens.specs.Encoded.{Encodes, IsMessage}
 use Rattle.oidc_tokens.specs.Issuing.{ComesBack, IsNamed, signed_with, message_of}
 use Rattle.oidc_tokens.proofs.Issued.{parts_again, bytes_again, payload_again}
@@ -47,5 +47,9 @@ module _
       → token_of encrypts signs payload_read text ≡ Ok (record { text = text; header = signed_with alg id; payload = payload; message = message; signature = signature })
   unfolding token_of
   token_again text message z signature m last is =
-      let joined : text ≡ (m.first ++ 46 ∷ m.second) ++ 46 ∷ z = is ∙ ap (λ t. t ++ 46 ∷ z) m.joined in
-      rw (joined, m.joined, parts_again m.first m.second z _ _ signature m.head m.body last, contents_again m.first m.second z _ _ signature m.head m.body last refl refl) refl
+      let whole : message ≡ m.first ++ 46 ∷ m.second = m.joined ∙ append_assoc m.first (46 ∷ []) m.second in
+      let joined : text ≡ (m.first ++ 46 ∷ m.second) ++ 46 ∷ z = is ∙ append_assoc message (46 ∷ []) z ∙ ap (λ t. t ++ 46 ∷ z) whole in
+      let parts : parts_of text ≡ Ok (record { header = m.first; payload = m.second; signature = z }) = ap parts_of joined ∙ parts_again m.first m.second z _ _ signature m.head m.body last in
+      rw (m.joined, parts)
+      (ap (λ o. o >>= λ x. Ok (record { text = text; header = x.header; payload = x.payload; message = m.first ++ codes "." ++ m.second; signature = x.signature }))
+      (contents_again m.first m.second z _ _ signature m.head m.body last refl refl))

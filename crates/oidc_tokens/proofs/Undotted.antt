@@ -1,5 +1,6 @@
 -- Base64url text has no dot.
 use Rattle.std.proofs.Common.{◌≡◌, ℕ, zero, suc, ◌==◌, List, [], ◌∷◌, ◌++◌, Bool, true, false, ◌&&◌, not, refl, ap, ◌∙◌, append-nil, All, slice_index}
+use Rattle.std.specs.Prelude.{◌+◌, ◌*◌, ◌/◌, ◌%◌}
 use Rattle.std.specs.List.{list_all}
 use Rattle.std.proofs.lemmas.Bool.{and_parts, and_from, false≢true}
 use Rattle.std.proofs.lemmas.List.Elements.{All-weaker}
@@ -27,8 +28,12 @@ symbols : (t : List ℕ) → undotted t ≡ true → (m : List ℕ) → undotted
 unfolding encode_symbols
 symbols t h [] = refl
 symbols t h (a ∷ []) = two _ _ [] (at_each t h _) (at_each t h _) refl
-symbols t h (a ∷ b ∷ []) = two _ _ _ (at_each t h _) (at_each t h _) (and_from _ true (at_each t h _) refl)
-symbols t h (a ∷ b ∷ c ∷ rest) = two _ _ _ (at_each t h _) (at_each t h _) (two _ _ _ (at_each t h _) (at_each t h _) (symbols t h rest))
+symbols t h (a ∷ b ∷ []) =
+    two _ _ (slice_index t ((b % 16) * 4) ∷ []) (at_each t h _) (at_each t h _) (and_from (is_other (slice_index t ((b % 16) * 4))) true (at_each t h ((b % 16) * 4)) refl)
+symbols t h (a ∷ b ∷ c ∷ rest) =
+    let third = (b % 16) * 4 + c / 64 in
+    two _ _ (slice_index t third ∷ slice_index t (c % 64) ∷ encode_symbols t rest) (at_each t h _) (at_each t h _)
+    (two (slice_index t third) (slice_index t (c % 64)) (encode_symbols t rest) (at_each t h third) (at_each t h (c % 64)) (symbols t h rest))
 
 -- the alphabet of base64url
 alphabet : undotted url_safe_no_pad.encode_table ≡ true

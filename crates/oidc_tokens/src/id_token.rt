@@ -102,24 +102,20 @@ impl<
         now: Timestamp,
     ) -> Result<&IdTokenClaims<AC, GC>, ClaimsVerificationError>
         ensures judged { let k = meanings K.JsonWebKey K.KeyUse.JsonWebKeyUse
-            K.SigningAlgorithm.JwsSigningAlgorithm.own K.SigningAlgorithm.ClosedVocabulary
-            K.SigningAlgorithm.KeyType.ClosedVocabulary in
+            JS.JwsSigningAlgorithm.own JS.ClosedVocabulary JS.KeyType.ClosedVocabulary in
             let failure = verification.first_failure k verifier.now (N.allows nonce) now.nanosecond
             in Judges (failure self.now) result }
         ensures accepted { let k = meanings K.JsonWebKey K.KeyUse.JsonWebKeyUse
-            K.SigningAlgorithm.JwsSigningAlgorithm.own K.SigningAlgorithm.ClosedVocabulary
-            K.SigningAlgorithm.KeyType.ClosedVocabulary in
+            JS.JwsSigningAlgorithm.own JS.ClosedVocabulary JS.KeyType.ClosedVocabulary in
             let accepts = Accepts k verifier.now (N.allows nonce) now.nanosecond
             in IfOk result (λ claims. accepts self.now) }
         ensures refused { let k = meanings K.JsonWebKey K.KeyUse.JsonWebKeyUse
-            K.SigningAlgorithm.JwsSigningAlgorithm.own K.SigningAlgorithm.ClosedVocabulary
-            K.SigningAlgorithm.KeyType.ClosedVocabulary in
+            JS.JwsSigningAlgorithm.own JS.ClosedVocabulary JS.KeyType.ClosedVocabulary in
             let accepts = Accepts k verifier.now (N.allows nonce) now.nanosecond
             in accepts self.now → IfErr result (λ error. error ≡ ClaimsVerificationError.Memory) }
         ensures claims { IfOk result (λ claims. claims.now ≡ self.now.payload) }
         ensures cause { let k = meanings K.JsonWebKey K.KeyUse.JsonWebKeyUse
-            K.SigningAlgorithm.JwsSigningAlgorithm.own K.SigningAlgorithm.ClosedVocabulary
-            K.SigningAlgorithm.KeyType.ClosedVocabulary in
+            JS.JwsSigningAlgorithm.own JS.ClosedVocabulary JS.KeyType.ClosedVocabulary in
             IfErr result (Cause k verifier.now (N.allows nonce) now.nanosecond self.now) }
     {
         match verifier.check(&self.token, &nonce, now) {
@@ -137,24 +133,20 @@ impl<
         now: Timestamp,
     ) -> Result<IdTokenClaims<AC, GC>, ClaimsVerificationError>
         ensures judged { let k = meanings K.JsonWebKey K.KeyUse.JsonWebKeyUse
-            K.SigningAlgorithm.JwsSigningAlgorithm.own K.SigningAlgorithm.ClosedVocabulary
-            K.SigningAlgorithm.KeyType.ClosedVocabulary in
+            JS.JwsSigningAlgorithm.own JS.ClosedVocabulary JS.KeyType.ClosedVocabulary in
             let failure = verification.first_failure k verifier.now (N.allows nonce) now.nanosecond
             in Judges (failure self) result }
         ensures accepted { let k = meanings K.JsonWebKey K.KeyUse.JsonWebKeyUse
-            K.SigningAlgorithm.JwsSigningAlgorithm.own K.SigningAlgorithm.ClosedVocabulary
-            K.SigningAlgorithm.KeyType.ClosedVocabulary in
+            JS.JwsSigningAlgorithm.own JS.ClosedVocabulary JS.KeyType.ClosedVocabulary in
             let accepts = Accepts k verifier.now (N.allows nonce) now.nanosecond
             in IfOk result (λ claims. accepts self) }
         ensures refused { let k = meanings K.JsonWebKey K.KeyUse.JsonWebKeyUse
-            K.SigningAlgorithm.JwsSigningAlgorithm.own K.SigningAlgorithm.ClosedVocabulary
-            K.SigningAlgorithm.KeyType.ClosedVocabulary in
+            JS.JwsSigningAlgorithm.own JS.ClosedVocabulary JS.KeyType.ClosedVocabulary in
             let accepts = Accepts k verifier.now (N.allows nonce) now.nanosecond
             in accepts self → IfErr result (λ error. error ≡ ClaimsVerificationError.Memory) }
         ensures claims { IfOk result (λ claims. claims ≡ self.payload) }
         ensures cause { let k = meanings K.JsonWebKey K.KeyUse.JsonWebKeyUse
-            K.SigningAlgorithm.JwsSigningAlgorithm.own K.SigningAlgorithm.ClosedVocabulary
-            K.SigningAlgorithm.KeyType.ClosedVocabulary in
+            JS.JwsSigningAlgorithm.own JS.ClosedVocabulary JS.KeyType.ClosedVocabulary in
             IfErr result (Cause k verifier.now (N.allows nonce) now.nanosecond self) }
     {
         match verifier.check(&self.token, &nonce, now) {
@@ -180,8 +172,7 @@ impl<
         verifier: &'s IdTokenVerifier<'s, K>,
     ) -> Result<&'s K, SignatureVerificationError>
         ensures key { let k = meanings K.JsonWebKey K.KeyUse.JsonWebKeyUse
-            K.SigningAlgorithm.JwsSigningAlgorithm.own K.SigningAlgorithm.ClosedVocabulary
-            K.SigningAlgorithm.KeyType.ClosedVocabulary in
+            JS.JwsSigningAlgorithm.own JS.ClosedVocabulary JS.KeyType.ClosedVocabulary in
             behind result ≡ signatures.checking_key k verifier.now self.now }
     {
         let alg = self.signing_alg()?;

@@ -303,7 +303,7 @@ impl<AC: AdditionalClaims, GC: GenderClaim> IdTokenClaims<AC, GC> {
     }
 }
 
-// ---- reading
+// ---- reading and writing
 
 impl<AC: AdditionalClaims, GC: GenderClaim> IdTokenClaims<AC, GC> {
     // The claims of members none of which is faulty.
@@ -333,6 +333,22 @@ impl<AC: AdditionalClaims, GC: GenderClaim> IdTokenClaims<AC, GC> {
                 },
             },
         }
+    }
+}
+
+impl<AC: AdditionalClaims, GC: GenderClaim> IdTokenClaims<AC, GC> {
+    // The members of each part, one after another.
+    fn as_members(&self, alloc: Global) -> Result<Vec<OutMember>, AllocError>
+        ensures members { let written = spec.id_token_members AC.write_of GC.write_of self.now in
+            IfOk result (λ out. out.items ≡ written) }
+        ensures texts { IfOk result (λ out. All IsUtf8Member out.items) }
+    {
+        let mut out = own_members(alloc, &self.own)?;
+        let mut standard = write_standard(alloc, &self.standard_claims)?;
+        out.append(&mut standard)?;
+        let mut additional = self.additional_claims.write(alloc)?;
+        out.append(&mut additional)?;
+        Ok(out)
     }
 }
 
@@ -375,11 +391,7 @@ impl<AC: AdditionalClaims, GC: GenderClaim> Payload for IdTokenClaims<AC, GC> {
         ensures reads_back { IsInRange AC.write_of self.now
             → IfOk result (λ out. GivesClaims AC.read_of GC.read_of out.items self.now) }
     {
-        let mut out = own_members(alloc, &self.own)?;
-        let mut standard = write_standard(alloc, &self.standard_claims)?;
-        out.append(&mut standard)?;
-        let mut additional = self.additional_claims.write(alloc)?;
-        out.append(&mut additional)?;
+        let out = self.as_members(alloc)?;
         Ok(out)
     }
 }

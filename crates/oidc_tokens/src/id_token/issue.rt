@@ -79,9 +79,7 @@ impl<
             (id_token_claims_of AC.read_of GC.read_of) token.text ≡ Ok token) }
         ensures accepted { let k = meanings S.VerificationKey.JsonWebKey
             S.VerificationKey.KeyUse.JsonWebKeyUse
-            S.VerificationKey.SigningAlgorithm.JwsSigningAlgorithm.own
-            S.VerificationKey.SigningAlgorithm.ClosedVocabulary
-            S.VerificationKey.SigningAlgorithm.KeyType.ClosedVocabulary in
+            JS.JwsSigningAlgorithm.own JS.ClosedVocabulary JS.KeyType.ClosedVocabulary in
             (v : SeenVerifier S.VerificationKey JS) (allows : Option (List ℕ) → Bool) (now : ℤ)
             → Expects k v allows now alg (S.verification_key key.now) claims
             → IfOk result (λ token. Accepts k v allows now token) }

@@ -1,0 +1,16 @@
+use Rattle.std.proofs.Common.{◌≡◌, ◌∙◌, sym, ap, subst, All, false, string_bytes}
+use Rattle.std.specs.Option.{option_copied}
+use Rattle.oidc_members.specs.Write.{any_float, object_text}
+use Rattle.oidc_readers.specs.WrittenBack.{IsUtf8Member}
+use Rattle.oidc_tokens.specs.Encoded.{IsMessage}
+use Rattle.oidc_tokens.specs.Header.{written_header}
+use Rattle.oidc_tokens.proofs.IssuedToken.{ready_of}
+use Rattle.oidc_tokens.proofs.jwt.Unsigned.of.Goals as goal
+
+pub returns-clause-ready : goal.returns-clause-ready
+returns-clause-ready g c =
+    let id = g.S.VerificationKey.JsonWebKey.key_id (g.S.PrivateSigningKey.verification_key c.args.key.now) in
+    let named : option_copied c.key_id.result ≡ id = c.key_id.ensures.id ∙ ap g.S.VerificationKey.JsonWebKey.key_id c.in_ok-checker.ensures.key in
+    let header : c.in_ok-header.header.items ≡ written_header c.args.alg.now id = c.in_ok-header.ensures.members ∙ ap (written_header c.args.alg.now) named in
+    ready_of c.args.alg.now id (g.P.Payload.write_of c.args.payload.now) (string_bytes c.in_ok-message.message) c.in_ok-header.header.items c.in_ok-payload.payload.items _ _ header
+    c.in_ok-payload.ensures.members c.as_slice.ensures.value c.as_slice-2.ensures.value c.in_ok-header.ensures.texts c.in_ok-payload.ensures.texts c.in_ok-message.ensures
