@@ -120,23 +120,19 @@ impl<
         verifier: &UserInfoVerifier<'_, JE, K>,
     ) -> Result<UserInfoClaims<AC, GC>, ClaimsVerificationError>
         ensures judged { let k = meanings K.JsonWebKey K.KeyUse.JsonWebKeyUse
-            K.SigningAlgorithm.JwsSigningAlgorithm.own K.SigningAlgorithm.ClosedVocabulary
-            K.SigningAlgorithm.KeyType.ClosedVocabulary in
+            JS.JwsSigningAlgorithm.own JS.ClosedVocabulary JS.KeyType.ClosedVocabulary in
             Judges (first_info_failure k verifier.now self (parties_of self.payload)) result }
         ensures accepted { let k = meanings K.JsonWebKey K.KeyUse.JsonWebKeyUse
-            K.SigningAlgorithm.JwsSigningAlgorithm.own K.SigningAlgorithm.ClosedVocabulary
-            K.SigningAlgorithm.KeyType.ClosedVocabulary in
+            JS.JwsSigningAlgorithm.own JS.ClosedVocabulary JS.KeyType.ClosedVocabulary in
             let accepts = AcceptsInfo k verifier.now self (parties_of self.payload)
             in IfOk result (λ claims. accepts) }
         ensures refused { let k = meanings K.JsonWebKey K.KeyUse.JsonWebKeyUse
-            K.SigningAlgorithm.JwsSigningAlgorithm.own K.SigningAlgorithm.ClosedVocabulary
-            K.SigningAlgorithm.KeyType.ClosedVocabulary in
+            JS.JwsSigningAlgorithm.own JS.ClosedVocabulary JS.KeyType.ClosedVocabulary in
             AcceptsInfo k verifier.now self (parties_of self.payload)
             → IfErr result (λ error. error ≡ ClaimsVerificationError.Memory) }
         ensures claims { IfOk result (λ claims. claims ≡ self.payload) }
         ensures cause { let k = meanings K.JsonWebKey K.KeyUse.JsonWebKeyUse
-            K.SigningAlgorithm.JwsSigningAlgorithm.own K.SigningAlgorithm.ClosedVocabulary
-            K.SigningAlgorithm.KeyType.ClosedVocabulary in
+            JS.JwsSigningAlgorithm.own JS.ClosedVocabulary JS.KeyType.ClosedVocabulary in
             IfErr result (InfoCause k verifier.now self (parties_of self.payload)) }
     {
         let subject = self.token.unverified_payload().subject();
