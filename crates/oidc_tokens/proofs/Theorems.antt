@@ -11,3 +11,4 @@ pub use Rattle.oidc_tokens.proofs.Passing.{passes_apart, passes_both, no_fault}
 pub use Rattle.oidc_tokens.proofs.Issued.{may_be_written}
 pub use Rattle.oidc_tokens.proofs.OwnBack.{texts_back}
 pub use Rattle.oidc_tokens.proofs.ClaimsBack.{all_kept, none_kept, weaker, claims_by, fault_outside, fault_narrowed, behind, before, each_stands, outs_back, standard_named, texts_stand, text_stands, same_some}
+pub use Rattle.oidc_tokens.proofs.FloatFree.{free_append, standing_free}

@@ -1,5 +1,5 @@
 -- Claims of user info that were written are read back.
-use Rattle.std.proofs.Common.{◌≡◌, ℕ, List, [], ◌∷◌, ◌++◌, map, Bool, true, false, ◌&&◌, not, Option, None, Some, option_map, Result, Ok, refl, sym, ap, ◌∙◌, filter, All, is_some, append-nil}
+use Rattle.std.proofs.Common.{◌≡◌, ℕ, List, [], ◌∷◌, ◌++◌, map, Bool, true, false, ◌&&◌, not, Option, None, Some, option_map, Result, Ok, refl, sym, ap, ◌∙◌, filter, All, append-nil, append_assoc}
 use Rattle.std.specs.List.{list_any, list_all}
 use Rattle.std.specs.Str.{bytes_eq}
 use Rattle.std.proofs.lemmas.Bool.{and_parts, false≢true}
@@ -8,7 +8,7 @@ use Rattle.std.proofs.lemmas.List.Elements.{All-append, filter-append}
 use Rattle.serde_json.specs.Data.{Data, string}
 use Rattle.oidc_members.specs.Seen.{SeenMember, OutSeen}
 use Rattle.oidc_members.specs.Objects.{members_of}
-use Rattle.oidc_members.specs.Write.{object_text}
+use Rattle.oidc_members.specs.Write.{any_float, object_text}
 use Rattle.oidc_members.specs.declared.refusal.Refusal.{Refusal}
 use Rattle.oidc_readers.specs.Passes.{first_by}
 use Rattle.oidc_readers.specs.Records.{◌>>=◌, optional}
@@ -20,11 +20,11 @@ use Rattle.oidc_claims.specs.Gender.{GenderReadsBack, GenderIsValue}
 use Rattle.oidc_claims.specs.Home.{home_by, is_additional_home, is_additional, user_info_fields}
 use Rattle.oidc_claims.specs.Standard.{claims_of, faultless_claims}
 use Rattle.oidc_claims.specs.Write.{written}
-use Rattle.oidc_claims.proofs.Theorems.{written_stands, split_reads_back}
+use Rattle.oidc_claims.proofs.Theorems.{written_free, written_stands, split_reads_back}
 use Rattle.oidc_tokens.specs.Homes.{is_standard}
 use Rattle.oidc_tokens.specs.IdTokenClaims.{additional_among}
 use Rattle.oidc_tokens.specs.Issuing.{ComesBack}
-use Rattle.oidc_tokens.proofs.Theorems.{standard_name, no_claim, is_claim, standard_same, passes_apart, passes_both, no_fault, may_be_written, all_kept, none_kept, weaker, claims_by, fault_outside, fault_narrowed, behind, before, each_stands, outs_back, standard_named, same_some}
+use Rattle.oidc_tokens.proofs.Theorems.{standard_name, no_claim, is_claim, standard_same, passes_apart, passes_both, no_fault, may_be_written, all_kept, none_kept, weaker, claims_by, fault_outside, fault_narrowed, behind, before, each_stands, outs_back, standard_named, same_some, free_append, standing_free}
 use Rattle.oidc_user_info.specs.UserInfoClaims.{SeenUserInfoClaims, iss, aud, own_rule, own_members, user_info_rule, parts_in, user_info_claims_of, user_info_members}
 use Rattle.oidc_user_info.specs.RoundTrip.{IsInRange, GivesClaims}
 use Rattle.oidc_user_info.proofs.OwnBack.{is_own_field, is_field, issuer_same, audiences_same, rule_outside, rule_narrowed, issuer_back, audiences_back, own_clean, fields_named, own_stand}
@@ -69,6 +69,16 @@ additional_not_standard name h = (and_parts (not (is_own_field name)) (not (stan
 passing : (p q : List ℕ → Bool) → ((name : List ℕ) → p name ≡ true → q name ≡ true) → (ms : List OutSeen) → list_all (λ m. p m.name) ms ≡ true → list_all (λ m. q m.name) ms ≡ true
 passing p q all ms h = weaker (λ m. p m.name) (λ m. q m.name) (λ m e. all m.name e) ms h
 
+-- ---- floats
+
+pub members_free : {AC GC : Type 0} (additional_out : AC → List OutSeen) (gender_data : GC → Data) → GenderIsValue gender_data → (c : SeenUserInfoClaims AC GC) → any_float (additional_out c.additional_claims) ≡ false
+    → any_float (user_info_members additional_out gender_data c) ≡ false
+members_free additional_out gender_data there c free =
+    let first = own_members c.issuer c.audiences in
+    let second = written gender_data c.standard_claims in
+    let third = additional_out c.additional_claims in
+    free_append (first ++ second) third (free_append first second (standing_free first (own_stand c.issuer c.audiences)) (written_free gender_data there c.standard_claims)) free
+
 -- ---- all claims
 
 module _
@@ -99,7 +109,9 @@ module _
   all = map as_read all_out
 
   cut : all ≡ map as_read first_part ++ (map as_read second_part ++ map as_read third_part)
-  cut = map-append as_read first_part (second_part ++ third_part) ∙ ap (λ l. map as_read first_part ++ l) (map-append as_read second_part third_part)
+  cut =
+      map-append as_read (first_part ++ second_part) third_part ∙ ap (λ l. l ++ map as_read third_part) (map-append as_read first_part second_part)
+      ∙ append_assoc (map as_read first_part) (map as_read second_part) (map as_read third_part)
 
   kept_in : (test : List ℕ → Bool) → filter (λ m. test m.name) all
       ≡ filter (λ m. test m.name) (map as_read first_part) ++ (filter (λ m. test m.name) (map as_read second_part) ++ filter (λ m. test m.name) (map as_read third_part))
@@ -145,9 +157,9 @@ module _
 
   values_stand : All (λ (m : OutSeen). MayStand m.value) all_out
   values_stand =
-      All-append (λ (m : OutSeen). MayStand m.value) first_part (second_part ++ third_part) (own_stand c.issuer c.audiences)
-      (All-append (λ (m : OutSeen). MayStand m.value) second_part third_part
-      (each_stands second_part (written_stands gender_data gender_there c.standard_claims range.standard_claims)) range.values)
+      All-append (λ (m : OutSeen). MayStand m.value) (first_part ++ second_part) third_part
+      (All-append (λ (m : OutSeen). MayStand m.value) first_part second_part (own_stand c.issuer c.audiences)
+      (each_stands second_part (written_stands gender_data gender_there c.standard_claims range.standard_claims))) range.values
 
   issuer_there : optional iss all ≡ c.issuer
   issuer_there = issuer_same all ∙ ap (optional iss) fields_kept ∙ issuer_back c.issuer c.audiences range.issuer
@@ -165,7 +177,7 @@ module _
 
   module _ (texts : All IsUtf8Member all_out) where
     standard_texts : All IsUtf8Member second_part
-    standard_texts = before IsUtf8Member second_part third_part (behind IsUtf8Member first_part (second_part ++ third_part) texts)
+    standard_texts = behind IsUtf8Member first_part second_part (before IsUtf8Member (first_part ++ second_part) third_part texts)
 
     standard_split : members_of (object_text second_part) ≡ Some (map as_read second_part)
     standard_split =

@@ -1,4 +1,6 @@
+mod Stays
 mod OwnBack
 mod ClaimsBack
 mod Rows
 mod Runs
+mod Texts

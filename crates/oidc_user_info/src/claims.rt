@@ -168,7 +168,7 @@ impl<AC: AdditionalClaims, GC: GenderClaim> IssuerClaim for &UserInfoClaims<AC, 
     }
 }
 
-// ---- reading
+// ---- reading and writing
 
 // The additional claims of these members.
 fn read_additional<AC: AdditionalClaims>(
@@ -238,6 +238,22 @@ fn text_of(issuer: Option<&IssuerUrl>) -> Option<&str>
     }
 }
 
+impl<AC: AdditionalClaims, GC: GenderClaim> UserInfoClaims<AC, GC> {
+    // The members of each part, one after another.
+    fn as_members(&self, alloc: Global) -> Result<Vec<OutMember>, AllocError>
+        ensures members { let written = spec.user_info_members AC.write_of GC.write_of self.now in
+            IfOk result (λ out. out.items ≡ written) }
+        ensures texts { IfOk result (λ out. All IsUtf8Member out.items) }
+    {
+        let mut out = own_members(alloc, self.issuer(), self.audiences())?;
+        let mut standard = write_standard(alloc, &self.standard_claims)?;
+        out.append(&mut standard)?;
+        let mut additional = self.additional_claims.write(alloc)?;
+        out.append(&mut additional)?;
+        Ok(out)
+    }
+}
+
 impl<AC: AdditionalClaims, GC: GenderClaim> Payload for UserInfoClaims<AC, GC> {
     ghost read_of = { spec.user_info_claims_of AC.read_of GC.read_of };
 
@@ -275,11 +291,7 @@ impl<AC: AdditionalClaims, GC: GenderClaim> Payload for UserInfoClaims<AC, GC> {
         ensures reads_back { IsInRange AC.write_of self.now
             → IfOk result (λ out. GivesClaims AC.read_of GC.read_of out.items self.now) }
     {
-        let mut out = own_members(alloc, self.issuer(), self.audiences())?;
-        let mut standard = write_standard(alloc, &self.standard_claims)?;
-        out.append(&mut standard)?;
-        let mut additional = self.additional_claims.write(alloc)?;
-        out.append(&mut additional)?;
+        let out = self.as_members(alloc)?;
         Ok(out)
     }
 }

@@ -1,0 +1,23 @@
+-- The rows of an answer that is a token, by whether its body is a text.
+use Rattle.std.proofs.Common.{◌≡◌, ℕ, List, Bool, true, false, refl}
+use Rattle.std.specs.Prelude.{Err}
+use Rattle.std.specs.Str.{is_utf8, IsUtf8}
+use Rattle.std.proofs.lemmas.Str.{IsUtf8-from_is_utf8, is_utf8-from_IsUtf8}
+use Rattle.oidc_oauth2.specs.TokenAnswers.{◌>>=◌, ◌or_as◌}
+use Rattle.oidc_tokens.specs.UserInfoVerification.{SeenUserInfoVerifier}
+use Rattle.oidc_user_info.specs.InfoAnswers.{Reading, token_in, accepted_claims, of_token}
+use Rattle.oidc_user_info.specs.declared.errors.InfoOther.TheVariants.{Utf8}
+use Rattle.oidc_user_info.specs.declared.errors.UserInfoError.TheVariants.{Parse, Other}
+
+no_text : (body : List ℕ) (b : Bool) → is_utf8 body ≡ b → (IsUtf8 body → ⊥) → b ≡ false
+no_text body true is h = absurd (h (IsUtf8-from_is_utf8 body is))
+no_text body false is h = refl
+
+module _ {AC GC JE Key Use Algorithm Type' : Type 0} (r : Reading AC GC JE Key Use Algorithm Type') (v : SeenUserInfoVerifier Key) (body : List ℕ) where
+  pub no_text_row : (IsUtf8 body → ⊥) → of_token r v body ≡ Err (Other Utf8)
+  unfolding of_token
+  no_text_row h = rw (no_text body (is_utf8 body) refl h) refl
+
+  pub text_row : IsUtf8 body → of_token r v body ≡ ((token_in r body or_as Parse) >>= accepted_claims r v)
+  unfolding of_token
+  text_row h = rw (is_utf8-from_IsUtf8 body h) refl
