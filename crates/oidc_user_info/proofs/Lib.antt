@@ -4,3 +4,4 @@ mod ClaimsBack
 mod Rows
 mod Runs
 mod Texts
+mod Unblamed
