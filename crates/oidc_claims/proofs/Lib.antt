@@ -1,4 +1,5 @@
 mod Apart
+mod Bases
 mod Homes
 mod Kept
 mod MayStand

@@ -177,7 +177,7 @@ module _ {Key Use Algorithm Type' : Type 0} (k : KeyMeanings Key Use Algorithm T
         chosen = signed.chosen;
         verified = signed.verified;
         unexpired = less now own.expiration (passes (int_lt now own.expiration) Expired six.4);
-        nonce = passes (allows own.nonce) InvalidNonce six.1.1.1.1.1;
+        nonce = passes (allows own.nonce) InvalidNonce six.5;
       }
 
   pub accepted : (v : SeenVerifier Key Algorithm) (allows : Option (List ℕ) → Bool) (now : ℤ) (token : SeenToken JE Algorithm (SeenIdTokenClaims AC GC))

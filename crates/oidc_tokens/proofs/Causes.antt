@@ -1,5 +1,5 @@
 -- The first check that fails, by its cause.
-use Rattle.std.proofs.Common.{◌≡◌, ◌≢◌, ℕ, ℤ, Bool, true, false, List, [], ◌∷◌, Option, None, Some, refl, sym, subst, ◌∙◌, arith, inl, inr, filter}
+use Rattle.std.proofs.Common.{◌≡◌, ◌≢◌, ℕ, ℤ, Bool, true, false, List, [], ◌∷◌, Option, None, Some, refl, sym, ap, subst, ◌∙◌, arith, inl, inr, filter}
 use Rattle.std.specs.Prelude.{Result, Ok, Err, not, ◌&&◌, ◌⊎◌, ◌≤ℤ◌, if◌then◌else◌, int_lt, is_none, IsTrue, IsFalse}
 use Rattle.std.specs.Option.{ok_or}
 use Rattle.std.specs.Str.{bytes_eq}
@@ -71,7 +71,10 @@ module _ {Key Use Algorithm Type' : Type 0} (k : KeyMeanings Key Use Algorithm T
   chosen_cause : (alg : Algorithm) → token.header.alg ≡ algorithm.Signature alg → (chosen : Result Key SignatureVerificationError) → key_for k v token.header.kid alg ≡ chosen
       → (r : SignatureVerificationError) → (chosen >>= λ key. k.keys.verdict key alg token.message token.signature) ≡ Err r → SignatureCause r
   chosen_cause alg signed (Ok key) is r h = verdict_cause alg signed key is r h
-  chosen_cause alg signed (Err refused) is r h = key_cause alg signed (k.algorithms.uses_shared_secret alg) refl r (is ∙ h)
+  chosen_cause alg signed (Err refused) is r h =
+      let answer : Result (Unit {0}) SignatureVerificationError = Err refused in
+      let same : refused ≡ r = same_err answer refused r refl h in
+      key_cause alg signed (k.algorithms.uses_shared_secret alg) refl r (is ∙ ap Err same)
 
   allowed_cause : (alg : Algorithm) → token.header.alg ≡ algorithm.Signature alg → (allowed : Bool) → is_allowed k v alg ≡ allowed → (r : SignatureVerificationError)
       → ((if allowed then Ok alg else Err refusal.DisallowedAlg) >>= λ alg. key_for k v token.header.kid alg >>= λ key. k.keys.verdict key alg token.message token.signature) ≡ Err r → SignatureCause r

@@ -22,24 +22,22 @@ use Rattle.oidc_readers.specs.Records.{◌>>=◌}
 use Rattle.oidc_readers.specs.WrittenBack.{ItemsAreWhole, MayStand, IsUtf8Member, as_read}
 use Rattle.oidc_readers.specs.Writing.{one_member, text_member, moment_member}
 use Rattle.oidc_readers.proofs.Theorems.{written_split_back}
-use Rattle.oidc_claims.specs.declared.claim.Claim.{Claim}
-use Rattle.oidc_claims.specs.declared.claim.Claim.TheVariants.{Subject, Name, GivenName, FamilyName, MiddleName, Nickname, PreferredUsername, Profile, Picture, Website, Email, EmailVerified, Gender, Birthday, Birthdate, Zoneinfo, Locale, PhoneNumber, PhoneNumberVerified, Address, UpdatedAt}
 use Rattle.oidc_claims.specs.Seen.{SeenClaims}
-use Rattle.oidc_claims.specs.Table.{name_of, kind_of, all_claims, base_of, claim_of}
+use Rattle.oidc_claims.specs.Table.{base_of, claim_of}
 use Rattle.oidc_claims.specs.Additional.{ReadsBack, StaysAdditional, are_written_additional, out_of}
-use Rattle.oidc_claims.specs.Claims.{fault_of_kind, fault_by, fault_at, first_fault}
+use Rattle.oidc_claims.specs.Claims.{fault_at, first_fault}
 use Rattle.oidc_claims.specs.Gender.{GenderReadsBack, GenderIsValue}
 use Rattle.oidc_claims.specs.Home.{home_by, is_additional_home, id_token_fields, user_info_fields}
-use Rattle.oidc_claims.specs.Standard.{claims_of, at_place, faultless_claims, unless_refused}
-use Rattle.oidc_claims.specs.Write.{written, claim_members, plain_member, with_tag, variant_member, variant_members, IsWholeSecond}
-use Rattle.oidc_claims.proofs.Theorems.{EachStands, moments_stand, written_stands, split_reads_back}
+use Rattle.oidc_claims.specs.Standard.{claims_of, faultless_claims}
+use Rattle.oidc_claims.specs.Write.{written, IsWholeSecond}
+use Rattle.oidc_claims.proofs.Theorems.{EachStands, written_stands, split_reads_back, moment_stands, standard_name, is_claim, standard_same, fault_outside, fault_narrowed, claims_by, are_standard, standard_named}
 use Rattle.oidc_tokens.specs.OwnClaims.{SeenOwnClaims, texts_data, texts_member, own_rule, own_of, own_members}
 use Rattle.oidc_tokens.specs.IdTokenClaims.{SeenIdTokenClaims, is_own_field, is_additional_claim, additional_members, id_token_rule, parts_in, id_token_claims_of, id_token_members}
 use Rattle.oidc_tokens.specs.Homes.{is_field, is_standard}
 use Rattle.oidc_tokens.specs.Issuing.{ComesBack}
 use Rattle.oidc_tokens.specs.RoundTrip.{IsInRange, GivesClaims}
 use Rattle.oidc_tokens.proofs.Entries.{Entry, out_at, outs, Holds, EachHolds}
-use Rattle.oidc_tokens.proofs.OneHome.{standard_name, no_claim, is_claim, claim_same, own_same, standard_same}
+use Rattle.oidc_tokens.proofs.OneHome.{no_claim, own_same}
 use Rattle.oidc_tokens.proofs.OwnBack.{entries, written_as, own_back, own_clean}
 use Rattle.oidc_tokens.proofs.OwnRule.{rule_outside, rule_narrowed}
 use Rattle.oidc_tokens.proofs.Issued.{may_be_written}
@@ -60,9 +58,6 @@ last_false false b h = refl
 
 abbrev are_fields : List OutSeen → Bool
 are_fields ms = list_all (λ m. is_own_field m.name) ms
-
-abbrev are_standard : List OutSeen → Bool
-are_standard ms = list_all (λ m. standard_name m.name) ms
 
 abbrev are_neither : List OutSeen → Bool
 are_neither ms = list_all (λ m. not (is_own_field m.name) && not (standard_name m.name)) ms
@@ -127,102 +122,6 @@ entries_named (e ∷ es) h =
 fields_named : (c : SeenOwnClaims) → are_fields (own_members c) ≡ true
 fields_named c = ap are_fields (written_as c) ∙ entries_named (entries c) refl
 
--- a standard claim's name, with any tag
-known : (c : Claim) → standard_name (name_of c) ≡ true
-known Subject = refl
-known Name = refl
-known GivenName = refl
-known FamilyName = refl
-known MiddleName = refl
-known Nickname = refl
-known PreferredUsername = refl
-known Profile = refl
-known Picture = refl
-known Website = refl
-known Email = refl
-known EmailVerified = refl
-known Gender = refl
-known Birthday = refl
-known Birthdate = refl
-known Zoneinfo = refl
-known Locale = refl
-known PhoneNumber = refl
-known PhoneNumberVerified = refl
-known Address = refl
-known UpdatedAt = refl
-
-known_tagged : (c : Claim) (tag : List ℕ) → standard_name (name_of c ++ codes "#" ++ tag) ≡ true
-known_tagged Subject tag = refl
-known_tagged Name tag = refl
-known_tagged GivenName tag = refl
-known_tagged FamilyName tag = refl
-known_tagged MiddleName tag = refl
-known_tagged Nickname tag = refl
-known_tagged PreferredUsername tag = refl
-known_tagged Profile tag = refl
-known_tagged Picture tag = refl
-known_tagged Website tag = refl
-known_tagged Email tag = refl
-known_tagged EmailVerified tag = refl
-known_tagged Gender tag = refl
-known_tagged Birthday tag = refl
-known_tagged Birthdate tag = refl
-known_tagged Zoneinfo tag = refl
-known_tagged Locale tag = refl
-known_tagged PhoneNumber tag = refl
-known_tagged PhoneNumberVerified tag = refl
-known_tagged Address tag = refl
-known_tagged UpdatedAt tag = refl
-
-with_tag_known : (c : Claim) (tag : Option (List ℕ)) → standard_name (with_tag (name_of c) tag) ≡ true
-with_tag_known c None = known c
-with_tag_known c (Some tag) = known_tagged c tag
-
-plain_named : (c : Claim) (o : Option Data) → are_standard (plain_member c o) ≡ true
-plain_named c None = refl
-plain_named c (Some value) = and_from (standard_name (name_of c)) true (known c) refl
-
-entries_standard : (c : Claim) (es : List (Option (List ℕ) × List ℕ)) → are_standard (map (variant_member c) es) ≡ true
-entries_standard c [] = refl
-entries_standard c (e ∷ es) = and_from (standard_name (with_tag (name_of c) e.0)) (are_standard (map (variant_member c) es)) (with_tag_known c e.0) (entries_standard c es)
-
-variants_named : (c : Claim) (o : Option (Variants (List ℕ))) → are_standard (variant_members c o) ≡ true
-variants_named c None = refl
-variants_named c (Some variants) = entries_standard c (finite.entries variants)
-
-module _ {GC : Type 0} (gender_data : GC → Data) (s : SeenClaims GC) where
-  claim_named : (c : Claim) → are_standard (claim_members gender_data s c) ≡ true
-  claim_named Subject = plain_named Subject (Some (string s.subject))
-  claim_named Name = variants_named Name s.name
-  claim_named GivenName = variants_named GivenName s.given_name
-  claim_named FamilyName = variants_named FamilyName s.family_name
-  claim_named MiddleName = variants_named MiddleName s.middle_name
-  claim_named Nickname = variants_named Nickname s.nickname
-  claim_named PreferredUsername = plain_named PreferredUsername _
-  claim_named Profile = variants_named Profile s.profile
-  claim_named Picture = variants_named Picture s.picture
-  claim_named Website = variants_named Website s.website
-  claim_named Email = plain_named Email _
-  claim_named EmailVerified = plain_named EmailVerified _
-  claim_named Gender = plain_named Gender _
-  claim_named Birthday = plain_named Birthday _
-  claim_named Birthdate = plain_named Birthdate _
-  claim_named Zoneinfo = plain_named Zoneinfo _
-  claim_named Locale = plain_named Locale _
-  claim_named PhoneNumber = plain_named PhoneNumber _
-  claim_named PhoneNumberVerified = plain_named PhoneNumberVerified _
-  claim_named Address = plain_named Address _
-  claim_named UpdatedAt = plain_named UpdatedAt _
-
-  claims_named : (cs : List Claim) → are_standard (flat_map (claim_members gender_data s) cs) ≡ true
-  claims_named [] = refl
-  claims_named (c ∷ cs) =
-      list_all-append (λ m. standard_name m.name) (claim_members gender_data s c) (flat_map (claim_members gender_data s) cs)
-      ∙ (λ i. claim_named c i && claims_named cs i)
-
-  pub standard_named : are_standard (written gender_data s) ≡ true
-  standard_named = claims_named all_claims
-
 -- what additional claims are written as is neither
 neither_by : (field standard of_user : Bool) → field ≡ false → is_additional_home (home_by of_user standard) ≡ true → (not field && not standard) ≡ true
 neither_by false false of_user is h = refl
@@ -240,56 +139,8 @@ neither_named (m ∷ ms) h k =
     (ap (λ standard. is_additional_home (home_by (list_any (λ field. bytes_eq field m.name) user_info_fields) standard)) (sym (is_claim (as_read m))) ∙ b.0))
     (neither_named ms a.1 b.1)
 
--- ---- the rule of the standard claims
-
-all_known : (c : Claim) → list_any (λ d. bytes_eq (name_of c) (name_of d)) all_claims ≡ true
-all_known Subject = refl
-all_known Name = refl
-all_known GivenName = refl
-all_known FamilyName = refl
-all_known MiddleName = refl
-all_known Nickname = refl
-all_known PreferredUsername = refl
-all_known Profile = refl
-all_known Picture = refl
-all_known Website = refl
-all_known Email = refl
-all_known EmailVerified = refl
-all_known Gender = refl
-all_known Birthday = refl
-all_known Birthdate = refl
-all_known Zoneinfo = refl
-all_known Locale = refl
-all_known PhoneNumber = refl
-all_known PhoneNumberVerified = refl
-all_known Address = refl
-all_known UpdatedAt = refl
-
-placed_ok : {A : Type 0} (answer : Result A Refusal) (place : ℕ) (x : A) → at_place place answer ≡ Ok x → answer ≡ Ok x
-placed_ok (Ok y) place x h = cc
-placed_ok (Err refusal) place x h = absurd cc
-
 pub same_some : {A : Type 0} (x y : A) → Some x ≡ Some y → x ≡ y
 same_some x y h = cc
-
-module _ {GC : Type 0} (gender_read : SeenMember → Result GC Refusal) where
-  silent_by : (o : Option Claim) (before : List SeenMember) (m : SeenMember) → is_some o ≡ false → fault_by gender_read o before m ≡ None
-  silent_by None before m h = refl
-  silent_by (Some c) before m h = absurd (true≢false h)
-
-  pub fault_outside : (before : List SeenMember) (m : SeenMember) → is_standard m ≡ false → fault_at gender_read before m ≡ None
-  fault_outside before m h = silent_by (claim_of (base_of m.name)) before m (is_claim m ∙ h)
-
-  narrowed_by_claim : (o : Option Claim) (before : List SeenMember) (m : SeenMember) → fault_by gender_read o before m ≡ fault_by gender_read o (filter is_standard before) m
-  narrowed_by_claim None before m = refl
-  narrowed_by_claim (Some c) before m = ap (λ came. fault_of_kind gender_read (kind_of c) came m) (sym (claim_same gender_read before c (all_known c)))
-
-  pub fault_narrowed : (before : List SeenMember) (m : SeenMember) → fault_at gender_read before m ≡ fault_at gender_read (filter is_standard before) m
-  fault_narrowed before m = narrowed_by_claim (claim_of (base_of m.name)) before m
-
-  pub claims_by : (fault : Option (ℕ × Refusal)) (ms : List SeenMember) (s : SeenClaims GC) → unless_refused gender_read fault ms ≡ Ok s → (fault ≡ None) × (faultless_claims gender_read ms ≡ Ok s)
-  claims_by (Some fault) ms s h = absurd cc
-  claims_by None ms s h = (refl, placed_ok (faultless_claims gender_read ms) (length ms) s h)
 
 module _ (P : OutSeen → Type 0) where
   pub behind : (xs ys : List OutSeen) → All P (xs ++ ys) → All P ys
@@ -323,9 +174,6 @@ texts_stand texts = (texts_whole texts, let shallow = texts_shallow texts in ome
 
 pub text_stands : (text : List ℕ) → MayStand (string text)
 text_stands text = (tt, omega arith)
-
-moment_stands : (moment : ℤ) → IsWholeSecond (Some moment) → MayStand (seconds_data moment)
-moment_stands moment h = (moments_stand UpdatedAt (Some moment) h).0
 
 stand_out : (name : List ℕ) (o : Option Data) → Holds MayStand o → All (λ (m : OutSeen). MayStand m.value) (out_at name o)
 stand_out name None h = All-nil (λ (m : OutSeen). MayStand m.value)

@@ -9,35 +9,35 @@ apart : (failure : Option ClaimsVerificationError) (e : ClaimsVerificationError)
 apart failure e h k = let both = sym h ∙ k in cc both
 
 -- where no check fails, nothing but want of memory is refused
-pub memory_alone : {C : Type 0} (failure : Option ClaimsVerificationError) (e : ClaimsVerificationError) → Judges {C = C} failure (Err e) → failure ≡ None → e ≡ Memory
-memory_alone failure Memory h k = refl
-memory_alone failure Unsupported h k = absurd (apart failure Unsupported h k)
-memory_alone failure InvalidIssuer h k = absurd (apart failure InvalidIssuer h k)
-memory_alone failure InvalidAudience h k = absurd (apart failure InvalidAudience h k)
-memory_alone failure (SignatureVerification r) h k = absurd (apart failure (SignatureVerification r) h k)
-memory_alone failure Expired h k = absurd (apart failure Expired h k)
-memory_alone failure InvalidNonce h k = absurd (apart failure InvalidNonce h k)
-memory_alone failure InvalidSubject h k = absurd (apart failure InvalidSubject h k)
+pub memory_alone : (C : Type 0) (failure : Option ClaimsVerificationError) (e : ClaimsVerificationError) → Judges {C = C} failure (Err e) → failure ≡ None → e ≡ Memory
+memory_alone C failure Memory h k = refl
+memory_alone C failure Unsupported h k = absurd (apart failure Unsupported h k)
+memory_alone C failure InvalidIssuer h k = absurd (apart failure InvalidIssuer h k)
+memory_alone C failure InvalidAudience h k = absurd (apart failure InvalidAudience h k)
+memory_alone C failure (SignatureVerification r) h k = absurd (apart failure (SignatureVerification r) h k)
+memory_alone C failure Expired h k = absurd (apart failure Expired h k)
+memory_alone C failure InvalidNonce h k = absurd (apart failure InvalidNonce h k)
+memory_alone C failure InvalidSubject h k = absurd (apart failure InvalidSubject h k)
 
 -- a fact of each check that fails, and of want of memory
-pub of_failure : {C : Type 0} (Fact : ClaimsVerificationError → Type 0) (failure : Option ClaimsVerificationError) (e : ClaimsVerificationError) → Judges {C = C} failure (Err e)
+pub of_failure : (C : Type 0) (Fact : ClaimsVerificationError → Type 0) (failure : Option ClaimsVerificationError) (e : ClaimsVerificationError) → Judges {C = C} failure (Err e)
     → ((e : ClaimsVerificationError) → failure ≡ Some e → Fact e) → Fact Memory → Fact e
-of_failure Fact failure Memory h fails memory = memory
-of_failure Fact failure Unsupported h fails memory = fails Unsupported h
-of_failure Fact failure InvalidIssuer h fails memory = fails InvalidIssuer h
-of_failure Fact failure InvalidAudience h fails memory = fails InvalidAudience h
-of_failure Fact failure (SignatureVerification r) h fails memory = fails (SignatureVerification r) h
-of_failure Fact failure Expired h fails memory = fails Expired h
-of_failure Fact failure InvalidNonce h fails memory = fails InvalidNonce h
-of_failure Fact failure InvalidSubject h fails memory = fails InvalidSubject h
+of_failure C Fact failure Memory h fails memory = memory
+of_failure C Fact failure Unsupported h fails memory = fails Unsupported h
+of_failure C Fact failure InvalidIssuer h fails memory = fails InvalidIssuer h
+of_failure C Fact failure InvalidAudience h fails memory = fails InvalidAudience h
+of_failure C Fact failure (SignatureVerification r) h fails memory = fails (SignatureVerification r) h
+of_failure C Fact failure Expired h fails memory = fails Expired h
+of_failure C Fact failure InvalidNonce h fails memory = fails InvalidNonce h
+of_failure C Fact failure InvalidSubject h fails memory = fails InvalidSubject h
 
 -- what is answered at one type is at another
-pub judges_as : {C D : Type 0} (failure : Option ClaimsVerificationError) (e : ClaimsVerificationError) → Judges {C = C} failure (Err e) → Judges {C = D} failure (Err e)
-judges_as failure Memory h = tt
-judges_as failure Unsupported h = h
-judges_as failure InvalidIssuer h = h
-judges_as failure InvalidAudience h = h
-judges_as failure (SignatureVerification r) h = h
-judges_as failure Expired h = h
-judges_as failure InvalidNonce h = h
-judges_as failure InvalidSubject h = h
+pub judges_as : (C D : Type 0) (failure : Option ClaimsVerificationError) (e : ClaimsVerificationError) → Judges {C = C} failure (Err e) → Judges {C = D} failure (Err e)
+judges_as C D failure Memory h = tt
+judges_as C D failure Unsupported h = h
+judges_as C D failure InvalidIssuer h = h
+judges_as C D failure InvalidAudience h = h
+judges_as C D failure (SignatureVerification r) h = h
+judges_as C D failure Expired h = h
+judges_as C D failure InvalidNonce h = h
+judges_as C D failure InvalidSubject h = h

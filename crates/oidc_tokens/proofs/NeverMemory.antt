@@ -29,7 +29,7 @@ module _ {Key Use Algorithm Type' : Type 0} (k : KeyMeanings Key Use Algorithm T
       never_by (is_supported token.header) (bytes_eq own.issuer.text v.issuer.text) (is_alone_in v.client_id own.audiences) (verdict_on k v token) (int_lt now own.expiration) (allows own.nonce)
 
   -- where no verdict of a key is want of memory
-  pub never_memory_inside : ((key : Key) (alg : Algorithm) (message signature : List ℕ) → k.keys.verdict key alg message signature ≢ Err signature.Memory)
+  pub never_memory_inside : ((key : Key) (alg : Algorithm) (message made : List ℕ) → k.keys.verdict key alg message made ≢ Err signature.Memory)
       → (v : SeenVerifier Key Algorithm) (allows : Option (List ℕ) → Bool) (now : ℤ) (token : SeenToken JE Algorithm (SeenIdTokenClaims AC GC))
       → first_failure k v allows now token ≢ Some (SignatureVerification signature.Memory)
   never_memory_inside law v allows now token = λ h.
