@@ -85,12 +85,17 @@ module _ {AC GC JE Key Use Algorithm Type' : Type 0} (r : Reading AC GC JE Key U
     ClaimsVerification for failure_of v token
     Ok token.payload
 
+  -- those of a token's text
+  abbrev pub of_text : SeenUserInfoVerifier Key → List ℕ → Meant (SeenUserInfoClaims AC GC)
+  of_text v text = do
+    token ← token_in text or_as Parse
+    accepted_claims v token
+
   -- those of an answer that is a token
   unfoldable pub of_token : SeenUserInfoVerifier Key → List ℕ → Meant (SeenUserInfoClaims AC GC)
   of_token v body = do
     Other Utf8 when not (is_utf8 body)
-    token ← token_in body or_as Parse
-    accepted_claims v token
+    of_text v body
 
   -- An answer without a media type is an object.
   unfoldable pub by_media_type : Demand Key → SeenResponse → Meant (SeenUserInfoClaims AC GC)

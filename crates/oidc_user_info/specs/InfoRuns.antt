@@ -41,7 +41,7 @@ module _ {AC GC JE Key Use Algorithm Type' : Type 0} (r : Reading AC GC JE Key U
 
   -- For some answers that came: the one request that is meant was handed over, and nothing else, and the
   -- result is the reply by the answer to it. On `Memory` it may not have been.
-  pub record Ran {RE : Type 0} (ask : SeenInfoRequest Key) (old new : Known)
+  pub record Exchanged {RE : Type 0} (ask : SeenInfoRequest Key) (old new : Known)
       (result : Result (SeenUserInfoClaims AC GC) (UserInfoError RE)) : Type 0 where
     pub answers : List SeenAnswer
     pub logged : new.log ≡ log_after old.log (take (length answers) (sent ask)) answers
@@ -49,12 +49,18 @@ module _ {AC GC JE Key Use Algorithm Type' : Type 0} (r : Reading AC GC JE Key U
     pub answered : length answers ≤ length (sent ask)
     pub all_sent : OrMemory result (length answers ≡ length (sent ask))
     pub replied : Gives result (reply ask answers)
+
+  -- the same, and what the result rests on by those answers
+  pub record Ran {RE : Type 0} (ask : SeenInfoRequest Key) (old new : Known)
+      (result : Result (SeenUserInfoClaims AC GC) (UserInfoError RE)) : Type 0 where
+    pub exchanged : Exchanged ask old new result
     -- each refusal has its cause, and each cause its refusal
-    pub cause : IfErr result (λ e. OrMemory result (Cause ask answers r (seen_refusal e)))
-    pub refused : (e : InfoRefusal) → Cause ask answers r e → Gives result (Err e)
+    pub cause : IfErr result (λ e. OrMemory result (Cause ask exchanged.answers r (seen_refusal e)))
+    pub refused : (e : InfoRefusal) → Cause ask exchanged.answers r e → Gives result (Err e)
     -- an Ok has the claims that the answer holds, and claims that it holds are an Ok
-    pub held : IfOk result (IsUserInfo ask answers r)
-    pub holds : (found : SeenUserInfoClaims AC GC) → IsUserInfo ask answers r found → Gives result (Ok found)
+    pub held : IfOk result (IsUserInfo ask exchanged.answers r)
+    pub holds : (found : SeenUserInfoClaims AC GC) → IsUserInfo ask exchanged.answers r found
+        → Gives result (Ok found)
 
 -- a fault only where the count of faults has risen, or stands at its last value
 abbrev pub IsRequestBlamed : {A RE : Type 0} → ℕ → ℕ → Result A (UserInfoError RE) → Type 0

@@ -84,8 +84,31 @@ where
     }
 }
 
+// What a token's text is worth.
+fn of_text<AC, GC, JE, K, RE>(
+    alloc: Global,
+    verifier: &UserInfoVerifier<'_, JE, K>,
+    text: &str,
+) -> Result<UserInfoClaims<AC, GC>, UserInfoError<RE>>
+where
+    AC: AdditionalClaims,
+    GC: GenderClaim,
+    JE: JweContentEncryptionAlgorithm,
+    K: JsonWebKey,
+    ensures { let k = meanings K.JsonWebKey K.KeyUse.JsonWebKeyUse
+        K.SigningAlgorithm.JwsSigningAlgorithm.own K.SigningAlgorithm.ClosedVocabulary
+        K.SigningAlgorithm.KeyType.ClosedVocabulary in
+        let r = reading AC.read_of GC.read_of JE.from_str K.SigningAlgorithm.from_str k in
+        Gives result (spec.of_text r verifier.now text.now) }
+{
+    match UserInfoJsonWebToken::<AC, GC, JE, K::SigningAlgorithm>::read(alloc, text) {
+        Err(ParseError::Refused(refusal)) => Err(UserInfoError::Parse(refusal)),
+        Err(ParseError::Memory) => Err(UserInfoError::Memory),
+        Ok(token) => accepted_claims(alloc, token, verifier),
+    }
+}
+
 // What an answer that is a token is worth.
-#[tactic(auto, unfolding(crate::specs::InfoAnswers::of_token))]
 fn of_token<AC, GC, JE, K, RE>(
     alloc: Global,
     verifier: &UserInfoVerifier<'_, JE, K>,
@@ -104,13 +127,7 @@ where
 {
     match str::from_utf8(body.as_slice()) {
         Err(_) => Err(UserInfoError::Other(InfoOther::Utf8)),
-        Ok(text) => {
-            match UserInfoJsonWebToken::<AC, GC, JE, K::SigningAlgorithm>::read(alloc, text) {
-                Err(ParseError::Refused(refusal)) => Err(UserInfoError::Parse(refusal)),
-                Err(ParseError::Memory) => Err(UserInfoError::Memory),
-                Ok(token) => accepted_claims(alloc, token, verifier),
-            }
-        }
+        Ok(text) => of_text(alloc, verifier, text),
     }
 }
 

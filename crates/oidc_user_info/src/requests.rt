@@ -8,7 +8,7 @@ ghost use Rattle.oidc_tokens.specs.Signatures.{meanings};
 ghost use Rattle.oidc_user_info.specs.InfoAnswers.{reading};
 ghost use Rattle.oidc_user_info.specs.InfoRequests as spec;
 ghost use Rattle.oidc_user_info.specs.InfoRequests.{info_request};
-ghost use Rattle.oidc_user_info.specs.InfoRuns.{Ran, IsRequestBlamed};
+ghost use Rattle.oidc_user_info.specs.InfoRuns.{Exchanged, Ran, IsRequestBlamed};
 ghost use Rattle.oidc_user_info.specs.declared.requests.UserInfoResponseType.TheVariants.{Json};
 
 use crate::claims::UserInfoClaims;
@@ -216,6 +216,36 @@ fn get(
 }
 
 impl<'a, JE: JweContentEncryptionAlgorithm, K: JsonWebKey> UserInfoRequest<'a, JE, K> {
+    // Hands the request over, and judges the response.
+    fn exchange<AC: AdditionalClaims, GC: GenderClaim, C: SyncHttpClient>(
+        self,
+        alloc: Global,
+        http: &mut C,
+    ) -> Result<UserInfoClaims<AC, GC>, UserInfoError<C::Error>>
+        requires { C.ready http.old }
+        ensures again { C.ready http.new }
+        ensures exchanged { let k = meanings K.JsonWebKey K.KeyUse.JsonWebKeyUse
+            K.SigningAlgorithm.JwsSigningAlgorithm.own K.SigningAlgorithm.ClosedVocabulary
+            K.SigningAlgorithm.KeyType.ClosedVocabulary in
+            let r = reading AC.read_of GC.read_of JE.from_str K.SigningAlgorithm.from_str k in
+            let before = known (C.log http.old) (C.script http.old) in
+            let after = known (C.log http.new) (C.script http.new) in
+            Exchanged r self.entry before after result }
+        ensures never_falls { C.faults http.old ≤ C.faults http.new }
+        ensures blamed { IsRequestBlamed (C.faults http.old) (C.faults http.new) result }
+    {
+        match self.prepare(alloc) {
+            Err(PrepareInfoError::Bearer) => Err(UserInfoError::Other(InfoOther::Bearer)),
+            Err(PrepareInfoError::Uri) => Err(UserInfoError::Other(InfoOther::Uri)),
+            Err(PrepareInfoError::Memory) => Err(UserInfoError::Memory),
+            Ok(request) => match http.call(alloc, request) {
+                Err(CallError::Memory) => Err(UserInfoError::Memory),
+                Err(CallError::Transport(error)) => Err(UserInfoError::Request(error)),
+                Ok(response) => self.answer(alloc, response),
+            },
+        }
+    }
+
     /// Hands the request of `prepare` over, and answers what the response is worth, as
     /// [`answer`](UserInfoRequest::answer) says. On `Bearer` and `Uri` nothing is handed over, and `Request`
     /// comes only where the transport failed.
@@ -236,15 +266,6 @@ impl<'a, JE: JweContentEncryptionAlgorithm, K: JsonWebKey> UserInfoRequest<'a, J
         ensures never_falls { C.faults http.old ≤ C.faults http.new }
         ensures blamed { IsRequestBlamed (C.faults http.old) (C.faults http.new) result }
     {
-        match self.prepare(alloc) {
-            Err(PrepareInfoError::Bearer) => Err(UserInfoError::Other(InfoOther::Bearer)),
-            Err(PrepareInfoError::Uri) => Err(UserInfoError::Other(InfoOther::Uri)),
-            Err(PrepareInfoError::Memory) => Err(UserInfoError::Memory),
-            Ok(request) => match http.call(alloc, request) {
-                Err(CallError::Memory) => Err(UserInfoError::Memory),
-                Err(CallError::Transport(error)) => Err(UserInfoError::Request(error)),
-                Ok(response) => self.answer(alloc, response),
-            },
-        }
+        self.exchange(alloc, http)
     }
 }
