@@ -1,5 +1,5 @@
 -- What a request for user info leaves of a transport, by the reply of the table.
-use Rattle.std.proofs.Common.{◌≡◌, List, [], length, Option, None, Some, refl, sym, ap, subst, ◌∙◌, arith, append-nil}
+use Rattle.std.proofs.Common.{◌≡◌, ℕ, List, [], length, Option, None, Some, refl, sym, ap, subst, ◌∙◌, arith, append-nil}
 use Rattle.std.specs.Prelude.{Result, Ok, Err, IfOk, IfErr}
 use Rattle.std.specs.Result.{result_ok}
 use Rattle.oidc_oauth2.specs.Messages.{SeenRequest, SeenAnswer}
@@ -28,7 +28,7 @@ plays_none : (script : Option (List SeenAnswer)) → Plays script [] script
 plays_none None = refl
 plays_none (Some script) = (refl, refl)
 
-module _ {AC GC JE Key Use Algorithm Type' : Type 0} (r : Reading AC GC JE Key Use Algorithm Type') (ask : SeenInfoRequest Key) {RE : Type 0} where
+module _ {AC GC JE Key Use Algorithm Type' : Type 0} (r : Reading AC GC JE Key Use Algorithm Type') (ask : SeenInfoRequest Key) (RE : Type 0) where
   abbrev Claims : Type 0
   Claims = SeenUserInfoClaims AC GC
 
@@ -64,9 +64,20 @@ module _ {AC GC JE Key Use Algorithm Type' : Type 0} (r : Reading AC GC JE Key U
     holds = λ found held. subst (GivenBy result) (holds_reply r ask e.answers found held) e.replied;
   }
 
+  -- there was no memory for a request
+  pub no_memory : (known : Known) → Exchanged r {RE = RE} ask known known (Err Memory)
+  no_memory known = record {
+    answers = [];
+    logged = log_kept known.log;
+    plays = plays_none known.script;
+    answered = omega arith;
+    all_sent = tt;
+    replied = tt;
+  }
+
   -- no request is made
   unmade_by : (e : PrepareInfoError) → (meant : Result SeenRequest PrepareInfoError) → info_request ask ≡ meant → meant ≡ Err e → (known : Known) (result : Answer)
-      → Gives result (Err (unmade e)) → OrMemory result (0 ≡ 0) → Exchanged r ask known known result
+      → Gives result (Err (unmade e)) → OrMemory result (◌≡◌ {A = ℕ} 0 0) → Exchanged r ask known known result
   unmade_by e (Ok request) is h known result gives all = absurd cc
   unmade_by e (Err refusal) is h known result gives all = record {
     answers = [];
