@@ -71,11 +71,17 @@ module _ (ms : List SeenMember) where
 
 -- ---- accepted claims
 
+same_ok : {A : Type 0} (x y : A) → ◌≡◌ {A = Result A Refusal} (Ok x) (Ok y) → x ≡ y
+same_ok x y h = cc
+
 module _ {AC GC : Type 0} (additional_read : List SeenMember → Result AC Refusal) (gender_read : SeenMember → Result GC Refusal) where
   additional_of : (own : SeenOwnClaims) (standard : SeenClaims GC) (answer : Result AC Refusal) (claims : SeenIdTokenClaims AC GC)
       → (answer >>= λ additional. Ok (record { own = own; standard_claims = standard; additional_claims = additional })) ≡ Ok claims
       → (own ≡ claims.own) × (standard ≡ claims.standard_claims) × (answer ≡ Ok claims.additional_claims)
-  additional_of own standard (Ok additional) claims h = cc
+  additional_of own standard (Ok additional) claims h =
+      let whole : SeenIdTokenClaims AC GC = record { own = own; standard_claims = standard; additional_claims = additional } in
+      let same : whole ≡ claims = same_ok whole claims h in
+      (ap (λ c. c.own) same, ap (λ c. c.standard_claims) same, ap (λ (c : SeenIdTokenClaims AC GC). Ok c.additional_claims) same)
   additional_of own standard (Err refusal) claims h = absurd cc
 
   abbrev Parts : List SeenMember → SeenIdTokenClaims AC GC → Type 0

@@ -1,23 +1,26 @@
 -- An ID token's own fields that were written are read back.
-use Rattle.std.proofs.Common.{◌≡◌, ℕ, ℤ, pos, negsuc, ◌≤◌, List, [], ◌∷◌, ◌++◌, map, Option, None, Some, option_map, Ok, codes, refl, sym, ap, ◌∙◌, append-nil, append_assoc, take, drop}
+use Rattle.std.proofs.Common.{◌≡◌, ℕ, ℤ, pos, negsuc, ◌≤◌, List, [], ◌∷◌, ◌++◌, map, Option, None, Some, option_map, Result, Ok, codes, refl, sym, ap, ◌∙◌, append-nil, append_assoc, take, drop}
 use Rattle.std.specs.Option.{ok_or, option_flatten}
 use Rattle.std.specs.Result.{result_ok}
-use Rattle.std.specs.Prelude.{option_and_then}
+use Rattle.std.specs.Prelude.{option_and_then, unwrap_or}
 use Rattle.url.specs.Parser.{parse_url}
 use Rattle.serde_json.specs.Data.{Data, string}
 use Rattle.serde_json.specs.Find.{as_number, as_integer, of_integer}
 use Rattle.serde_json.specs.View.{items_of}
 use Rattle.oidc_members.specs.Seen.{SeenMember, OutSeen}
+use Rattle.oidc_members.specs.declared.refusal.Refusal.{Refusal}
 use Rattle.oidc_members.specs.declared.refusal.ParseKind.TheVariants.{Moment, WrongType}
-use Rattle.oidc_readers.specs.Kinds.{of_member, url_parsed, url_kind, seconds_read, moment_kind, text_kind, texts_in, texts_kind, there, or_null}
-use Rattle.oidc_readers.specs.Fields.{judged, first_value}
+use Rattle.oidc_types.specs.{TextAndUrl}
+use Rattle.oidc_readers.specs.Kinds.{of_member, url_parsed, url_kind, seconds_read, moment_kind, text_kind, texts_in, texts_kind, text_or_texts_kind, there, or_null}
+use Rattle.oidc_readers.specs.Fields.{Field, own, value_in, judged, first_value}
+use Rattle.oidc_readers.specs.Records.{◌>>=◌, missing, required, optional}
 use Rattle.oidc_readers.specs.Moments.{seconds_of, seconds_data}
 use Rattle.oidc_readers.specs.Passes.{first_by}
 use Rattle.oidc_readers.specs.WrittenBack.{as_read}
 use Rattle.oidc_readers.specs.Writing.{one_member, text_member, moment_member}
 use Rattle.oidc_claims.specs.Write.{IsWholeSecond}
 use Rattle.oidc_claims.proofs.Theorems.{whole_second}
-use Rattle.oidc_tokens.specs.OwnClaims.{SeenOwnClaims, iss, aud, exp, iat, auth_time, nonce, acr, amr, azp, at_hash, c_hash, own_rule, needed_of, own_of, texts_data, texts_member, own_members}
+use Rattle.oidc_tokens.specs.OwnClaims.{SeenOwnClaims, Needed, iss, aud, exp, iat, auth_time, nonce, acr, amr, azp, at_hash, c_hash, own_rule, needed_of, own_of, texts_data, texts_member, own_members}
 use Rattle.oidc_tokens.proofs.Entries.{Entry, out_at, outs, seen, with_name, alone_named}
 use Rattle.oidc_tokens.proofs.OwnRule.{Good, AllGood, clean}
 
@@ -137,6 +140,14 @@ optional_moment name (Some moment) h =
 
 -- ---- the fields of all members
 
+abbrev needed_answer : TextAndUrl → ℤ → ℤ → Result Needed Refusal
+needed_answer issuer expiration issue_time = Ok (record { issuer = issuer; expiration = expiration; issue_time = issue_time })
+
+three_steps : (a : Result TextAndUrl Refusal) (b d : Result ℤ Refusal) (issuer : TextAndUrl) (expiration issue_time : ℤ) → a ≡ Ok issuer → b ≡ Ok expiration → d ≡ Ok issue_time
+    → (a >>= λ issuer. b >>= λ expiration. d >>= λ issue_time. Ok (record { issuer = issuer; expiration = expiration; issue_time = issue_time }))
+    ≡ needed_answer issuer expiration issue_time
+three_steps a b d issuer expiration issue_time p q r = rw (p, q, r) refl
+
 module _
     (c : SeenOwnClaims)
     (url : parse_url None c.issuer.text ≡ Ok c.issuer.url)
@@ -155,32 +166,64 @@ module _
   iat_back : moment_kind (read_at (codes "iat") (seconds_data c.issue_time)) ≡ Ok c.issue_time
   iat_back = moment_back (read_at (codes "iat") (seconds_data c.issue_time)) c.issue_time refl issue_time
 
+  iss_there : required iss (seen (entries c)) ≡ Ok c.issuer
+  iss_there = ap (λ ms. ok_or (first_value url_kind ms) (missing (codes "iss"))) (iss_alone c) ∙ ap (λ r. ok_or (result_ok r) (missing (codes "iss"))) url_back
+
+  exp_there : required exp (seen (entries c)) ≡ Ok c.expiration
+  exp_there = ap (λ ms. ok_or (first_value moment_kind ms) (missing (codes "exp"))) (exp_alone c) ∙ ap (λ r. ok_or (result_ok r) (missing (codes "exp"))) exp_back
+
+  iat_there : required iat (seen (entries c)) ≡ Ok c.issue_time
+  iat_there = ap (λ ms. ok_or (first_value moment_kind ms) (missing (codes "iat"))) (iat_alone c) ∙ ap (λ r. ok_or (result_ok r) (missing (codes "iat"))) iat_back
+
   pub needed_back : needed_of (seen (entries c)) ≡ Ok (record { issuer = c.issuer; expiration = c.expiration; issue_time = c.issue_time })
   unfolding needed_of
-  needed_back = rw (iss_alone c, exp_alone c, iat_alone c, url_back, exp_back, iat_back) refl
+  needed_back = three_steps (required iss (seen (entries c))) (required exp (seen (entries c))) (required iat (seen (entries c))) c.issuer c.expiration c.issue_time iss_there exp_there iat_there
+
+  aud_there : unwrap_or (value_in aud (seen (entries c))) [] ≡ c.audiences
+  aud_there =
+      ap (λ ms. unwrap_or (first_value text_or_texts_kind ms) []) (aud_alone c)
+      ∙ ap (λ o. unwrap_or (result_ok (ok_or o (of_member WrongType (read_at (codes "aud") (texts_data c.audiences))))) []) (texts_back c.audiences)
+
+  text_there : (f : Field (Option (List ℕ))) (name : List ℕ) (o : Option (List ℕ)) → own f (seen (entries c)) ≡ map as_read (out_at name (option_map string o)) → f.kind ≡ or_null text_kind
+      → optional f (seen (entries c)) ≡ o
+  text_there f name o alone kind =
+      ap (λ ms. option_flatten (first_value f.kind ms)) alone ∙ ap (λ k. option_flatten (first_value k (map as_read (out_at name (option_map string o))))) kind ∙ optional_text name o
+
+  auth_time_there : optional auth_time (seen (entries c)) ≡ c.auth_time
+  auth_time_there = ap (λ ms. option_flatten (first_value (or_null moment_kind) ms)) (auth_time_alone c) ∙ optional_moment (codes "auth_time") c.auth_time authenticated
+
+  amr_there : optional amr (seen (entries c)) ≡ c.auth_method_refs
+  amr_there = ap (λ ms. option_flatten (first_value (or_null texts_kind) ms)) (amr_alone c) ∙ optional_texts (codes "amr") c.auth_method_refs
 
   pub own_back : own_of (seen (entries c)) ≡ Ok c
   unfolding own_of
   own_back =
-      rw (
-        needed_back,
-        aud_alone c,
-        auth_time_alone c,
-        nonce_alone c,
-        acr_alone c,
-        amr_alone c,
-        azp_alone c,
-        at_hash_alone c,
-        c_hash_alone c,
-        texts_back c.audiences,
-        optional_moment (codes "auth_time") c.auth_time authenticated,
-        optional_text (codes "nonce") c.nonce,
-        optional_text (codes "acr") c.auth_context_ref,
-        optional_texts (codes "amr") c.auth_method_refs,
-        optional_text (codes "azp") c.authorized_party,
-        optional_text (codes "at_hash") c.access_token_hash,
-        optional_text (codes "c_hash") c.code_hash,
-      ) refl
+      ap (λ n. n >>= λ there. Ok (record {
+        issuer = there.issuer;
+        audiences = unwrap_or (value_in aud (seen (entries c))) [];
+        expiration = there.expiration;
+        issue_time = there.issue_time;
+        auth_time = optional auth_time (seen (entries c));
+        nonce = optional nonce (seen (entries c));
+        auth_context_ref = optional acr (seen (entries c));
+        auth_method_refs = optional amr (seen (entries c));
+        authorized_party = optional azp (seen (entries c));
+        access_token_hash = optional at_hash (seen (entries c));
+        code_hash = optional c_hash (seen (entries c));
+      })) needed_back
+      ∙ (λ i. Ok (record {
+        issuer = c.issuer;
+        audiences = aud_there i;
+        expiration = c.expiration;
+        issue_time = c.issue_time;
+        auth_time = auth_time_there i;
+        nonce = text_there nonce (codes "nonce") c.nonce (nonce_alone c) refl i;
+        auth_context_ref = text_there acr (codes "acr") c.auth_context_ref (acr_alone c) refl i;
+        auth_method_refs = amr_there i;
+        authorized_party = text_there azp (codes "azp") c.authorized_party (azp_alone c) refl i;
+        access_token_hash = text_there at_hash (codes "at_hash") c.access_token_hash (at_hash_alone c) refl i;
+        code_hash = text_there c_hash (codes "c_hash") c.code_hash (c_hash_alone c) refl i;
+      }))
 
   -- ---- none of them is faulty
 

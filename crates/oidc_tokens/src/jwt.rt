@@ -250,7 +250,7 @@ impl<JE: ClosedVocabulary, JS: JwsSigningAlgorithm, P: Payload> JsonWebToken<JE,
                 crit: false,
             },
             payload,
-            message_len: unsigned.message.len(),
+            message_len: unsigned.message.as_str().len(),
             signature: Body::new(signature),
         })
     }

@@ -162,11 +162,13 @@ impl<
             id_token: Once::new(),
         };
         let fields = read_fields(alloc, slot, members)?;
-        let extra_fields = EF::read(alloc, members)?;
-        Ok(IdTokenFields {
-            id_token: fields.id_token.optional(),
-            extra_fields,
-        })
+        match EF::read(alloc, members) {
+            Err(error) => Err(error),
+            Ok(extra_fields) => Ok(IdTokenFields {
+                id_token: fields.id_token.optional(),
+                extra_fields,
+            }),
+        }
     }
 
     fn write(&self, alloc: Global) -> Result<Vec<OutMember>, AllocError> {

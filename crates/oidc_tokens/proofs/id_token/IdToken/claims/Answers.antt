@@ -1,4 +1,6 @@
 use Rattle.std.proofs.Common.{◌≡◌, ◌∙◌, None, Err, ap, subst}
+use Rattle.std.specs.Borrow.{Bor}
+use Rattle.oidc_tokens.specs.IdTokenClaims.{SeenIdTokenClaims}
 use Rattle.oidc_tokens.specs.Signatures.{meanings}
 use Rattle.oidc_tokens.specs.Verification.{first_failure, Judges}
 use Rattle.oidc_tokens.specs.Causes.{Cause}
@@ -29,7 +31,7 @@ returns g c =
     let judged : Judges {C = Unit {0}} failure (Err c.in-Err.refusal) =
     subst (λ token. Judges {C = Unit {0}} (first_failure k c.args.verifier.now allows c.args.now.nanosecond token) (Err c.in-Err.refusal)) c.self.view_is c.in-Err.ensures in
     record {
-      judged = judges_as (Unit {0}) _ failure c.in-Err.refusal judged;
+      judged = judges_as (Unit {0}) (Bor (SeenIdTokenClaims g.row.AC.Denot g.row.GC.Denot)) failure c.in-Err.refusal judged;
       accepted = tt;
       refused = λ a. memory_alone (Unit {0}) failure c.in-Err.refusal judged (accepted k c.args.verifier.now allows c.args.now.nanosecond c.args.self.now a);
       claims = tt;

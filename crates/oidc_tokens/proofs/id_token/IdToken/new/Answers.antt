@@ -34,7 +34,7 @@ returns g c =
     let k = meanings keys g.S.VerificationKey.KeyUse.JsonWebKeyUse g.JS.JwsSigningAlgorithm g.JS.ClosedVocabulary g.JS.KeyType.ClosedVocabulary in
     record {
       issued = λ free.
-          issues_after hashed c.in_ok-claims.claims (λ x. issued alg_text (id_token_members additional.write_of gender.write_of) signs (keys.key_id checker) alg x) _ is
+          issues_after hashed c.in_ok-claims.claims (λ x. issued {JE = g.row.JE.Denot} alg_text (id_token_members additional.write_of gender.write_of) signs (keys.key_id checker) alg x) (Ok c.in_ok-token.token) is
           (made.issued (members_free additional.write_of gender.write_of gender_law.written_is_value c.in_ok-claims.claims (ap (λ a. any_float (additional.write_of a)) differ.additional_claims ∙ free)));
       claims = sym is ∙ ap Ok (sym made.payload);
       signed = made.signed;

@@ -1,4 +1,5 @@
-use Rattle.std.proofs.Common.{◌≡◌, ◌++◌, ◌∙◌, ℕ, List, Option, Ok, codes, refl, sym, ap, subst, string_bytes}
+use Rattle.std.proofs.Common.{◌≡◌, ◌++◌, ◌∙◌, ℕ, List, Option, Ok, codes, refl, sym, ap, subst, string_bytes, length}
+use Rattle.std.specs.Prelude.{IsCharBoundary}
 use Rattle.oidc_tokens.specs.Header.{written_header}
 use Rattle.oidc_tokens.specs.Tokens.{SeenToken}
 use Rattle.oidc_tokens.specs.Encoded.{Encodes, IsReady}
@@ -11,7 +12,7 @@ use Rattle.oidc_tokens.proofs.jwt.JsonWebToken.new.Goals as goal
 pub invariant_of-result : goal.invariant_of-result
 invariant_of-result g c =
     let last = c.in_ok-text.ensures in
-    rw c.len.ensures
+    subst (λ n. IsCharBoundary (string_bytes c.in_ok-text.text) n) (sym (c.len.ensures ∙ ap length c.as_str-2.ensures.value))
     (message_at (string_bytes c.in_ok-text.text) (string_bytes c.in_ok-unsigned.unsigned.message) last.0
     (last.2 ∙ ap (λ m. m ++ codes "." ++ last.0) c.as_str.ensures.value))
 
@@ -32,7 +33,7 @@ returns g c =
     let last = c.in_ok-text.ensures in
     let is : text ≡ message ++ codes "." ++ last.0 = last.2 ∙ ap (λ m. m ++ codes "." ++ last.0) c.as_str.ensures.value in
     let encodes : Encodes last.0 signature = subst (Encodes last.0) c.as_slice.ensures.value last.1 in
-    let made = token_is {JE = g.row.JE.Denot} id alg payload text message last.0 signature _ _ c.len.ensures c.in_ok-unsigned.ensures.key_id encodes is in
+    let made = token_is {JE = g.row.JE.Denot} id alg payload text message last.0 signature c.len.result c.in_ok-unsigned.unsigned.key_id (c.len.ensures ∙ ap length c.as_str-2.ensures.value) c.in_ok-unsigned.ensures.key_id encodes is in
     let whole : text ≡ compact message signature = is ∙ ap (λ l. message ++ codes "." ++ l) encodes.same in
     record {
       issued = λ free. issued_is alg_text payload_out signs id alg payload message signature (ready_message alg_text payload_out id alg payload message ready free) said ∙ ap Ok (sym made);
