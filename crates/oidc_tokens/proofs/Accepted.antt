@@ -1,6 +1,6 @@
 -- The checks, one after the other, are those of acceptance.
 use Rattle.std.proofs.Common.{◌≡◌, ℕ, suc, ℤ, Bool, true, false, List, [], ◌∷◌, Option, None, Some, refl, ap, ◌∙◌, arith, ⊎_elim}
-use Rattle.std.specs.Prelude.{Result, Ok, Err, not, ◌&&◌, if◌then◌else◌, Contains, All, int_lt, ◌<ℤ◌, is_none, ◌↔◌}
+use Rattle.std.specs.Prelude.{Result, Ok, Err, not, ◌&&◌, if◌then◌else◌, Contains, All, int_lt, ◌<ℤ◌, is_none}
 use Rattle.std.specs.List.{list_all, list_any}
 use Rattle.std.specs.Option.{option_or}
 use Rattle.std.specs.Str.{bytes_eq}

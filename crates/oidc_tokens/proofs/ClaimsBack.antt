@@ -1,8 +1,7 @@
 -- Claims of an ID token that were written are read back.
-use Rattle.std.proofs.Common.{◌≡◌, ℕ, ◌≤◌, List, [], ◌∷◌, ◌++◌, map, Bool, true, false, ◌&&◌, ◌||◌, not, cond, Option, None, Some, option_map, Result, Ok, Err, codes, refl, sym, ap, subst, append_assoc, ◌∙◌, filter, All, is_some, arith, append-nil, length, suc, ℤ}
+use Rattle.std.proofs.Common.{◌≡◌, ℕ, ◌≤◌, List, [], ◌∷◌, ◌++◌, map, Bool, true, false, ◌&&◌, not, cond, Option, None, Some, option_map, Result, Ok, refl, sym, ap, subst, append_assoc, ◌∙◌, filter, All, is_some, arith, append-nil, suc, ℤ}
 use Rattle.std.specs.Prelude.{IsFalse}
-use Rattle.std.specs.FinMap as finite
-use Rattle.std.specs.List.{flat_map, list_any, list_all}
+use Rattle.std.specs.List.{list_any, list_all}
 use Rattle.std.specs.Str.{bytes_eq}
 use Rattle.std.proofs.lemmas.Bool.{and_parts, and_from, false≢true, true≢false}
 use Rattle.std.proofs.lemmas.List.{map-append}
@@ -11,18 +10,14 @@ use Rattle.std.proofs.lemmas.List.Folds.{list_all-append}
 use Rattle.std.proofs.lemmas.List.Sums.{list_all-from_AllPass}
 use Rattle.serde_json.specs.Data.{Data, string, items_depth}
 use Rattle.serde_json.specs.View.{items_of}
-use Rattle.oidc_types.specs.{Variants}
 use Rattle.oidc_members.specs.Seen.{SeenMember, OutSeen}
 use Rattle.oidc_members.specs.Objects.{members_of}
 use Rattle.oidc_members.specs.Write.{object_text}
 use Rattle.oidc_members.specs.declared.refusal.Refusal.{Refusal}
 use Rattle.oidc_readers.specs.Moments.{seconds_data}
 use Rattle.oidc_readers.specs.Passes.{first_by}
-use Rattle.oidc_readers.specs.Records.{◌>>=◌}
 use Rattle.oidc_readers.specs.WrittenBack.{ItemsAreWhole, MayStand, IsUtf8Member, as_read}
-use Rattle.oidc_readers.specs.Writing.{one_member, text_member, moment_member}
 use Rattle.oidc_readers.proofs.Theorems.{written_split_back}
-use Rattle.oidc_claims.specs.Seen.{SeenClaims}
 use Rattle.oidc_claims.specs.Table.{base_of, claim_of}
 use Rattle.oidc_claims.specs.Additional.{ReadsBack, StaysAdditional, are_written_additional, out_of}
 use Rattle.oidc_claims.specs.Claims.{fault_at, first_fault}
@@ -30,8 +25,8 @@ use Rattle.oidc_claims.specs.Gender.{GenderReadsBack, GenderIsValue}
 use Rattle.oidc_claims.specs.Home.{home_by, is_additional_home, id_token_fields, user_info_fields}
 use Rattle.oidc_claims.specs.Standard.{claims_of, faultless_claims}
 use Rattle.oidc_claims.specs.Write.{written, IsWholeSecond}
-use Rattle.oidc_claims.proofs.Theorems.{EachStands, written_stands, split_reads_back, moment_stands, standard_name, is_claim, standard_same, fault_outside, fault_narrowed, claims_by, are_standard, standard_named}
-use Rattle.oidc_tokens.specs.OwnClaims.{SeenOwnClaims, texts_data, texts_member, own_rule, own_of, own_members}
+use Rattle.oidc_claims.proofs.Theorems.{EachStands, written_stands, split_reads_back, moment_stands, standard_name, is_claim, standard_same, fault_outside, fault_narrowed, claims_by, standard_named}
+use Rattle.oidc_tokens.specs.OwnClaims.{SeenOwnClaims, texts_data, own_rule, own_of, own_members}
 use Rattle.oidc_tokens.specs.IdTokenClaims.{SeenIdTokenClaims, is_own_field, is_additional_claim, additional_members, id_token_rule, parts_in, id_token_claims_of, id_token_members}
 use Rattle.oidc_tokens.specs.Homes.{is_field, is_standard}
 use Rattle.oidc_tokens.specs.Issuing.{ComesBack}

@@ -1,5 +1,5 @@
 -- The header of a token that is issued is read back.
-use Rattle.std.proofs.Common.{◌≡◌, ◌≢◌, ℕ, List, [], ◌∷◌, ◌++◌, map, Bool, true, false, cond, Option, None, Some, option_map, Ok, codes, refl, ap, ◌∙◌, All, lit≤}
+use Rattle.std.proofs.Common.{◌≡◌, ◌≢◌, ℕ, List, [], map, Bool, true, false, cond, Option, None, Some, option_map, Ok, codes, refl, ap, ◌∙◌, All, lit≤}
 use Rattle.std.specs.Option.{option_or}
 use Rattle.std.specs.Str.{bytes_eq}
 use Rattle.std.proofs.lemmas.List.Elements.{All-nil, All-push}

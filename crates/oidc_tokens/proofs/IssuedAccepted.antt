@@ -1,10 +1,8 @@
 -- Whoever expects the claims of a token that is issued accepts it.
-use Rattle.std.proofs.Common.{◌≡◌, ℕ, ℤ, List, [], ◌∷◌, Bool, Option, None, Some, Result, Ok, Err, refl, ap, subst, ◌∙◌, All, arith}
-use Rattle.std.specs.Prelude.{◌<ℤ◌}
+use Rattle.std.proofs.Common.{◌≡◌, ℕ, ℤ, List, [], ◌∷◌, Bool, Option, None, Some, Result, Ok, Err, refl, ap, subst, ◌∙◌, arith}
 use Rattle.std.proofs.lemmas.List.Elements.{All-nil, All-cons}
 use Rattle.oidc_types.specs.declared.signing_error.SigningError.{SigningError}
 use Rattle.oidc_members.specs.Seen.{OutSeen}
-use Rattle.oidc_tokens.specs.declared.header.JsonWebTokenAlgorithm.TheVariants as algorithm
 use Rattle.oidc_tokens.specs.Steps.{◌>>=◌}
 use Rattle.oidc_tokens.specs.Tokens.{SeenToken}
 use Rattle.oidc_tokens.specs.IdTokenClaims.{SeenIdTokenClaims}

@@ -1,5 +1,5 @@
 -- No check of an ID token fails for want of memory.
-use Rattle.std.proofs.Common.{◌≡◌, ◌≢◌, ℕ, ℤ, Bool, true, false, List, [], ◌∷◌, Option, Some, ⊎_elim}
+use Rattle.std.proofs.Common.{◌≢◌, ℕ, ℤ, Bool, true, false, List, [], ◌∷◌, Option, Some, ⊎_elim}
 use Rattle.std.specs.Prelude.{Result, Ok, Err, int_lt}
 use Rattle.std.specs.Str.{bytes_eq}
 use Rattle.oidc_keys.specs.declared.refusals.SignatureVerificationError.{SignatureVerificationError}

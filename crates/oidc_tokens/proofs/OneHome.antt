@@ -1,6 +1,6 @@
 -- Each member has one home, and each part of accepted claims is what the members of its own home say.
-use Rattle.std.proofs.Common.{◌≡◌, ℕ, List, [], ◌∷◌, Bool, true, false, ◌||◌, ◌&&◌, cond, not, Some, Result, Ok, Err, refl, sym, ap, subst, ◌∙◌, filter, is_some, find, ⊎_elim}
-use Rattle.std.specs.Prelude.{count_by, slice_index_or, if◌then◌else◌, codes}
+use Rattle.std.proofs.Common.{◌≡◌, ℕ, List, [], ◌∷◌, Bool, true, false, not, Result, Ok, Err, refl, sym, ap, subst, ◌∙◌, filter, ⊎_elim}
+use Rattle.std.specs.Prelude.{count_by, slice_index_or, codes}
 use Rattle.std.specs.List.{list_any, list_all}
 use Rattle.std.specs.Str.{bytes_eq}
 use Rattle.std.proofs.lemmas.Bool.{and_parts, or_cases, false≢true, true≢false}

@@ -1,5 +1,5 @@
 -- An ID token's own fields that were written are read back.
-use Rattle.std.proofs.Common.{◌≡◌, ℕ, ℤ, pos, negsuc, ◌≤◌, List, [], ◌∷◌, ◌++◌, map, Option, None, Some, option_map, Result, Ok, codes, refl, sym, ap, ◌∙◌, append-nil, append_assoc, take, drop}
+use Rattle.std.proofs.Common.{◌≡◌, ℕ, ℤ, pos, negsuc, List, [], ◌∷◌, ◌++◌, map, Option, None, Some, option_map, Result, Ok, codes, refl, ap, ◌∙◌, append-nil, append_assoc, take, drop}
 use Rattle.std.specs.Option.{ok_or, option_flatten}
 use Rattle.std.specs.Result.{result_ok}
 use Rattle.std.specs.Prelude.{option_and_then, unwrap_or}

@@ -1,5 +1,5 @@
 -- The rule of an ID token's own fields, over members of distinct names.
-use Rattle.std.proofs.Common.{◌≡◌, ℕ, List, [], ◌∷◌, ◌++◌, map, Bool, true, false, ◌&&◌, not, cond, Option, None, Some, codes, refl, sym, ap, ◌∙◌, filter, length, append-nil}
+use Rattle.std.proofs.Common.{◌≡◌, ℕ, List, [], ◌∷◌, ◌++◌, map, Bool, true, false, not, cond, Option, None, Some, codes, refl, sym, ap, ◌∙◌, filter, length, append-nil}
 use Rattle.std.specs.List.{list_any, list_all}
 use Rattle.std.specs.Str.{bytes_eq}
 use Rattle.std.proofs.lemmas.Bool.{and_parts, false≢true, true≢false}
@@ -10,7 +10,7 @@ use Rattle.oidc_readers.specs.Kinds.{Kind, url_kind, text_or_texts_kind, moment_
 use Rattle.oidc_readers.specs.Fields.{field, judged, judged_among}
 use Rattle.oidc_readers.specs.Passes.{placed, first_by}
 use Rattle.oidc_readers.specs.WrittenBack.{as_read}
-use Rattle.oidc_tokens.specs.OwnClaims.{iss, aud, exp, iat, auth_time, nonce, acr, amr, azp, at_hash, c_hash, own_rule}
+use Rattle.oidc_tokens.specs.OwnClaims.{own_rule}
 use Rattle.oidc_tokens.specs.IdTokenClaims.{is_own_field}
 use Rattle.oidc_tokens.specs.Homes.{is_field}
 use Rattle.oidc_tokens.proofs.OneHome.{field_same}

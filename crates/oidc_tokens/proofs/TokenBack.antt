@@ -1,5 +1,5 @@
 -- The text of a token that is issued is read as that token.
-use Rattle.std.proofs.Common.{◌≡◌, ◌≢◌, ℕ, List, [], ◌∷◌, ◌++◌, Option, Result, Ok, codes, refl, ap, ◌∙◌, All, append_assoc}
+use Rattle.std.proofs.Common.{◌≡◌, ℕ, List, [], ◌∷◌, ◌++◌, Option, Result, Ok, codes, refl, ap, ◌∙◌, All, append_assoc}
 use Rattle.oidc_members.specs.Seen.{SeenMember, OutSeen}
 use Rattle.oidc_members.specs.Write.{object_text}
 use Rattle.oidc_members.specs.declared.refusal.Refusal.{Refusal}

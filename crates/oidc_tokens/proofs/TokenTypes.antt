@@ -1,5 +1,5 @@
 -- The media types of tokens, with and without the prefix that may be left out.
-use Rattle.std.proofs.Common.{◌≡◌, ℕ, List, [], ◌∷◌, ◌++◌, Bool, true, false, ◌||◌, Some, refl, sym, ap, ◌∙◌, take, drop}
+use Rattle.std.proofs.Common.{◌≡◌, ℕ, List, [], ◌∷◌, ◌++◌, Bool, true, false, Some, refl, sym, ap, ◌∙◌, take, drop}
 use Rattle.std.proofs.lemmas.List.{take-append-drop}
 use Rattle.std.specs.Prelude.{codes, nat_eq, if◌then◌else◌, ◌↔◌}
 use Rattle.std.specs.List.{list_any, starts_with}

@@ -1,5 +1,5 @@
 -- Every member of an ID token's claims has one home (OpenID Connect Core 1.0 sections 2, 5.1 and 5.1.2).
-use Rattle.std.specs.Prelude.{◌≡◌, ℕ, List, [], ◌∷◌, filter, Bool, count_by, Result, Ok}
+use Rattle.std.specs.Prelude.{◌≡◌, List, [], ◌∷◌, filter, Bool, count_by, Result, Ok}
 use Rattle.std.specs.List.{All, list_any}
 use Rattle.oidc_members.specs.Seen.{SeenMember}
 use Rattle.oidc_members.specs.declared.refusal.Refusal.{Refusal}

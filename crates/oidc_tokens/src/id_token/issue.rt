@@ -84,10 +84,15 @@ impl<
             → Expects k v allows now alg (S.verification_key key.now) claims
             → IfOk result (λ token. Accepts k v allows now token) }
     {
-        let checker = key.as_verification_key(alloc)?;
+        let checker = match key.as_verification_key(alloc) {
+            Ok(checker) => checker,
+            Err(_) => return Err(JsonWebTokenError::Memory),
+        };
         let claims = with_hashes(alloc, claims, access_token, code, &alg, &checker)?;
-        let token = JsonWebToken::new(alloc, claims, key, &alg)?;
-        Ok(IdToken { token })
+        match JsonWebToken::new(alloc, claims, key, &alg) {
+            Ok(token) => Ok(IdToken { token }),
+            Err(error) => Err(error),
+        }
     }
 }
 

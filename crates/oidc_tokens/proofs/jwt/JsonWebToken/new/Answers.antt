@@ -1,9 +1,8 @@
-use Rattle.std.proofs.Common.{◌≡◌, ◌++◌, ◌∙◌, ℕ, List, Option, Ok, codes, refl, sym, ap, subst, string_bytes, length}
+use Rattle.std.proofs.Common.{◌≡◌, ◌++◌, ◌∙◌, Ok, codes, refl, sym, ap, subst, string_bytes, length}
 use Rattle.std.specs.Prelude.{IsCharBoundary}
 use Rattle.oidc_tokens.specs.Header.{written_header}
-use Rattle.oidc_tokens.specs.Tokens.{SeenToken}
 use Rattle.oidc_tokens.specs.Encoded.{Encodes, IsReady}
-use Rattle.oidc_tokens.specs.Issuing.{compact, signed_with, token_with}
+use Rattle.oidc_tokens.specs.Issuing.{compact, signed_with}
 use Rattle.oidc_tokens.proofs.IssuedToken.{ready_message, issued_is, message_at, token_is}
 use Rattle.oidc_tokens.proofs.TokenBack.{token_again}
 use Rattle.oidc_tokens.proofs.FloatFree.{standing_free}
@@ -12,7 +11,7 @@ use Rattle.oidc_tokens.proofs.jwt.JsonWebToken.new.Goals as goal
 pub invariant_of-result : goal.invariant_of-result
 invariant_of-result g c =
     let last = c.in_ok-text.ensures in
-    subst (λ n. IsCharBoundary (string_bytes c.in_ok-text.text) n) (sym (c.len.ensures ∙ ap length c.as_str-2.ensures.value))
+    subst (λ n. IsCharBoundary (string_bytes c.in_ok-text.text) n) (sym (ap length c.as_str-2.ensures.value))
     (message_at (string_bytes c.in_ok-text.text) (string_bytes c.in_ok-unsigned.unsigned.message) last.0
     (last.2 ∙ ap (λ m. m ++ codes "." ++ last.0) c.as_str.ensures.value))
 
@@ -25,15 +24,15 @@ returns g c =
     let signs = g.S.PrivateSigningKey.signs c.args.key.now alg in
     let id = g.S.VerificationKey.JsonWebKey.key_id (g.S.PrivateSigningKey.verification_key c.args.key.now) in
     let message = string_bytes c.in_ok-unsigned.unsigned.message in
-    let signature = c.in_ok-signature.signature.items in
+    let signature = c.new.result in
     let text = string_bytes c.in_ok-text.text in
     let ready : IsReady (written_header (alg_text alg) id) (payload_out payload) message =
     subst (λ t. IsReady (written_header t id) (payload_out payload) message) c.as_ref.ensures.text c.in_ok-unsigned.ensures.ready in
-    let said : signs message ≡ Ok signature = ap signs (sym c.as_bytes.ensures.value) ∙ c.in_ok-signature.ensures.signature in
+    let said : signs message ≡ Ok signature = ap signs (sym c.as_bytes.ensures.value) ∙ c.in_ok-signature.ensures.signature ∙ ap Ok (sym c.new.ensures.bytes) in
     let last = c.in_ok-text.ensures in
     let is : text ≡ message ++ codes "." ++ last.0 = last.2 ∙ ap (λ m. m ++ codes "." ++ last.0) c.as_str.ensures.value in
-    let encodes : Encodes last.0 signature = subst (Encodes last.0) c.as_slice.ensures.value last.1 in
-    let made = token_is {JE = g.row.JE.Denot} id alg payload text message last.0 signature c.len.result c.in_ok-unsigned.unsigned.key_id (c.len.ensures ∙ ap length c.as_str-2.ensures.value) c.in_ok-unsigned.ensures.key_id encodes is in
+    let encodes : Encodes last.0 signature = subst (Encodes last.0) (c.as_slice.ensures.value ∙ sym c.new.ensures.bytes) last.1 in
+    let made = token_is {JE = g.row.JE.Denot} id alg payload text message last.0 signature (length c.as_str-2.result.now) c.in_ok-unsigned.unsigned.key_id (ap length c.as_str-2.ensures.value) c.in_ok-unsigned.ensures.key_id encodes is in
     let whole : text ≡ compact message signature = is ∙ ap (λ l. message ++ codes "." ++ l) encodes.same in
     record {
       issued = λ free. issued_is alg_text payload_out signs id alg payload message signature (ready_message alg_text payload_out id alg payload message ready free) said ∙ ap Ok (sym made);

@@ -1,8 +1,5 @@
-use Rattle.std.proofs.Common.{◌≡◌, ◌∙◌, sym, ap, subst, All, false, string_bytes}
+use Rattle.std.proofs.Common.{◌≡◌, ◌∙◌, ap, string_bytes}
 use Rattle.std.specs.Option.{option_copied}
-use Rattle.oidc_members.specs.Write.{any_float, object_text}
-use Rattle.oidc_readers.specs.WrittenBack.{IsUtf8Member}
-use Rattle.oidc_tokens.specs.Encoded.{IsMessage}
 use Rattle.oidc_tokens.specs.Header.{written_header}
 use Rattle.oidc_tokens.proofs.IssuedToken.{ready_of}
 use Rattle.oidc_tokens.proofs.jwt.Unsigned.of.Goals as goal

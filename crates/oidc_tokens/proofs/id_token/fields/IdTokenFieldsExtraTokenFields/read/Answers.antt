@@ -7,11 +7,13 @@ use Rattle.oidc_tokens.specs.IdTokenFields.{id_token, response_fields_of}
 use Rattle.oidc_tokens.proofs.ReadSteps.{stops, gives}
 use Rattle.oidc_tokens.proofs.id_token.fields.IdTokenFieldsExtraTokenFields.read.Goals as goal
 
-pub returns-in-Err-clause-fields : goal.returns-in-Err-clause-fields
+pub returns-in-Err : goal.returns-in-Err
 unfolding response_fields_of
-returns-in-Err-clause-fields g c =
+returns-in-Err g c =
     let members = c.args.members.now in
     let field = id_token (token_of g.JE.ClosedVocabulary.from_str g.JS.ClosedVocabulary.from_str (id_token_claims_of g.AC.AdditionalClaims.read_of g.GC.GenderClaim.read_of)) in
-    gives (faultless (judged field) members)
-    (λ u. g.EF.ExtraTokenFields.read_of members >>= λ extra. Ok (record { id_token = optional field members; extra_fields = extra })) tt (Err c.in-Err.error) c.in_ok-fields.ensures.kept.0
-    (stops (g.EF.ExtraTokenFields.read_of members) (λ extra. Ok (record { id_token = optional field members; extra_fields = extra })) c.in-Err.error c.in-Err.ensures.fields)
+    record {
+      fields = gives (faultless (judged field) members)
+          (λ u. g.EF.ExtraTokenFields.read_of members >>= λ extra. Ok (record { id_token = optional field members; extra_fields = extra })) tt (Err c.in-Err.error) c.in_ok-fields.ensures.kept.0
+          (stops (g.EF.ExtraTokenFields.read_of members) (λ extra. Ok (record { id_token = optional field members; extra_fields = extra })) c.in-Err.error c.in-Err.ensures.fields);
+    }
