@@ -248,9 +248,9 @@ fn put_callback<O: Sink>(
     ensures blamed { IsErrOf result Halt.Sink → HasRisen (O.faults sink.old) (O.faults sink.new) }
     ensures counts { O.faults sink.old ≤ O.faults sink.new }
 {
+    // What came is large: it is let go once, and not on each way out.
     let replied = call_back(alloc, logins, line)?;
-    put_replied(alloc, &replied, sink)?;
-    Ok(())
+    put_replied(alloc, &replied, sink)
 }
 
 // ---- the report
