@@ -6,6 +6,7 @@
 //!   its own, the standard claims, and additional claims of a caller's type.
 //! - [`IdTokenVerifier`] is what a client expects of an ID token. [`IdToken::claims`] gives the claims
 //!   where the verifier accepts the token (section 3.1.3.7), else the first check that fails.
+//! - [`UserInfoVerifier`] is what it expects of a user info answer that is a token (sections 5.3.2 and 5.3.4).
 //! - [`IdToken::new`] issues a token. [`from_token`] and [`from_code`] are the hashes of an access token
 //!   and of a code that it may hold (sections 3.1.3.6 and 3.3.2.11).
 //! - [`IdTokenFields`] are the fields of a token response that may hold an ID token, and [`TokenResponse`]
@@ -14,8 +15,8 @@
 //!
 //! What it promises. A text is read exactly as `token_of` says, with the refusal that comes first: the
 //! text's, the header's, the payload's. The message that is signed is the first two parts as they stand.
-//! Claims are read in one pass, each member judged against all that stand before it, as
-//! `id_token_claims_of` says. `IdToken::claims` is Ok only for tokens that `Accepts` holds of, and for each
+//! Claims are read as `id_token_claims_of` says: each member is judged against all that stand before it.
+//! `IdToken::claims` is Ok only for tokens that `Accepts` holds of, and for each
 //! of them, want of memory aside; a refusal is the first check that fails. A token that is issued with
 //! claims in range is read back as it is, and whoever expects its claims accepts it. All of this holds of
 //! every lawful type of keys, algorithms and claims. Want of memory is a variant `Memory` of its own, or
@@ -31,7 +32,7 @@ pub mod header;
 pub mod id_token;
 pub mod jwt;
 pub mod laws;
-mod members;
+pub mod members;
 mod parts;
 pub mod payload;
 pub mod token;
@@ -39,6 +40,7 @@ pub mod verification;
 
 pub use crate::core_tokens::{
     CoreIdToken, CoreIdTokenClaims, CoreIdTokenFields, CoreIdTokenVerifier, CoreTokenResponse,
+    CoreUserInfoVerifier,
 };
 pub use crate::hashes::{from_code, from_token};
 pub use crate::header::{JsonWebTokenAlgorithm, TokenHeader};
@@ -48,4 +50,5 @@ pub use crate::payload::Payload;
 pub use crate::token::TokenResponse;
 pub use crate::verification::{
     AudiencesClaim, ClaimsVerificationError, IdTokenVerifier, IssuerClaim, NonceVerifier,
+    UserInfoVerifier, is_expected_subject,
 };
