@@ -134,6 +134,13 @@ impl<GC: GenderClaim> StandardClaims<GC> {
         self
     }
 
+    /// Changes `sub` alone, in place.
+    pub fn put_subject(&mut self, subject: SubjectIdentifier)
+        ensures { self.new ≡ record self.old { subject = subject } }
+    {
+        self.subject = subject;
+    }
+
     /// `name`: the full name as it is shown, with titles and suffixes.
     pub fn name(&self) -> Option<&LocalizedClaim<EndUserName>>
         ensures { option_copied result ≡ self.now.name }

@@ -61,11 +61,11 @@ pub use crate::introspection::{
 };
 pub use crate::pkce::{PkceCodeChallenge, PkceError};
 pub use crate::recorded::{Answer, Fault, Recorded};
-pub use crate::requests::{CodeTokenRequest, PrepareError};
+pub use crate::requests::{CodeTokenRequest, PrepareError, is_address};
 pub use crate::revocation::{CoreRevocableToken, RevocableToken};
 pub use crate::token::{OAuth2TokenResponse, StandardTokenResponse};
 pub use crate::token_answers::{
-    CoreRequestTokenError, OtherCause, RequestTokenError, token_answer,
+    CoreRequestTokenError, MAX_BODY, OtherCause, RequestTokenError, token_answer,
 };
 pub use crate::token_type::{CoreTokenType, TokenType};
 pub use crate::transport::{Body, CallError, HttpRequest, HttpResponse, SyncHttpClient};

@@ -62,9 +62,9 @@ fn is_visible(bytes: &[u8]) -> bool
     bytes.iter().all(|byte| is_visible_byte(*byte))
 }
 
-// Whether requests are sent to an address.
-fn is_address(address: &str) -> bool
-    ensures { result ≡ spec.is_address address.now }
+/// Whether requests are sent to an address: it has at most 65,534 bytes, each from 0x21 to 0x7E.
+pub fn is_address(address: &str) -> bool
+    ensures fits { result ≡ spec.is_address address.now }
 {
     address.len() <= MAX_ADDRESS && is_visible(address.as_bytes())
 }

@@ -14,8 +14,8 @@ use oidc_members::{Members, ParseError, Refusal};
 use std::alloc::Global;
 use thiserror::Error;
 
-/// The most bytes that a body may have.
-const MAX_BODY: usize = 1_048_576;
+/// The most bytes that the body of an answer may have.
+pub const MAX_BODY: usize = 1_048_576;
 
 /// Other causes for which there is no answer.
 #[derive(Clone, Copy, Debug, Error, PartialEq, Eq)]

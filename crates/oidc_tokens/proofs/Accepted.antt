@@ -41,14 +41,14 @@ contains_found test x same (y ∷ ys) h =
 found_contained : {A : Type 0} (test : A → Bool) (x : A) → test x ≡ true → (xs : List A) → Contains xs x → list_any test xs ≡ true
 found_contained test x passes xs h = list_any_at test xs h.0 x h.1 (ap test h.2 ∙ passes)
 
-alone : (id : List ℕ) (audiences : List (List ℕ)) → is_alone_in id audiences ≡ true → Contains audiences id × All (λ a. a ≡ id) audiences
+pub alone : (id : List ℕ) (audiences : List (List ℕ)) → is_alone_in id audiences ≡ true → Contains audiences id × All (λ a. a ≡ id) audiences
 alone id audiences h =
     let parts = and_parts (list_any (λ a. bytes_eq a id) audiences) (list_all (λ a. bytes_eq a id) audiences) h in (
       contains_found (λ a. bytes_eq a id) id (λ a e. same_bytes a id e) audiences parts.0,
       All-weaker (λ a. bytes_eq a id ≡ true) (λ a. a ≡ id) (λ a e. same_bytes a id e) audiences (AllPass-from_list_all (λ a. bytes_eq a id) audiences parts.1),
     )
 
-alone_back : (id : List ℕ) (audiences : List (List ℕ)) → Contains audiences id → All (λ a. a ≡ id) audiences → is_alone_in id audiences ≡ true
+pub alone_back : (id : List ℕ) (audiences : List (List ℕ)) → Contains audiences id → All (λ a. a ≡ id) audiences → is_alone_in id audiences ≡ true
 alone_back id audiences one all =
     and_from (list_any (λ a. bytes_eq a id) audiences) (list_all (λ a. bytes_eq a id) audiences)
     (found_contained (λ a. bytes_eq a id) id (bytes_same id id refl) audiences one)
@@ -60,7 +60,7 @@ less a b h = grind (arith, ints)
 less_back : (a b : ℤ) → a <ℤ b → int_lt a b ≡ true
 less_back a b h = grind (arith, ints)
 
-not_true : (b : Bool) → not b ≡ true → b ≡ false
+pub not_true : (b : Bool) → not b ≡ true → b ≡ false
 not_true true h = absurd (false≢true h)
 not_true false h = refl
 
@@ -71,14 +71,14 @@ none_of (Some x) h = absurd (false≢true h)
 -- ---- the header
 
 module _ {JE JS : Type 0} where
-  supported_parts : (h : TokenHeader JE JS) → is_supported h ≡ true → (h.crit ≡ false) × (h.cty ≡ None) × (is_token_type h.typ ≡ true)
+  pub supported_parts : (h : TokenHeader JE JS) → is_supported h ≡ true → (h.crit ≡ false) × (h.cty ≡ None) × (is_token_type h.typ ≡ true)
   supported_parts h e =
       let a = and_parts (not h.crit && is_none h.cty && is_token_type h.typ) (not (is_encrypted h.alg)) e in
       let b = and_parts (not h.crit && is_none h.cty) (is_token_type h.typ) a.0 in
       let c = and_parts (not h.crit) (is_none h.cty) b.0 in
       (not_true h.crit c.0, none_of h.cty c.1, b.1)
 
-  supported_back : (h : TokenHeader JE JS) (alg : JS) → h.crit ≡ false → h.cty ≡ None → is_token_type h.typ ≡ true → h.alg ≡ algorithm.Signature alg → is_supported h ≡ true
+  pub supported_back : (h : TokenHeader JE JS) (alg : JS) → h.crit ≡ false → h.cty ≡ None → is_token_type h.typ ≡ true → h.alg ≡ algorithm.Signature alg → is_supported h ≡ true
   supported_back h alg crit cty typ signed =
       and_from (not h.crit && is_none h.cty && is_token_type h.typ) (not (is_encrypted h.alg))
       (and_from (not h.crit && is_none h.cty) (is_token_type h.typ)
@@ -115,21 +115,21 @@ module _ {Key Use Algorithm Type' : Type 0} (k : KeyMeanings Key Use Algorithm T
   named_of v token (algorithm.Encryption alg) signed h = absurd cc
   named_of v token algorithm.None signed h = absurd cc
 
-  good : (v : SeenVerifier Key Algorithm) (token : SeenToken JE Algorithm P) → verdict_on k v token ≡ Ok tt → Good v token
+  pub good : (v : SeenVerifier Key Algorithm) (token : SeenToken JE Algorithm P) → verdict_on k v token ≡ Ok tt → Good v token
   unfolding verdict_on
   good v token h = named_of v token token.header.alg refl h
 
-  good_back : (v : SeenVerifier Key Algorithm) (token : SeenToken JE Algorithm P) → Good v token → verdict_on k v token ≡ Ok tt
+  pub good_back : (v : SeenVerifier Key Algorithm) (token : SeenToken JE Algorithm P) → Good v token → verdict_on k v token ≡ Ok tt
   unfolding verdict_on
   good_back v token g = rw (g.signed, g.allowed, g.chosen) g.verified
 
 -- ---- all of them
 
-passes : (test : Bool) (refusal : ClaimsVerificationError) → unless test refusal ≡ None → test ≡ true
+pub passes : (test : Bool) (refusal : ClaimsVerificationError) → unless test refusal ≡ None → test ≡ true
 passes true refusal h = refl
 passes false refusal h = absurd cc
 
-passed : (said : Result (Unit {0}) SignatureVerificationError) → refused_as SignatureVerification said ≡ None → said ≡ Ok tt
+pub passed : (said : Result (Unit {0}) SignatureVerificationError) → refused_as SignatureVerification said ≡ None → said ≡ Ok tt
 passed (Ok u) h = refl
 passed (Err e) h = absurd cc
 

@@ -22,7 +22,7 @@ use Rattle.oidc_tokens.proofs.Accepted.{bytes_same}
 same_err : {A : Type 0} (o : Result A SignatureVerificationError) (a b : SignatureVerificationError) → o ≡ Err a → o ≡ Err b → a ≡ b
 same_err o a b h k = let both = sym h ∙ k in cc both
 
-same_some : (a b : ClaimsVerificationError) → Some a ≡ Some b → a ≡ b
+pub same_some : (a b : ClaimsVerificationError) → Some a ≡ Some b → a ≡ b
 same_some a b h = cc
 
 -- ---- the header
@@ -31,7 +31,7 @@ none_is : {A : Type 0} (o : Option A) → is_none o ≡ false → o ≢ None
 none_is None h = λ e. true≢false h
 none_is (Some x) h = λ e. cc
 
-too_much_by : {A : Type 0} (crit : Bool) (cty : Option A) (token_type encrypted : Bool) → (not crit && is_none cty && token_type && not encrypted) ≡ false
+pub too_much_by : {A : Type 0} (crit : Bool) (cty : Option A) (token_type encrypted : Bool) → (not crit && is_none cty && token_type && not encrypted) ≡ false
     → IsTrue crit ⊎ ((cty ≢ None) ⊎ (IsFalse token_type ⊎ IsTrue encrypted))
 too_much_by true cty token_type encrypted h = inl refl
 too_much_by false (Some x) token_type encrypted h = inr (inl (λ e. cc))
@@ -99,14 +99,14 @@ module _ {Key Use Algorithm Type' : Type 0} (k : KeyMeanings Key Use Algorithm T
 
 -- ---- all checks
 
-plain_of : (crit none token_type encrypted : Bool) → (not crit && none && token_type && not encrypted) ≡ true → encrypted ≡ false
+pub plain_of : (crit none token_type encrypted : Bool) → (not crit && none && token_type && not encrypted) ≡ true → encrypted ≡ false
 plain_of crit none token_type false h = refl
 plain_of false true true true h = absurd (false≢true h)
 plain_of true none token_type true h = absurd (false≢true h)
 plain_of false false token_type true h = absurd (false≢true h)
 plain_of false true false true h = absurd (false≢true h)
 
-differ : (xs ys : List ℕ) → bytes_eq xs ys ≡ false → xs ≢ ys
+pub differ : (xs ys : List ℕ) → bytes_eq xs ys ≡ false → xs ≢ ys
 differ xs ys h = λ e. true≢false (sym (bytes_same xs ys e) ∙ h)
 
 not_less : (a b : ℤ) → int_lt a b ≡ false → b ≤ℤ a

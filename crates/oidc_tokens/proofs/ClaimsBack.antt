@@ -58,20 +58,20 @@ abbrev are_neither : List OutSeen → Bool
 are_neither ms = list_all (λ m. not (is_own_field m.name) && not (standard_name m.name)) ms
 
 -- the test of a name is passed by the member that is read
-all_kept : (test : List ℕ → Bool) (ms : List OutSeen) → list_all (λ m. test m.name) ms ≡ true → filter (λ m. test m.name) (map as_read ms) ≡ map as_read ms
+pub all_kept : (test : List ℕ → Bool) (ms : List OutSeen) → list_all (λ m. test m.name) ms ≡ true → filter (λ m. test m.name) (map as_read ms) ≡ map as_read ms
 all_kept test [] h = refl
 all_kept test (m ∷ ms) h =
     let parts = and_parts (test m.name) (list_all (λ m. test m.name) ms) h in
     λ i. cond (parts.0 i) (as_read m ∷ all_kept test ms parts.1 i) (filter (λ m. test m.name) (map as_read ms))
 
-none_kept : (test : List ℕ → Bool) (ms : List OutSeen) → list_all (λ m. not (test m.name)) ms ≡ true → filter (λ m. test m.name) (map as_read ms) ≡ []
+pub none_kept : (test : List ℕ → Bool) (ms : List OutSeen) → list_all (λ m. not (test m.name)) ms ≡ true → filter (λ m. test m.name) (map as_read ms) ≡ []
 none_kept test [] h = refl
 none_kept test (m ∷ ms) h =
     let parts = and_parts (not (test m.name)) (list_all (λ m. not (test m.name)) ms) h in
     (λ i. cond (not_true (test m.name) parts.0 i) (as_read m ∷ filter (λ m. test m.name) (map as_read ms)) (filter (λ m. test m.name) (map as_read ms)))
     ∙ none_kept test ms parts.1
 
-weaker : (p q : OutSeen → Bool) → ((m : OutSeen) → p m ≡ true → q m ≡ true) → (ms : List OutSeen) → list_all p ms ≡ true → list_all q ms ≡ true
+pub weaker : (p q : OutSeen → Bool) → ((m : OutSeen) → p m ≡ true → q m ≡ true) → (ms : List OutSeen) → list_all p ms ≡ true → list_all q ms ≡ true
 weaker p q all [] h = refl
 weaker p q all (m ∷ ms) h =
     let parts = and_parts (p m) (list_all p ms) h in and_from (q m) (list_all q ms) (all m parts.0) (weaker p q all ms parts.1)
@@ -134,23 +134,23 @@ neither_named (m ∷ ms) h k =
     (ap (λ standard. is_additional_home (home_by (list_any (λ field. bytes_eq field m.name) user_info_fields) standard)) (sym (is_claim (as_read m))) ∙ b.0))
     (neither_named ms a.1 b.1)
 
-same_some : {A : Type 0} (x y : A) → Some x ≡ Some y → x ≡ y
+pub same_some : {A : Type 0} (x y : A) → Some x ≡ Some y → x ≡ y
 same_some x y h = cc
 
 module _ (P : OutSeen → Type 0) where
-  behind : (xs ys : List OutSeen) → All P (xs ++ ys) → All P ys
+  pub behind : (xs ys : List OutSeen) → All P (xs ++ ys) → All P ys
   behind [] ys h = h
   behind (x ∷ xs) ys h = behind xs ys (λ k d within. h (suc k) d (omega arith))
 
-  before : (xs ys : List OutSeen) → All P (xs ++ ys) → All P xs
+  pub before : (xs ys : List OutSeen) → All P (xs ++ ys) → All P xs
   before [] ys h = All-nil P
   before (x ∷ xs) ys h = All-cons P x xs (h 0 x (omega arith)) (before xs ys (λ k d within. h (suc k) d (omega arith)))
 
-each_stands : (ms : List OutSeen) → EachStands ms → All (λ (m : OutSeen). MayStand m.value) ms
+pub each_stands : (ms : List OutSeen) → EachStands ms → All (λ (m : OutSeen). MayStand m.value) ms
 each_stands [] h = All-nil (λ (m : OutSeen). MayStand m.value)
 each_stands (m ∷ ms) h = All-cons (λ (m : OutSeen). MayStand m.value) m ms h.0 (each_stands ms h.1)
 
-outs_back : (ms : List OutSeen) → map out_of (map as_read ms) ≡ ms
+pub outs_back : (ms : List OutSeen) → map out_of (map as_read ms) ≡ ms
 outs_back [] = refl
 outs_back (m ∷ ms) = λ i. m ∷ outs_back ms i
 
@@ -164,10 +164,10 @@ texts_shallow : (texts : List (List ℕ)) → items_depth (items_of (map string 
 texts_shallow [] = omega arith
 texts_shallow (text ∷ texts) = let rest = texts_shallow texts in omega arith
 
-texts_stand : (texts : List (List ℕ)) → MayStand (texts_data texts)
+pub texts_stand : (texts : List (List ℕ)) → MayStand (texts_data texts)
 texts_stand texts = (texts_whole texts, let shallow = texts_shallow texts in omega arith)
 
-text_stands : (text : List ℕ) → MayStand (string text)
+pub text_stands : (text : List ℕ) → MayStand (string text)
 text_stands text = (tt, omega arith)
 
 stand_out : (name : List ℕ) (o : Option Data) → Holds MayStand o → All (λ (m : OutSeen). MayStand m.value) (out_at name o)

@@ -18,6 +18,7 @@ mod ClaimsBack
 mod FloatFree
 mod IssuedAccepted
 mod Causes
+mod UserInfo
 mod IssuedToken
 mod IssuedClaims
 mod Judged

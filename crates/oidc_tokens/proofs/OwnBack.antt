@@ -84,7 +84,7 @@ moment_back m nanosecond is h =
     ∙ ap (seconds_read m) (integer_back (seconds_of nanosecond))
     ∙ ap (λ o. ok_or o (of_member Moment m)) (whole_second nanosecond h.0 h.1)
 
-texts_back : (texts : List (List ℕ)) → texts_in (items_of (map string texts)) ≡ Some texts
+pub texts_back : (texts : List (List ℕ)) → texts_in (items_of (map string texts)) ≡ Some texts
 texts_back [] = refl
 texts_back (text ∷ texts) = ap (option_map (λ later. text ∷ later)) (texts_back texts)
 

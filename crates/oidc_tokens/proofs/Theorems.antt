@@ -1,5 +1,14 @@
--- Lemmas that other crates may cite: the checks of an ID token are those of acceptance, no check fails for want
--- of memory, and what was read holds no float.
+-- Lemmas that other crates may cite: the checks of an ID token, and of user info that is a token, are those of
+-- acceptance, and each that fails has its cause; no check fails for want of memory; what was read holds no float.
 pub use Rattle.oidc_tokens.proofs.Accepted.{fails_unless_accepted as none_fails}
 pub use Rattle.oidc_tokens.proofs.NeverMemory.{never_memory, never_memory_inside}
 pub use Rattle.oidc_tokens.proofs.ReadFree.{token_free, response_free}
+pub use Rattle.oidc_tokens.proofs.UserInfo.{about, about_back, about_another, info_accepts, info_accepted, info_failure_cause}
+pub use Rattle.oidc_tokens.proofs.Judged.{memory_alone, of_failure, judges_as}
+-- members of claims by their home, and claims that were written
+pub use Rattle.oidc_tokens.proofs.OneHome.{no_claim}
+pub use Rattle.oidc_tokens.proofs.Passing.{passes_apart, passes_both, no_fault}
+pub use Rattle.oidc_tokens.proofs.Issued.{may_be_written}
+pub use Rattle.oidc_tokens.proofs.OwnBack.{texts_back}
+pub use Rattle.oidc_tokens.proofs.ClaimsBack.{all_kept, none_kept, weaker, behind, before, each_stands, outs_back, texts_stand, text_stands, same_some}
+pub use Rattle.oidc_tokens.proofs.FloatFree.{free_append, standing_free}

@@ -26,6 +26,10 @@ is_own_field name = list_any (λ field. bytes_eq field name) id_token_fields
 abbrev pub is_additional_claim : List ℕ → Bool
 is_additional_claim name = is_additional_home (home_of name id_token_fields)
 
+-- the members that are neither one of these fields nor a standard claim, in their order
+abbrev pub additional_among : List (List ℕ) → List SeenMember → List SeenMember
+additional_among fields members = filter (λ m. is_additional_home (home_of m.name fields)) members
+
 -- the additional members, in their order
 abbrev pub additional_members : List SeenMember → List SeenMember
 additional_members members = filter (λ m. is_additional_claim m.name) members

@@ -1,5 +1,6 @@
 -- In reading order: the header, tokens read and issued; the claims of an ID token; hashes; the checks of an
--- ID token; the ID token of a token response; what reads back and is accepted; homes of members.
+-- ID token; those of a user info answer; the ID token of a token response; what reads back and is accepted;
+-- homes of members.
 pub mod Header
 pub mod Tokens
 pub mod Issuing
@@ -9,6 +10,8 @@ pub mod Hashes
 pub mod Signatures
 pub mod Verification
 pub mod Causes
+pub mod UserInfoVerification
+pub mod UserInfoCauses
 pub mod IdTokenFields
 pub mod RoundTrip
 pub mod Homes

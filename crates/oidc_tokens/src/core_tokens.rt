@@ -1,7 +1,7 @@
 //! The types of this crate at the program's own keys, algorithms and claims.
 
 use crate::id_token::{IdToken, IdTokenClaims, IdTokenFields};
-use crate::verification::IdTokenVerifier;
+use crate::verification::{IdTokenVerifier, UserInfoVerifier};
 use oidc_claims::EmptyAdditionalClaims;
 use oidc_keys::CoreJsonWebKey;
 use oidc_oauth2::{CoreTokenType, EmptyExtraTokenFields, StandardTokenResponse};
@@ -29,6 +29,13 @@ pub type CoreIdTokenFields = IdTokenFields<
 
 /// A verifier over symmetric keys.
 pub type CoreIdTokenVerifier<'a> = IdTokenVerifier<'a, CoreJsonWebKey>;
+
+/// A verifier of user info over such keys.
+pub type CoreUserInfoVerifier<'a> = UserInfoVerifier<
+    'a,
+    CoreJweContentEncryptionAlgorithm,
+    CoreJsonWebKey,
+>;
 
 /// A token response with such an ID token.
 pub type CoreTokenResponse = StandardTokenResponse<CoreIdTokenFields, CoreTokenType>;

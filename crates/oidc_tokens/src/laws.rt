@@ -3,6 +3,7 @@
 ghost use Rattle.oidc_tokens.specs.Homes.{AcceptedHaveOneHome};
 ghost use Rattle.oidc_tokens.specs.RoundTrip.{WrittenReadBack};
 ghost use Rattle.oidc_tokens.specs.Verification.{FailsUnlessAccepted};
+ghost use Rattle.oidc_tokens.specs.UserInfoVerification.{InfoFailsUnlessAccepted};
 ghost use Rattle.oidc_tokens.specs.Signatures.{meanings};
 
 use oidc_claims::{AdditionalClaims, GenderClaim};
@@ -33,4 +34,12 @@ pub fn accepted_where_no_check_fails<
     ensures { let k = meanings K.JsonWebKey K.KeyUse.JsonWebKeyUse
         K.SigningAlgorithm.JwsSigningAlgorithm.own K.SigningAlgorithm.ClosedVocabulary
         K.SigningAlgorithm.KeyType.ClosedVocabulary in FailsUnlessAccepted k JE AC GC }
+{}
+
+/// No check of a user info answer that is a token fails exactly where the token is accepted, for every key
+/// type and every payload.
+pub fn info_accepted_where_no_check_fails<K: JsonWebKey, JE: JweContentEncryptionAlgorithm, P>()
+    ensures { let k = meanings K.JsonWebKey K.KeyUse.JsonWebKeyUse
+        K.SigningAlgorithm.JwsSigningAlgorithm.own K.SigningAlgorithm.ClosedVocabulary
+        K.SigningAlgorithm.KeyType.ClosedVocabulary in InfoFailsUnlessAccepted k JE P }
 {}

@@ -6,6 +6,7 @@
 //!   its own, the standard claims, and additional claims of a caller's type.
 //! - [`IdTokenVerifier`] is what a client expects of an ID token. [`IdToken::claims`] gives the claims
 //!   where the verifier accepts the token (section 3.1.3.7), else the first check that fails.
+//! - [`UserInfoVerifier`] is what it expects of a user info answer that is a token (sections 5.3.2 and 5.3.4).
 //! - [`IdToken::new`] issues a token. [`from_token`] and [`from_code`] are the hashes of an access token
 //!   and of a code that it may hold (sections 3.1.3.6 and 3.3.2.11).
 //! - [`IdTokenFields`] are the fields of a token response that may hold an ID token, and [`TokenResponse`]
@@ -31,7 +32,7 @@ pub mod header;
 pub mod id_token;
 pub mod jwt;
 pub mod laws;
-mod members;
+pub mod members;
 mod parts;
 pub mod payload;
 pub mod token;
@@ -39,6 +40,7 @@ pub mod verification;
 
 pub use crate::core_tokens::{
     CoreIdToken, CoreIdTokenClaims, CoreIdTokenFields, CoreIdTokenVerifier, CoreTokenResponse,
+    CoreUserInfoVerifier,
 };
 pub use crate::hashes::{from_code, from_token};
 pub use crate::header::{JsonWebTokenAlgorithm, TokenHeader};
@@ -48,4 +50,5 @@ pub use crate::payload::Payload;
 pub use crate::token::TokenResponse;
 pub use crate::verification::{
     AudiencesClaim, ClaimsVerificationError, IdTokenVerifier, IssuerClaim, NonceVerifier,
+    UserInfoVerifier, is_expected,
 };

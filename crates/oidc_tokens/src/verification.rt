@@ -1,4 +1,5 @@
-//! The checks of an ID token (OpenID Connect Core 1.0 sections 2, 3.1.3.7 and 10.1).
+//! The checks of an ID token, and of a user info answer that is a token (OpenID Connect Core 1.0 sections 2,
+//! 3.1.3.7, 5.3.2, 5.3.4 and 10.1).
 
 ghost use Rattle.std.specs.Prelude.{◌≡◌, None, Some, IfOk};
 ghost use Rattle.std.specs.Option.{option_copied};
@@ -11,6 +12,7 @@ ghost use Rattle.oidc_tokens.specs.Signatures.{meanings};
 mod claims;
 mod keys;
 mod refusals;
+mod user_info;
 
 use crate::header::{JsonWebTokenAlgorithm, TokenHeader};
 use crate::id_token::IdTokenClaims;
@@ -18,6 +20,7 @@ use crate::jwt::JsonWebToken;
 pub use crate::verification::claims::{AudiencesClaim, IssuerClaim, NonceVerifier};
 pub(crate) use crate::verification::keys::signing_alg;
 pub use crate::verification::refusals::ClaimsVerificationError;
+pub use crate::verification::user_info::{UserInfoVerifier, is_expected};
 use jiff::Timestamp;
 use oidc_claims::{AdditionalClaims, GenderClaim};
 use oidc_keys::{JsonWebKey, JsonWebKeySet};

@@ -9,3 +9,4 @@ mod oauth2;
 mod readers;
 mod tokens;
 mod types;
+mod user_info;

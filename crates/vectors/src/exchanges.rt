@@ -135,8 +135,8 @@ fn extra_in(alloc: Global, text: &str) -> Result<(String, String), CaseError> {
     }
 }
 
-// The pairs that a report has of a request.
-fn request_line(alloc: Global, request: &HttpRequest) -> Result<String, CaseError> {
+/// The pairs that a report has of a request. Only a POST shows its body.
+pub(crate) fn request_line(alloc: Global, request: &HttpRequest) -> Result<String, CaseError> {
     let body = str::from_utf8(request.body().as_slice()).map_err(|_| CaseError::NoCase)?;
     let headers = request.headers();
     let mut form = FormText::new(alloc);
@@ -145,7 +145,9 @@ fn request_line(alloc: Global, request: &HttpRequest) -> Result<String, CaseErro
     push_header(&mut form, "accept", headers, "accept")?;
     push_header(&mut form, "content_type", headers, "content-type")?;
     push_header(&mut form, "authorization", headers, "authorization")?;
-    form.push("body", body)?;
+    if request.method().as_str() == "POST" {
+        form.push("body", body)?;
+    }
     ok_form(alloc, form)
 }
 
@@ -185,7 +187,8 @@ fn answer_line<EF: ExtraTokenFields>(
     }
 }
 
-fn response_in(alloc: Global, case: &Case) -> Result<HttpResponse, CaseError> {
+/// The response that a line gives by `status`, `type` and `body`.
+pub(crate) fn response_in(alloc: Global, case: &Case) -> Result<HttpResponse, CaseError> {
     let status = status(case.value("status"))?;
     let body = Body::new(Vec::from_slice(alloc, case.value("body").as_bytes())?);
     let mut response = Response::new(alloc, body);
@@ -226,7 +229,8 @@ fn server_line(alloc: Global, error: &Refused) -> Result<String, CaseError> {
     refused_word(alloc, words.as_str())
 }
 
-fn parse_line(alloc: Global, refusal: &Refusal) -> Result<String, CaseError> {
+/// `refused parse`, and the kind and the field.
+pub(crate) fn parse_line(alloc: Global, refusal: &Refusal) -> Result<String, CaseError> {
     let mut form = FormText::new(alloc);
     form.push("kind", kind_word(refusal.kind))?;
     form.push("field", refusal.field.as_str())?;

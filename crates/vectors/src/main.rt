@@ -22,6 +22,7 @@ mod records;
 mod scripts;
 mod tokens;
 mod types;
+mod user_info;
 mod verifier_keys;
 mod verifiers;
 mod vocabularies;

@@ -6,7 +6,7 @@ ghost use Rattle.vectors.specs.Operations.{operation_of};
 use crate::case::{Case, CaseError};
 use crate::{
     claims, displays, exchanges, headers, keys, members, pkce, records, scripts, tokens, types,
-    verifiers, vocabularies,
+    user_info, verifiers, vocabularies,
 };
 use std::alloc::Global;
 
@@ -44,6 +44,9 @@ pub(crate) enum Operation {
     Verify,
     Hash,
     Issue,
+    InfoClaims,
+    InfoRequest,
+    InfoAnswer,
 }
 
 /// The operation of that name.
@@ -82,6 +85,9 @@ pub(crate) fn operation_named(name: &str) -> Option<Operation>
         "verify" => Some(Operation::Verify),
         "hash" => Some(Operation::Hash),
         "issue" => Some(Operation::Issue),
+        "info_claims" => Some(Operation::InfoClaims),
+        "info_request" => Some(Operation::InfoRequest),
+        "info_answer" => Some(Operation::InfoAnswer),
         _ => None,
     }
 }
@@ -121,6 +127,9 @@ impl Operation {
             Operation::Verify => verifiers::verify(alloc, case),
             Operation::Hash => tokens::hash(alloc, case),
             Operation::Issue => tokens::issue(alloc, case),
+            Operation::InfoClaims => user_info::info_claims(alloc, case),
+            Operation::InfoRequest => user_info::info_request(alloc, case),
+            Operation::InfoAnswer => user_info::info_answer(alloc, case),
         }
     }
 }

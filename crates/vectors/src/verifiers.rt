@@ -65,8 +65,8 @@ fn algorithms(alloc: Global, text: &str) -> Result<Vec<CoreJwsSigningAlgorithm>,
     Ok(algorithms)
 }
 
-// The keys of the issuer, in their order.
-fn keys_in(alloc: Global, case: &Case) -> Result<JsonWebKeySet<VerifierKey>, CaseError> {
+/// The keys of the issuer, in their order.
+pub(crate) fn keys_in(alloc: Global, case: &Case) -> Result<JsonWebKeySet<VerifierKey>, CaseError> {
     let mut keys = Vec::new(alloc);
     for pair in case.pairs() {
         if pair.name() == "key" {

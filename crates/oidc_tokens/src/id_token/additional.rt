@@ -1,34 +1,12 @@
 // The additional claims of an ID token (OpenID Connect Core 1.0 section 5.1.2).
 
-ghost use Rattle.std.specs.Prelude.{◌≡◌, IfOk};
 ghost use Rattle.oidc_members.specs.Answers.{Answers};
-ghost use Rattle.oidc_tokens.specs.IdTokenClaims.{is_additional_claim as is_additional_name, additional_members};
+ghost use Rattle.oidc_tokens.specs.IdTokenClaims.{additional_members};
 
-use oidc_claims::{AdditionalClaims, Home, ID_TOKEN_FIELDS, belongs};
+use crate::members::additional_copies;
+use oidc_claims::{AdditionalClaims, ID_TOKEN_FIELDS};
 use oidc_members::{Member, ParseError};
-use std::alloc::{AllocError, Global};
-
-fn is_additional(name: &str) -> bool
-    ensures { result ≡ is_additional_name name.now }
-{
-    match belongs(name, &ID_TOKEN_FIELDS) {
-        Home::TokenField | Home::Standard => false,
-        Home::Additional => true,
-    }
-}
-
-// Copies of the additional members, in their order.
-fn copies_of(alloc: Global, members: &[Member]) -> Result<Vec<Member>, AllocError>
-    ensures { IfOk result (λ copies. copies.items ≡ additional_members members.now) }
-{
-    let mut copies = Vec::new(alloc);
-    for member in members {
-        if is_additional(member.name()) {
-            copies.push(member.clone_in(alloc)?)?;
-        }
-    }
-    Ok(copies)
-}
+use std::alloc::Global;
 
 // The additional claims of these members.
 pub(crate) fn read_additional<AC: AdditionalClaims>(
@@ -37,6 +15,6 @@ pub(crate) fn read_additional<AC: AdditionalClaims>(
 ) -> Result<AC, ParseError>
     ensures { Answers (AC.read_of (additional_members members.now)) result }
 {
-    let copies = copies_of(alloc, members)?;
+    let copies = additional_copies(alloc, members, &ID_TOKEN_FIELDS)?;
     AC::read(alloc, copies.as_slice())
 }

@@ -3,19 +3,17 @@
 ghost use Rattle.std.specs.Prelude.{◌≡◌, ◌++◌, Option, IfOk, OnOk, option_map};
 ghost use Rattle.std.specs.List.{All};
 ghost use Rattle.std.specs.Option.{option_copied};
-ghost use Rattle.serde_json.specs.View.{view};
 ghost use Rattle.oidc_readers.specs.WrittenBack.{IsUtf8Member};
 ghost use Rattle.oidc_readers.specs.Writing.{moment_member};
 ghost use Rattle.oidc_claims.specs.Write.{KeepsUtf8};
-ghost use Rattle.oidc_tokens.specs.OwnClaims.{own_members as members_of_own, texts_data, texts_member};
+ghost use Rattle.oidc_tokens.specs.OwnClaims.{own_members as members_of_own};
 
 use crate::id_token::own::OwnClaims;
-use crate::members::{push, push_text};
+use crate::members::{push, push_text, push_texts};
 use jiff::Timestamp;
 use oidc_members::OutMember;
 use oidc_readers::seconds_value;
 use oidc_types::{Marker, Nonce, Text};
-use serde_json::Value;
 use std::alloc::{AllocError, Global};
 
 // The fields in their order, absent ones left out.
@@ -83,30 +81,4 @@ fn push_moment(
         None => Ok(()),
         Some(moment) => push(alloc, out, name, seconds_value(moment)),
     }
-}
-
-fn push_texts<M: Marker>(
-    alloc: Global,
-    out: &mut Vec<OutMember>,
-    name: &str,
-    texts: Option<&[Text<M>]>,
-) -> Result<(), AllocError>
-    ensures members { OnOk result
-        (out.new.items ≡ out.old.items ++ texts_member name.now (option_copied texts.entry)) }
-    ensures texts { OnOk result (KeepsUtf8 out.old.items out.new.items) }
-{
-    match texts {
-        None => Ok(()),
-        Some(texts) => push(alloc, out, name, texts_value(alloc, texts)?),
-    }
-}
-
-fn texts_value<M: Marker>(alloc: Global, texts: &[Text<M>]) -> Result<Value, AllocError>
-    ensures { IfOk result (λ value. view value ≡ texts_data texts.now) }
-{
-    let mut values = Vec::new(alloc);
-    for text in texts {
-        values.push(Value::String(String::from_str(alloc, text.as_str())?))?;
-    }
-    Ok(Value::Array(values))
 }

@@ -4,4 +4,4 @@ use Rattle.oidc_tokens.proofs.Homes.{additional_stay}
 use Rattle.oidc_tokens.proofs.id_token.additional.read_additional.Goals as goal
 
 pub read-requires : goal.read-requires
-read-requires g c = ap are_additional (c.as_slice.ensures.value ∙ c.in_ok-copies.ensures) ∙ additional_stay c.args.members.now
+read-requires g c = ap are_additional (c.as_slice.ensures.value ∙ c.in_ok-copies.ensures.copies) ∙ additional_stay c.args.members.now

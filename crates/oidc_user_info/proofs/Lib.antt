@@ -1,0 +1,7 @@
+mod Stays
+mod OwnBack
+mod ClaimsBack
+mod Rows
+mod Runs
+mod Texts
+mod Unblamed

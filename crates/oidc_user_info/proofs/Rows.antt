@@ -1,0 +1,268 @@
+-- What each reply to a request for user info rests on, by the table, and back.
+use Rattle.std.proofs.Common.{◌≡◌, ◌≢◌, ◌==◌, ℕ, Bool, true, false, List, Option, None, Some, refl, sym, ap, subst, ◌∙◌, inl, inr, arith}
+use Rattle.std.specs.Prelude.{Result, Ok, Err, not, ◌⊎◌, if◌then◌else◌, codes}
+use Rattle.std.specs.Str.{bytes_eq, is_utf8}
+use Rattle.std.proofs.lemmas.Bool.{true≢false, false≢true}
+use Rattle.http_header.specs.FieldValue.{is_visible_text}
+use Rattle.oidc_members.specs.declared.refusal.Refusal.{Refusal}
+use Rattle.oidc_keys.specs.declared.refusals.SignatureVerificationError.TheVariants.{AmbiguousKeyId, CryptoError, DisallowedAlg, InvalidKey, NoMatchingKey, NoSignature, UnsupportedAlg, Memory as NoMemory}
+use Rattle.oidc_oauth2.specs.Messages.{SeenRequest, SeenResponse, SeenAnswer}
+use Rattle.oidc_oauth2.specs.HttpUtils.{may_be}
+use Rattle.oidc_oauth2.specs.Requests.{is_address}
+use Rattle.oidc_oauth2.specs.Transport.{first_of}
+use Rattle.oidc_oauth2.specs.TokenAnswers.{◌>>=◌, ◌>>◌, ◌when◌, ◌or_as◌, is_over_long}
+use Rattle.oidc_tokens.specs.Tokens.{SeenToken}
+use Rattle.oidc_tokens.specs.UserInfoVerification.{is_expected}
+use Rattle.oidc_tokens.specs.declared.verification.refusals.ClaimsVerificationError.{ClaimsVerificationError}
+use Rattle.oidc_tokens.specs.declared.verification.refusals.ClaimsVerificationError.TheVariants as claims
+use Rattle.oidc_tokens.proofs.Theorems.{about, about_back, about_another, info_accepts, info_accepted}
+use Rattle.oidc_user_info.specs.UserInfoClaims.{SeenUserInfoClaims, parties_of}
+use Rattle.oidc_user_info.specs.InfoErrors.{InfoRefusal, Meant}
+use Rattle.oidc_user_info.specs.InfoAnswers.{◌for◌, Reading, Demand, claims_in, token_in, failure_of, accepted_claims, from_json, of_object, of_token, by_media_type, info_answer}
+use Rattle.oidc_user_info.specs.InfoRequests.{SeenInfoRequest, get_with, info_request}
+use Rattle.oidc_user_info.specs.InfoCauses.{IsAsked, HasNoAddress, HasNoResponse, Came, Fits, Succeeds, HoldsObject, HoldsToken, AllowsObject, HoldsText, HasOtherStatus, HasOtherType, HoldsNoText, IsTooLong, ReadsObject, ReadsToken, IsUserInfo, ObjectIsRefused, TokenIsRefused, ObjectFails, TokenFails, Cause}
+use Rattle.oidc_user_info.specs.InfoRuns.{reply_of, reply_to, reply}
+use Rattle.oidc_user_info.specs.declared.errors.InfoOther.TheVariants as other
+use Rattle.oidc_user_info.specs.declared.errors.PrepareInfoError.{PrepareInfoError}
+use Rattle.oidc_user_info.specs.declared.errors.PrepareInfoError.TheVariants.{Bearer, Uri}
+use Rattle.oidc_user_info.specs.declared.errors.ResponseCause.TheVariants.{Status, MediaType}
+use Rattle.oidc_user_info.specs.declared.errors.UserInfoError.TheVariants.{ClaimsVerification, Parse, Request, Response, Other, TooLong, Memory}
+
+equal : (n m : ℕ) → (n == m) ≡ true → n ≡ m
+equal n m h = grind arith
+
+apart : (n m : ℕ) → n ≢ m → (n == m) ≡ false
+apart n m h = grind arith
+
+about_none : (expected : Option (List ℕ)) (subject e : List ℕ) → expected ≡ Some e → subject ≢ e → (passes : Bool) → is_expected expected subject ≡ passes → passes ≡ false
+about_none expected subject e is another true passes = absurd (another (about expected subject passes e is))
+about_none expected subject e is another false passes = refl
+
+unequal : (n m : ℕ) → (n == m) ≡ false → n ≢ m
+unequal n m h = grind arith
+
+module _ {AC GC JE Key Use Algorithm Type' : Type 0} (r : Reading AC GC JE Key Use Algorithm Type') (ask : SeenInfoRequest Key) (answers : List SeenAnswer) where
+  abbrev Claims : Type 0
+  Claims = SeenUserInfoClaims AC GC
+
+  -- what a reply rests on
+  abbrev pub Rests : Meant Claims → Type 0
+  Rests (Ok found) = IsUserInfo ask answers r found
+  Rests (Err e) = Cause ask answers r e
+
+  -- ---- from the table
+
+  about_rests : (found : Claims) → ReadsObject ask answers r found → (expected : Bool) → is_expected ask.demand.verifier.expected_subject found.standard_claims.subject ≡ expected
+      → Rests ((ClaimsVerification claims.InvalidSubject when not expected) >> Ok found)
+  about_rests found reads true is = inl (record { reads = reads; about = about ask.demand.verifier.expected_subject found.standard_claims.subject is })
+  about_rests found reads false is =
+      let another = about_another ask.demand.verifier.expected_subject found.standard_claims.subject is in
+      inl (record { found = found; reads = reads; expected = another.0; is_expected = another.1; another = another.2 })
+
+  read_rests : (body : List ℕ) → AllowsObject ask answers body → (read : Result Claims Refusal) → claims_in r.additional r.gender body ≡ read
+      → Rests ((read or_as Parse) >>= λ found. (ClaimsVerification claims.InvalidSubject when not (is_expected ask.demand.verifier.expected_subject found.standard_claims.subject)) >> Ok found)
+  read_rests body allows (Ok found) is = about_rests found (record { body = body; allows = allows; read = is }) (is_expected ask.demand.verifier.expected_subject found.standard_claims.subject) refl
+  read_rests body allows (Err refusal) is = inl (record { body = body; allows = allows; refused = is })
+
+  json_rests : (body : List ℕ) → AllowsObject ask answers body → Rests (from_json r.additional r.gender ask.demand.verifier.expected_subject body)
+  unfolding from_json
+  json_rests body allows = read_rests body allows (claims_in r.additional r.gender body) refl
+
+  signed_rests : (body : List ℕ) → HoldsObject ask answers body → (signed : Bool) → ask.demand.signed ≡ signed
+      → Rests ((ClaimsVerification (claims.SignatureVerification NoSignature) when signed) >> from_json r.additional r.gender ask.demand.verifier.expected_subject body)
+  signed_rests body holds true is = inl (record { body = body; holds = holds; signature_asked = is })
+  signed_rests body holds false is = json_rests body (record { holds = holds; unsigned_allowed = is })
+
+  object_rests : (body : List ℕ) → HoldsObject ask answers body → Rests (of_object r.additional r.gender ask.demand body)
+  unfolding of_object
+  object_rests body holds = signed_rests body holds ask.demand.signed refl
+
+  failure_rests : (token : SeenToken JE Algorithm Claims) → ReadsToken ask answers r token → (failure : Option ClaimsVerificationError) → failure_of r ask.demand.verifier token ≡ failure
+      → Rests ((ClaimsVerification for failure) >> Ok token.payload)
+  failure_rests token reads None is = inr (record { token = token; reads = reads; accepts = info_accepts r.keys ask.demand.verifier token (parties_of token.payload) is; own_claims = refl })
+  failure_rests token reads (Some kind) is = inr (record { token = token; reads = reads; check_failed = is })
+
+  token_rests : (body : List ℕ) → HoldsText ask answers body → (read : Result (SeenToken JE Algorithm Claims) Refusal) → token_in r body ≡ read
+      → Rests ((read or_as Parse) >>= accepted_claims r ask.demand.verifier)
+  token_rests body holds (Ok token) is = failure_rests token (record { body = body; holds = holds; read = is }) (failure_of r ask.demand.verifier token) refl
+  token_rests body holds (Err refusal) is = inr (record { body = body; holds = holds; refused = is })
+
+  text_rests : (body : List ℕ) → HoldsToken ask answers body → (text : Bool) → is_utf8 body ≡ text
+      → Rests ((Other other.Utf8 when not text) >> ((token_in r body or_as Parse) >>= accepted_claims r ask.demand.verifier))
+  text_rests body holds true is = token_rests body (record { holds = holds; text = is }) (token_in r body) refl
+  text_rests body holds false is = record { body = body; holds = holds; no_text = is }
+
+  of_token_rests : (body : List ℕ) → HoldsToken ask answers body → Rests (of_token r ask.demand.verifier body)
+  unfolding of_token
+  of_token_rests body holds = text_rests body holds (is_utf8 body) refl
+
+  module _ (response : SeenResponse) where
+    abbrev json : Bool
+    json = may_be response.content_type (codes "application/json")
+
+    abbrev jwt : Bool
+    jwt = may_be response.content_type (codes "application/jwt")
+
+    type_rests : Succeeds ask answers response → (is_json is_jwt : Bool) → json ≡ is_json → jwt ≡ is_jwt
+        → Rests (if is_json then of_object r.additional r.gender ask.demand response.body else if is_jwt then of_token r ask.demand.verifier response.body else Err (Response response.status response.body MediaType))
+    type_rests succeeds true is_jwt j w = object_rests response.body (record { response = response; succeeds = succeeds; json = j; own_body = refl })
+    type_rests succeeds false true j w = of_token_rests response.body (record { response = response; succeeds = succeeds; no_json = j; jwt = w; own_body = refl })
+    type_rests succeeds false false j w = record { response = response; succeeds = succeeds; no_json = j; no_jwt = w; own_status = refl; own_body = refl }
+
+    media_rests : Succeeds ask answers response → Rests (by_media_type r ask.demand response)
+    unfolding by_media_type
+    media_rests succeeds = type_rests succeeds json jwt refl refl
+
+    status_rests : Fits ask answers response → (success : Bool) → (response.status == 200) ≡ success → Rests ((Response response.status response.body Status when not success) >> by_media_type r ask.demand response)
+    status_rests fits true is = media_rests (record { fits = fits; success = equal response.status 200 is })
+    status_rests fits false is = record { response = response; fits = fits; no_success = unequal response.status 200 is; own_status = refl; own_body = refl }
+
+    size_rests : Came ask answers response → (long : Bool) → is_over_long response.body ≡ long
+        → Rests ((TooLong response.body when long) >> ((Response response.status response.body Status when not (response.status == 200)) >> by_media_type r ask.demand response))
+    size_rests came true is = record { response = response; came = came; too_long = is; own_body = refl }
+    size_rests came false is = status_rests (record { came = came; not_too_long = is }) (response.status == 200) refl
+
+    response_rests : Came ask answers response → Rests (info_answer r ask.demand response)
+    unfolding info_answer
+    response_rests came = size_rests came (is_over_long response.body) refl
+
+  answer_rests : IsAsked ask → (answer : SeenAnswer) → first_of answers ≡ answer → Rests (reply_of r ask.demand answer)
+  answer_rests asked None is = record { asked = asked; no_response = is }
+  answer_rests asked (Some response) is = response_rests response (record { asked = asked; response_came = is })
+
+  asked_rests : (visible fits : Bool) → is_visible_text ask.access_token ≡ visible → is_address ask.address ≡ fits → (request : SeenRequest)
+      → Rests (reply_to r ask.demand ((Bearer when not visible) >> ((Uri when not fits) >> Ok request)) answers)
+  asked_rests false fits v f request = v
+  asked_rests true false v f request = record { token_fits = v; no_address = f }
+  asked_rests true true v f request = answer_rests (record { token_fits = v; address_fits = f }) (first_of answers) refl
+
+  -- every reply of the table rests on its cause
+  pub rests : Rests (reply r ask answers)
+  unfolding info_request
+  rests = asked_rests (is_visible_text ask.access_token) (is_address ask.address) refl refl _
+
+  -- ---- to the table
+
+  abbrev Replies : Meant Claims → Type 0
+  Replies meant = reply r ask answers ≡ meant
+
+  asked_reply : IsAsked ask → Replies (reply_of r ask.demand (first_of answers))
+  unfolding info_request
+  asked_reply asked = rw (asked.token_fits, asked.address_fits) refl
+
+  came_reply : (response : SeenResponse) → Came ask answers response → Replies (info_answer r ask.demand response)
+  came_reply response came = asked_reply came.asked ∙ ap (reply_of r ask.demand) came.response_came
+
+  fits_reply : (response : SeenResponse) → Fits ask answers response → Replies ((Response response.status response.body Status when not (response.status == 200)) >> by_media_type r ask.demand response)
+  unfolding info_answer
+  fits_reply response fits = came_reply response fits.came ∙ ap (λ long. (TooLong response.body when long) >> ((Response response.status response.body Status when not (response.status == 200)) >> by_media_type r ask.demand response)) fits.not_too_long
+
+  succeeds_reply : (response : SeenResponse) → Succeeds ask answers response → Replies (by_media_type r ask.demand response)
+  succeeds_reply response succeeds =
+      fits_reply response succeeds.fits
+      ∙ ap (λ n. (Response response.status response.body Status when not (n == 200)) >> by_media_type r ask.demand response) succeeds.success
+
+  object_reply : (body : List ℕ) → HoldsObject ask answers body → Replies (of_object r.additional r.gender ask.demand body)
+  unfolding by_media_type
+  object_reply body holds = succeeds_reply holds.response holds.succeeds ∙ rw holds.json (ap (of_object r.additional r.gender ask.demand) holds.own_body)
+
+  token_reply : (body : List ℕ) → HoldsToken ask answers body → Replies (of_token r ask.demand.verifier body)
+  unfolding by_media_type
+  token_reply body holds = succeeds_reply holds.response holds.succeeds ∙ rw (holds.no_json, holds.jwt) (ap (of_token r ask.demand.verifier) holds.own_body)
+
+  allows_reply : (body : List ℕ) → AllowsObject ask answers body → Replies (from_json r.additional r.gender ask.demand.verifier.expected_subject body)
+  unfolding of_object
+  allows_reply body allows = object_reply body allows.holds ∙ rw allows.unsigned_allowed refl
+
+  text_reply : (body : List ℕ) → HoldsText ask answers body → Replies ((token_in r body or_as Parse) >>= accepted_claims r ask.demand.verifier)
+  unfolding of_token
+  text_reply body holds = token_reply body holds.holds ∙ rw holds.text refl
+
+  reads_object_reply : (found : Claims) → ReadsObject ask answers r found
+      → Replies ((ClaimsVerification claims.InvalidSubject when not (is_expected ask.demand.verifier.expected_subject found.standard_claims.subject)) >> Ok found)
+  unfolding from_json
+  reads_object_reply found reads = allows_reply reads.body reads.allows ∙ rw reads.read refl
+
+  reads_token_reply : (token : SeenToken JE Algorithm Claims) → ReadsToken ask answers r token → Replies (accepted_claims r ask.demand.verifier token)
+  reads_token_reply token reads = text_reply reads.body reads.holds ∙ rw reads.read refl
+
+  -- claims that the answer holds are the reply
+  pub holds_reply : (found : Claims) → IsUserInfo ask answers r found → Replies (Ok found)
+  holds_reply found held =
+      elim held [
+        | inl object ↦ reads_object_reply found object.reads ∙ rw (about_back ask.demand.verifier.expected_subject found.standard_claims.subject object.about) refl
+        | inr token ↦
+            reads_token_reply token.token token.reads
+            ∙ rw (info_accepted r.keys ask.demand.verifier token.token (parties_of token.token.payload) token.accepts) (ap Ok token.own_claims)
+      ]
+
+  object_fails_reply : (kind : ClaimsVerificationError) → ObjectFails ask answers r kind → Replies (Err (ClaimsVerification kind))
+  unfolding of_object
+  object_fails_reply (claims.SignatureVerification NoSignature) lacks = object_reply lacks.body lacks.holds ∙ rw lacks.signature_asked refl
+  object_fails_reply claims.InvalidSubject another =
+      let v = ask.demand.verifier.expected_subject in
+      let subject = another.found.standard_claims.subject in
+      reads_object_reply another.found another.reads
+      ∙ ap (λ expected. (ClaimsVerification claims.InvalidSubject when not expected) >> Ok another.found) (about_none v subject another.expected another.is_expected another.another (is_expected v subject) refl)
+  object_fails_reply (claims.SignatureVerification AmbiguousKeyId) fails = absurd fails
+  object_fails_reply (claims.SignatureVerification CryptoError) fails = absurd fails
+  object_fails_reply (claims.SignatureVerification DisallowedAlg) fails = absurd fails
+  object_fails_reply (claims.SignatureVerification InvalidKey) fails = absurd fails
+  object_fails_reply (claims.SignatureVerification NoMatchingKey) fails = absurd fails
+  object_fails_reply (claims.SignatureVerification UnsupportedAlg) fails = absurd fails
+  object_fails_reply (claims.SignatureVerification NoMemory) fails = absurd fails
+  object_fails_reply claims.Unsupported fails = absurd fails
+  object_fails_reply claims.InvalidIssuer fails = absurd fails
+  object_fails_reply claims.InvalidAudience fails = absurd fails
+  object_fails_reply claims.Expired fails = absurd fails
+  object_fails_reply claims.InvalidNonce fails = absurd fails
+  object_fails_reply claims.Memory fails = absurd fails
+
+  token_fails_reply : (kind : ClaimsVerificationError) → TokenFails ask answers r kind → Replies (Err (ClaimsVerification kind))
+  token_fails_reply kind fails = reads_token_reply fails.token fails.reads ∙ rw fails.check_failed refl
+
+  object_refused_reply : (refusal : Refusal) → ObjectIsRefused ask answers r refusal → Replies (Err (Parse refusal))
+  unfolding from_json
+  object_refused_reply refusal is = allows_reply is.body is.allows ∙ rw is.refused refl
+
+  token_refused_reply : (refusal : Refusal) → TokenIsRefused ask answers r refusal → Replies (Err (Parse refusal))
+  token_refused_reply refusal is = text_reply is.body is.holds ∙ rw is.refused refl
+
+  bearer_reply : is_visible_text ask.access_token ≡ false → Replies (Err (Other other.Bearer))
+  unfolding info_request
+  bearer_reply is = rw is refl
+
+  uri_reply : HasNoAddress ask → Replies (Err (Other other.Uri))
+  unfolding info_request
+  uri_reply is = rw (is.token_fits, is.no_address) refl
+
+  long_reply : (body : List ℕ) → IsTooLong ask answers body → Replies (Err (TooLong body))
+  unfolding info_answer
+  long_reply body is = came_reply is.response is.came ∙ rw is.too_long (ap (λ b. Err (TooLong b)) is.own_body)
+
+  status_reply : (status : ℕ) (body : List ℕ) → HasOtherStatus ask answers status body → Replies (Err (Response status body Status))
+  status_reply status body is =
+      fits_reply is.response is.fits
+      ∙ ap (λ success. (Response is.response.status is.response.body Status when not success) >> by_media_type r ask.demand is.response) (apart is.response.status 200 is.no_success)
+      ∙ (λ i. Err (Response (is.own_status i) (is.own_body i) Status))
+
+  type_reply : (status : ℕ) (body : List ℕ) → HasOtherType ask answers status body → Replies (Err (Response status body MediaType))
+  unfolding by_media_type
+  type_reply status body is = succeeds_reply is.response is.succeeds ∙ rw (is.no_json, is.no_jwt) (λ i. Err (Response (is.own_status i) (is.own_body i) MediaType))
+
+  utf8_reply : HoldsNoText ask answers → Replies (Err (Other other.Utf8))
+  unfolding of_token
+  utf8_reply is = token_reply is.body is.holds ∙ rw is.no_text refl
+
+  -- a refusal that has its cause is the reply
+  pub refused_reply : (e : InfoRefusal) → Cause ask answers r e → Replies (Err e)
+  refused_reply (ClaimsVerification kind) cause = elim cause [ inl object ↦ object_fails_reply kind object | inr token ↦ token_fails_reply kind token ]
+  refused_reply (Parse refusal) cause = elim cause [ inl object ↦ object_refused_reply refusal object | inr token ↦ token_refused_reply refusal token ]
+  refused_reply (Request u) cause = asked_reply cause.asked ∙ ap (reply_of r ask.demand) cause.no_response
+  refused_reply (Response status body Status) cause = status_reply status body cause
+  refused_reply (Response status body MediaType) cause = type_reply status body cause
+  refused_reply (Other other.Bearer) cause = bearer_reply cause
+  refused_reply (Other other.Uri) cause = uri_reply cause
+  refused_reply (Other other.Utf8) cause = utf8_reply cause
+  refused_reply (TooLong body) cause = long_reply body cause
+  refused_reply Memory cause = absurd cause

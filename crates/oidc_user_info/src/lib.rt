@@ -1,0 +1,34 @@
+//! User info: its claims, answers that are signed, and the request for it (OpenID Connect Core 1.0 section
+//! 5.3).
+//!
+//! - [`UserInfoClaims`] are the claims of an answer: issuer and audience, where they are said, the standard
+//!   claims, and additional claims of a caller's type. [`UserInfoClaims::from_json`] reads an answer that is
+//!   an object.
+//! - [`UserInfoJsonWebToken`] is an answer that is a JSON Web Token. It gives its claims where a
+//!   [`UserInfoVerifier`](oidc_tokens::UserInfoVerifier) accepts it, else the first check that fails.
+//! - [`UserInfoRequest`] asks for user info with an access token, over a transport that the caller hands in.
+//!   [`UserInfoError`] is why there are no claims.
+//!
+//! What it promises. Claims are read in one pass, each member judged against all that stand before it, as
+//! `user_info_claims_of` says; what is written in range is read back. A request hands over exactly the one
+//! request of its definition, a GET of the endpoint's text as it was given, or nothing; its answer is that of
+//! the table `info_answer` for the response that came, and each refusal has its cause. The subject of the ID
+//! token that a site expects is compared for both kinds of answers (section 5.3.2). All of this holds for
+//! every lawful type of keys, algorithms, claims and transports. Want of memory is a variant `Memory` of its
+//! own, or the one error of a call that answers an `AllocError`, and no clause says when it comes.
+//!
+//! What holds tokens or claims has no `Debug`; that of an error shows no body.
+#![tactic(auto)]
+
+pub mod answers;
+pub mod claims;
+pub mod core_user_info;
+pub mod errors;
+pub mod requests;
+pub mod token;
+
+pub use crate::claims::UserInfoClaims;
+pub use crate::core_user_info::{CoreUserInfoClaims, CoreUserInfoJsonWebToken};
+pub use crate::errors::{InfoOther, PrepareInfoError, ResponseCause, UserInfoError};
+pub use crate::requests::{UserInfoRequest, UserInfoResponseType};
+pub use crate::token::UserInfoJsonWebToken;
