@@ -20,6 +20,7 @@ pub type CoreIdTokenClaims = IdTokenClaims<EmptyAdditionalClaims, CoreGenderClai
 
 /// The ID token of a token response without further fields.
 pub type CoreIdTokenFields = IdTokenFields<
+    // No additional claims, and no fields beside the ID token.
     EmptyAdditionalClaims,
     EmptyExtraTokenFields,
     CoreGenderClaim,

@@ -15,8 +15,8 @@
 //!
 //! What it promises. A text is read exactly as `token_of` says, with the refusal that comes first: the
 //! text's, the header's, the payload's. The message that is signed is the first two parts as they stand.
-//! Claims are read in one pass, each member judged against all that stand before it, as
-//! `id_token_claims_of` says. `IdToken::claims` is Ok only for tokens that `Accepts` holds of, and for each
+//! Claims are read as `id_token_claims_of` says: each member is judged against all that stand before it.
+//! `IdToken::claims` is Ok only for tokens that `Accepts` holds of, and for each
 //! of them, want of memory aside; a refusal is the first check that fails. A token that is issued with
 //! claims in range is read back as it is, and whoever expects its claims accepts it. All of this holds of
 //! every lawful type of keys, algorithms and claims. Want of memory is a variant `Memory` of its own, or

@@ -163,7 +163,8 @@ impl<'a, JE: JweContentEncryptionAlgorithm, K: JsonWebKey> UserInfoRequest<'a, J
     /// Where the media type is that of JSON, or absent: `NoSignature`, where a signature is asked for;
     /// `Parse`; `InvalidSubject`. Where it is that of a JSON Web Token: `Utf8`; `Parse`; the first check of
     /// the token that fails. Where it is another one: `Response` with `MediaType`.
-    #[tactic(auto, unfolding(crate::specs::InfoAnswers::by_media_type, crate::specs::InfoAnswers::info_answer))]
+    #[tactic(auto, unfolding(crate::specs::InfoAnswers::by_media_type, // in the order of the rows
+    crate::specs::InfoAnswers::info_answer))]
     pub fn answer<AC: AdditionalClaims, GC: GenderClaim, RE>(
         &self,
         alloc: Global,

@@ -85,12 +85,12 @@ impl<AC: AdditionalClaims, GC: GenderClaim> IdTokenClaims<AC, GC> {
             expiration,
             issue_time,
             auth_time: None,
-            nonce: None,
             auth_context_ref: None,
+            nonce: None,
             auth_method_refs: None,
-            authorized_party: None,
             access_token_hash: None,
             code_hash: None,
+            authorized_party: None,
         };
         IdTokenClaims {
             own,

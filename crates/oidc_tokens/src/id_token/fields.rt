@@ -156,7 +156,8 @@ impl<
 
     ghost write_of = { spec.response_fields_out EF.write_of };
 
-    #[tactic(auto, unfolding(crate::specs::IdTokenFields::response_fields_of, oidc_readers::specs::Slots::slot))]
+    #[tactic(auto, unfolding(crate::specs::IdTokenFields::response_fields_of, // and what a slot holds
+    oidc_readers::specs::Slots::slot))]
     fn read(alloc: Global, members: &Members) -> Result<Self, ParseError> {
         let slot: IdTokenSlot<AC, GC, JE, JS> = IdTokenSlot {
             id_token: Once::new(),

@@ -42,6 +42,7 @@ impl<
         key: &S,
         alg: JS,
         access_token: Option<&AccessToken>,
+        // The code of the same answer, in the hybrid flow.
         code: Option<&AuthorizationCode>,
     ) -> Result<Self, JsonWebTokenError>
     where
