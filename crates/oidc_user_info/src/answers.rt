@@ -157,14 +157,14 @@ impl<'a, JE: JweContentEncryptionAlgorithm, K: JsonWebKey> UserInfoRequest<'a, J
         UserInfoClaims::from_json(alloc, body.as_slice(), self.verifier().expected_subject())
     }
 
+    #[tactic(auto, unfolding(crate::specs::InfoAnswers::by_media_type, // in the order of the rows
+    crate::specs::InfoAnswers::info_answer))]
     /// What a response to this request is worth: the claims that it holds, or the first of these that holds.
     /// `TooLong`: the body has more than 1,048,576 bytes. `Response` with `Status`: the status isn't 200.
     ///
     /// Where the media type is that of JSON, or absent: `NoSignature`, where a signature is asked for;
     /// `Parse`; `InvalidSubject`. Where it is that of a JSON Web Token: `Utf8`; `Parse`; the first check of
     /// the token that fails. Where it is another one: `Response` with `MediaType`.
-    #[tactic(auto, unfolding(crate::specs::InfoAnswers::by_media_type, // in the order of the rows
-    crate::specs::InfoAnswers::info_answer))]
     pub fn answer<AC: AdditionalClaims, GC: GenderClaim, RE>(
         &self,
         alloc: Global,
