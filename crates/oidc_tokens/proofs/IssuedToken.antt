@@ -11,8 +11,8 @@ use Rattle.oidc_members.specs.Seen.{OutSeen}
 use Rattle.oidc_members.specs.Write.{any_float, object_text}
 use Rattle.oidc_readers.specs.WrittenBack.{IsUtf8Member}
 use Rattle.oidc_tokens.specs.Header.{written_header}
-use Rattle.oidc_tokens.specs.Encoded.{Encodes, IsMessage, IsReady}
-use Rattle.oidc_tokens.specs.Issuing.{message_of, compact, signed_with, token_with, with_signature, issued, Issues, IsRefusedBy, issue_error}
+use Rattle.oidc_tokens.specs.Encoded.{Encodes, IsHeaded, IsMessage, IsReady}
+use Rattle.oidc_tokens.specs.Issuing.{message_of, IsHeadedBy, compact, signed_with, token_with, with_signature, issued, Issues, IsRefusedBy, issue_error}
 use Rattle.oidc_tokens.specs.Tokens.{SeenToken}
 use Rattle.oidc_tokens.proofs.TokenBack.{message_is}
 use Rattle.oidc_tokens.proofs.FloatFree.{header_free}
@@ -91,3 +91,15 @@ ready_of alg_text id payload message header_items payload_items header_given pay
       header_texts = subst (All IsUtf8Member) header_is header_texts;
       payload_texts = subst (All IsUtf8Member) payload_is payload_texts;
     }
+
+-- and one whose first part is that of this header
+pub headed_of : (alg_text : List ℕ) (id : Option (List ℕ)) (message : List ℕ) (header_items header_given : List OutSeen)
+    → header_items ≡ written_header alg_text id → header_given ≡ header_items
+    → (any_float header_given ≡ false → IsHeaded message (object_text header_given))
+    → IsHeaded message (object_text (written_header alg_text id))
+headed_of alg_text id message header_items header_given header_is header_from made =
+    let header : header_given ≡ written_header alg_text id = header_from ∙ header_is in
+    subst (λ h. IsHeaded message (object_text h)) header (made (ap any_float header ∙ header_free alg_text id))
+
+pub headed_by : (alg_text : List ℕ) (id : Option (List ℕ)) (message : List ℕ) → IsHeaded message (object_text (written_header alg_text id)) → IsHeadedBy message (written_header alg_text id)
+headed_by alg_text id message h = (h.rest, h.joined ∙ ap (λ f. f ++ codes "." ++ h.rest) h.head.same)

@@ -20,6 +20,13 @@ pub record IsMessage (message header payload : List ℕ) : Type 0 where
   pub body : Encodes second payload
   pub joined : message ≡ first ++ codes "." ++ second
 
+-- A message begins with the encoded bytes of a header, and a dot.
+pub record IsHeaded (message header : List ℕ) : Type 0 where
+  pub first : List ℕ
+  pub rest : List ℕ
+  pub head : Encodes first header
+  pub joined : message ≡ first ++ codes "." ++ rest
+
 -- A message is ready to be signed: it is that of these members, where no value holds a float, and they are
 -- UTF-8.
 pub record IsReady (header payload : List OutSeen) (message : List ℕ) : Type 0 where

@@ -48,6 +48,10 @@ module _ {JE JS P : Type 0} where
       Ok (token_with alg key_id payload message signature)
   with_signature alg key_id payload message (Err refusal) = Err refusal
 
+-- a message whose first part, before a dot, is the object of these members, encoded
+abbrev pub IsHeadedBy : List ℕ → List OutSeen → Type 0
+IsHeadedBy message header = (rest : List ℕ) × (message ≡ encoded (object_text header) ++ codes "." ++ rest)
+
 -- The token that a signer issues, or the signer's refusal. `signs` is what the signer answers for a message
 -- by the algorithm, and `key_id` the id of the key that checks it.
 abbrev pub issued : {JE JS P : Type 0} → (JS → List ℕ) → (P → List OutSeen)

@@ -4,7 +4,7 @@ ghost use Rattle.std.specs.Prelude.{◌≡◌, ◌++◌, List, ℕ, codes, Ok, E
 ghost use Rattle.std.specs.Option.{option_copied};
 ghost use Rattle.oidc_members.specs.Answers.{Answers};
 ghost use Rattle.oidc_members.specs.Write.{any_float, object_text};
-ghost use Rattle.oidc_tokens.specs.Encoded.{Encodes, IsMessage, IsReady};
+ghost use Rattle.oidc_tokens.specs.Encoded.{Encodes, IsHeaded, IsMessage, IsReady};
 ghost use Rattle.oidc_tokens.specs.Header.{written_header};
 ghost use Rattle.oidc_tokens.specs.Tokens.{token_of};
 ghost use Rattle.std.specs.String.{string_bytes};
@@ -176,8 +176,11 @@ fn message_of(
     header: &[OutMember],
     payload: &[OutMember],
 ) -> Result<String, AllocError>
-    ensures { any_float header.now ≡ false → any_float payload.now ≡ false → IfOk result (λ message.
+    ensures whole { any_float header.now ≡ false → any_float payload.now ≡ false
+        → IfOk result (λ message.
         IsMessage (string_bytes message) (object_text header.now) (object_text payload.now)) }
+    ensures head { any_float header.now ≡ false
+        → IfOk result (λ message. IsHeaded (string_bytes message) (object_text header.now)) }
 {
     let mut message = encoded(alloc, write_object(alloc, header)?.as_slice())?;
     message.push('.')?;
@@ -225,6 +228,9 @@ impl<JE: ClosedVocabulary, JS: JwsSigningAlgorithm, P: Payload> JsonWebToken<JE,
         ensures header { let key_id = S.VerificationKey.key_id (S.verification_key key.now) in
             IfOk result (λ token. token.header ≡ issuing.signed_with alg.now key_id) }
         ensures payload { IfOk result (λ token. token.payload ≡ payload) }
+        ensures head { let key_id = S.VerificationKey.key_id (S.verification_key key.now) in
+            let header = written_header (JS.as_ref alg.now) key_id in
+            IfOk result (λ token. issuing.IsHeadedBy token.message header) }
         ensures signed { IfOk result (λ token.
             S.signs key.now alg.now token.message ≡ Ok token.signature) }
         ensures text { IfOk result (λ token.
@@ -275,6 +281,9 @@ impl Unsigned {
         ensures ready { let key_id = S.VerificationKey.key_id (S.verification_key key.now) in
             let header = written_header alg.now key_id in IfOk result (λ unsigned.
             IsReady header (P.write_of payload.now) (string_bytes unsigned.message)) }
+        ensures headed { let key_id = S.VerificationKey.key_id (S.verification_key key.now) in
+            let header = written_header alg.now key_id in IfOk result (λ unsigned.
+            IsHeaded (string_bytes unsigned.message) (object_text header)) }
     {
         let checker = key.as_verification_key(alloc)?;
         let header = header_members(alloc, alg, checker.key_id())?;

@@ -5,7 +5,9 @@ ghost use Rattle.std.specs.Option.{option_copied};
 ghost use Rattle.oidc_members.specs.Write.{any_float};
 ghost use Rattle.oidc_tokens.specs.Tokens.{token_of};
 ghost use Rattle.oidc_tokens.specs.Steps.{and_then};
-ghost use Rattle.oidc_tokens.specs.Issuing.{Issues, IsUnissued, IsNamed, issued, signed_with, compact};
+ghost use Rattle.oidc_tokens.specs.Header.{written_header};
+ghost use Rattle.oidc_tokens.specs.Issuing.{Issues, IsUnissued, IsNamed, IsHeadedBy};
+ghost use Rattle.oidc_tokens.specs.Issuing.{issued, signed_with, compact};
 ghost use Rattle.oidc_tokens.specs.IdTokenClaims.{id_token_claims_of, id_token_members};
 ghost use Rattle.oidc_tokens.specs.Hashes as spec;
 ghost use Rattle.oidc_tokens.specs.Hashes.{GivesHash, hashing};
@@ -66,6 +68,9 @@ impl<
             S.signs key.now alg token.message ≡ Ok token.signature) }
         ensures header { let key_id = S.VerificationKey.key_id (S.verification_key key.now) in
             IfOk result (λ token. token.header ≡ signed_with alg key_id) }
+        ensures head { let key_id = S.VerificationKey.key_id (S.verification_key key.now) in
+            let header = written_header (JS.as_ref alg) key_id in
+            IfOk result (λ token. IsHeadedBy token.message header) }
         ensures text { IfOk result (λ token.
             token.text ≡ compact token.message token.signature) }
         ensures refused { let checker = S.verification_key key.now in

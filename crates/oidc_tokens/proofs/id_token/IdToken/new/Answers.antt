@@ -39,6 +39,7 @@ returns-in-Ok-new g c =
       claims = sym is ∙ ap Ok (sym made.payload);
       signed = made.signed;
       header = made.header;
+      head = made.head;
       text = made.text;
       refused = tt;
       reads_back = λ named range.
