@@ -12,7 +12,7 @@ use Rattle.oidc_oauth2.specs.Requests.{is_address}
 use Rattle.oidc_oauth2.specs.Transport.{first_of}
 use Rattle.oidc_oauth2.specs.TokenAnswers.{◌>>=◌, ◌>>◌, ◌when◌, ◌or_as◌, is_over_long}
 use Rattle.oidc_tokens.specs.Tokens.{SeenToken}
-use Rattle.oidc_tokens.specs.UserInfoVerification.{is_expected}
+use Rattle.oidc_tokens.specs.UserInfoVerification.{is_expected_subject}
 use Rattle.oidc_tokens.specs.declared.verification.refusals.ClaimsVerificationError.{ClaimsVerificationError}
 use Rattle.oidc_tokens.specs.declared.verification.refusals.ClaimsVerificationError.TheVariants as claims
 use Rattle.oidc_tokens.proofs.Theorems.{about, about_back, about_another, info_accepts, info_accepted}
@@ -34,7 +34,7 @@ equal n m h = grind arith
 apart : (n m : ℕ) → n ≢ m → (n == m) ≡ false
 apart n m h = grind arith
 
-about_none : (expected : Option (List ℕ)) (subject e : List ℕ) → expected ≡ Some e → subject ≢ e → (passes : Bool) → is_expected expected subject ≡ passes → passes ≡ false
+about_none : (expected : Option (List ℕ)) (subject e : List ℕ) → expected ≡ Some e → subject ≢ e → (passes : Bool) → is_expected_subject expected subject ≡ passes → passes ≡ false
 about_none expected subject e is another true passes = absurd (another (about expected subject passes e is))
 about_none expected subject e is another false passes = refl
 
@@ -52,7 +52,7 @@ module _ {AC GC JE Key Use Algorithm Type' : Type 0} (r : Reading AC GC JE Key U
 
   -- ---- from the table
 
-  about_rests : (found : Claims) → ReadsObject ask answers r found → (expected : Bool) → is_expected ask.demand.verifier.expected_subject found.standard_claims.subject ≡ expected
+  about_rests : (found : Claims) → ReadsObject ask answers r found → (expected : Bool) → is_expected_subject ask.demand.verifier.expected_subject found.standard_claims.subject ≡ expected
       → Rests ((ClaimsVerification claims.InvalidSubject when not expected) >> Ok found)
   about_rests found reads true is = inl (record { reads = reads; about = about ask.demand.verifier.expected_subject found.standard_claims.subject is })
   about_rests found reads false is =
@@ -60,8 +60,8 @@ module _ {AC GC JE Key Use Algorithm Type' : Type 0} (r : Reading AC GC JE Key U
       inl (record { found = found; reads = reads; expected = another.0; is_expected = another.1; another = another.2 })
 
   read_rests : (body : List ℕ) → AllowsObject ask answers body → (read : Result Claims Refusal) → claims_in r.additional r.gender body ≡ read
-      → Rests ((read or_as Parse) >>= λ found. (ClaimsVerification claims.InvalidSubject when not (is_expected ask.demand.verifier.expected_subject found.standard_claims.subject)) >> Ok found)
-  read_rests body allows (Ok found) is = about_rests found (record { body = body; allows = allows; read = is }) (is_expected ask.demand.verifier.expected_subject found.standard_claims.subject) refl
+      → Rests ((read or_as Parse) >>= λ found. (ClaimsVerification claims.InvalidSubject when not (is_expected_subject ask.demand.verifier.expected_subject found.standard_claims.subject)) >> Ok found)
+  read_rests body allows (Ok found) is = about_rests found (record { body = body; allows = allows; read = is }) (is_expected_subject ask.demand.verifier.expected_subject found.standard_claims.subject) refl
   read_rests body allows (Err refusal) is = inl (record { body = body; allows = allows; refused = is })
 
   json_rests : (body : List ℕ) → AllowsObject ask answers body → Rests (from_json r.additional r.gender ask.demand.verifier.expected_subject body)
@@ -179,7 +179,7 @@ module _ {AC GC JE Key Use Algorithm Type' : Type 0} (r : Reading AC GC JE Key U
   text_reply body holds = token_reply body holds.holds ∙ rw holds.text refl
 
   reads_object_reply : (found : Claims) → ReadsObject ask answers r found
-      → Replies ((ClaimsVerification claims.InvalidSubject when not (is_expected ask.demand.verifier.expected_subject found.standard_claims.subject)) >> Ok found)
+      → Replies ((ClaimsVerification claims.InvalidSubject when not (is_expected_subject ask.demand.verifier.expected_subject found.standard_claims.subject)) >> Ok found)
   unfolding from_json
   reads_object_reply found reads = allows_reply reads.body reads.allows ∙ rw reads.read refl
 
@@ -203,7 +203,7 @@ module _ {AC GC JE Key Use Algorithm Type' : Type 0} (r : Reading AC GC JE Key U
       let v = ask.demand.verifier.expected_subject in
       let subject = another.found.standard_claims.subject in
       reads_object_reply another.found another.reads
-      ∙ ap (λ expected. (ClaimsVerification claims.InvalidSubject when not expected) >> Ok another.found) (about_none v subject another.expected another.is_expected another.another (is_expected v subject) refl)
+      ∙ ap (λ expected. (ClaimsVerification claims.InvalidSubject when not expected) >> Ok another.found) (about_none v subject another.expected another.is_expected another.another (is_expected_subject v subject) refl)
   object_fails_reply (claims.SignatureVerification AmbiguousKeyId) fails = absurd fails
   object_fails_reply (claims.SignatureVerification CryptoError) fails = absurd fails
   object_fails_reply (claims.SignatureVerification DisallowedAlg) fails = absurd fails

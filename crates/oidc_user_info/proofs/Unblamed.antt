@@ -8,7 +8,7 @@ use Rattle.oidc_oauth2.specs.HttpUtils.{may_be}
 use Rattle.oidc_oauth2.specs.Messages.{SeenResponse}
 use Rattle.oidc_oauth2.specs.TokenAnswers.{◌>>=◌, ◌>>◌, ◌when◌, ◌or_as◌, is_over_long}
 use Rattle.oidc_tokens.specs.Tokens.{SeenToken}
-use Rattle.oidc_tokens.specs.UserInfoVerification.{SeenUserInfoVerifier, is_expected}
+use Rattle.oidc_tokens.specs.UserInfoVerification.{SeenUserInfoVerifier, is_expected_subject}
 use Rattle.oidc_tokens.specs.declared.verification.refusals.ClaimsVerificationError.{ClaimsVerificationError}
 use Rattle.oidc_tokens.specs.declared.verification.refusals.ClaimsVerificationError.TheVariants as claims
 use Rattle.oidc_user_info.specs.UserInfoClaims.{SeenUserInfoClaims}
@@ -34,8 +34,8 @@ module _ {AC GC JE Key Use Algorithm Type' : Type 0} (r : Reading AC GC JE Key U
   after_when e false next own later = later
 
   read_judged : (read : Result Claims Refusal)
-      → IsJudged ((read or_as Parse) >>= λ found. (ClaimsVerification claims.InvalidSubject when not (is_expected demand.verifier.expected_subject found.standard_claims.subject)) >> Ok found)
-  read_judged (Ok found) = after_when (ClaimsVerification claims.InvalidSubject) (not (is_expected demand.verifier.expected_subject found.standard_claims.subject)) (Ok found) tt tt
+      → IsJudged ((read or_as Parse) >>= λ found. (ClaimsVerification claims.InvalidSubject when not (is_expected_subject demand.verifier.expected_subject found.standard_claims.subject)) >> Ok found)
+  read_judged (Ok found) = after_when (ClaimsVerification claims.InvalidSubject) (not (is_expected_subject demand.verifier.expected_subject found.standard_claims.subject)) (Ok found) tt tt
   read_judged (Err refusal) = tt
 
   json_judged : (body : List ℕ) → IsJudged (from_json r.additional r.gender demand.verifier.expected_subject body)

@@ -10,7 +10,7 @@ use Rattle.oidc_oauth2.specs.HttpUtils.{may_be}
 use Rattle.oidc_oauth2.specs.TokenAnswers.{◌>>=◌, ◌>>◌, ◌when◌, ◌or_as◌, is_over_long, record_in}
 use Rattle.oidc_tokens.specs.Tokens.{SeenToken, token_of}
 use Rattle.oidc_tokens.specs.Signatures.{KeyMeanings}
-use Rattle.oidc_tokens.specs.UserInfoVerification.{SeenUserInfoVerifier, is_expected, first_info_failure}
+use Rattle.oidc_tokens.specs.UserInfoVerification.{SeenUserInfoVerifier, is_expected_subject, first_info_failure}
 use Rattle.oidc_tokens.specs.declared.verification.refusals.ClaimsVerificationError.{ClaimsVerificationError}
 use Rattle.oidc_tokens.specs.declared.verification.refusals.ClaimsVerificationError.TheVariants.{SignatureVerification, InvalidSubject}
 use Rattle.oidc_user_info.specs.UserInfoClaims.{SeenUserInfoClaims, user_info_claims_of, parties_of}
@@ -58,7 +58,7 @@ unfoldable pub from_json : {AC GC : Type 0} → (List SeenMember → Result AC R
     → (SeenMember → Result GC Refusal) → Option (List ℕ) → List ℕ → Meant (SeenUserInfoClaims AC GC)
 from_json additional gender expected body = do
   claims ← claims_in additional gender body or_as Parse
-  ClaimsVerification InvalidSubject when not (is_expected expected claims.standard_claims.subject)
+  ClaimsVerification InvalidSubject when not (is_expected_subject expected claims.standard_claims.subject)
   Ok claims
 
 -- those of an answer that is an object

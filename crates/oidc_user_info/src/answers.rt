@@ -18,7 +18,7 @@ use oidc_claims::{AdditionalClaims, GenderClaim};
 use oidc_keys::{JsonWebKey, SignatureVerificationError};
 use oidc_members::{Members, ParseError};
 use oidc_oauth2::{Body, HttpResponse, MAX_BODY, check_content_type};
-use oidc_tokens::{ClaimsVerificationError, Payload, UserInfoVerifier, is_expected};
+use oidc_tokens::{ClaimsVerificationError, Payload, UserInfoVerifier, is_expected_subject};
 use oidc_types::{JweContentEncryptionAlgorithm, SubjectIdentifier};
 use std::alloc::Global;
 
@@ -49,7 +49,7 @@ impl<AC: AdditionalClaims, GC: GenderClaim> UserInfoClaims<AC, GC> {
             Err(ParseError::Refused(refusal)) => Err(UserInfoError::Parse(refusal)),
             Err(ParseError::Memory) => Err(UserInfoError::Memory),
             Ok(claims) => {
-                if is_expected(expected_subject, claims.subject()) {
+                if is_expected_subject(expected_subject, claims.subject()) {
                     Ok(claims)
                 } else {
                     let refusal = ClaimsVerificationError::InvalidSubject;
