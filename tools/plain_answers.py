@@ -1,6 +1,6 @@
 #!/usr/bin/env python3
 """Judges the answers of a provider, and answers the cases of crates/vectors of that: scripts (`run`), and
-the operations of oidc_oauth2.
+the operations of oidc_oauth2 but `challenge`.
 
     tools/plain_answers.py answers   reads cases from standard input, and answers each: a line each; a line of
                                      an operation that isn't in OPERATIONS comes back as it came
