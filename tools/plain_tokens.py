@@ -1,8 +1,10 @@
 #!/usr/bin/env python3
 """Reads, judges and issues ID tokens, and answers the cases of crates/vectors of that.
 
-    tools/plain_tokens.py answers   reads cases from standard input, and answers each: a line each
-    tools/plain_tokens.py cases     generated cases, a line each
+    tools/plain_tokens.py answers   reads cases of header, id_claims, token, verify, hash, issue, token_response
+                                    and token_answer from standard input, and answers each: a line each; any
+                                    other line comes back as it came
+    tools/plain_tokens.py cases     360 generated cases, a line each
 
 It is a second reader, verifier and issuer beside oidc_tokens, over Python's json, base64, hashlib and hmac:
 RFC 7515 sections 2, 4.1, 5 and 7.1, RFC 7518 section 3.1, RFC 7519 sections 5 and 7, OpenID Connect Core 1.0
