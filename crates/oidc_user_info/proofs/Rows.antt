@@ -41,9 +41,10 @@ about_none expected subject e is another false passes = refl
 unequal : (n m : ℕ) → (n == m) ≡ false → n ≢ m
 unequal n m h = grind arith
 
--- no verdict of a key is want of memory
-abbrev pub NeverWants : {AC GC JE Key Use Algorithm Type' : Type 0} → Readers AC GC JE Key Use Algorithm Type' → Type 0
-NeverWants {Key = Key} {Algorithm = Algorithm} r = (key : Key) (alg : Algorithm) (message made : List ℕ) → r.keys.keys.verdict key alg message made ≢ Err NoMemory
+module _ {AC GC JE Key Use Algorithm Type' : Type 0} (r : Readers AC GC JE Key Use Algorithm Type') where
+  -- no verdict of a key is want of memory
+  abbrev pub NeverWants : Type 0
+  NeverWants = (key : Key) (alg : Algorithm) (message made : List ℕ) → r.keys.keys.verdict key alg message made ≢ Err NoMemory
 
 module _ {AC GC JE Key Use Algorithm Type' : Type 0} (r : Readers AC GC JE Key Use Algorithm Type') (ask : SeenInfoRequest Key) (answers : List SeenAnswer) where
   abbrev Claims : Type 0
