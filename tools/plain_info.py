@@ -1,11 +1,11 @@
 #!/usr/bin/env python3
-"""Reads and judges user info, and answers the cases of crates/vectors of that.
+"""Reads, judges and issues user info, and answers the cases of crates/vectors of that.
 
-    tools/plain_info.py answers   reads cases of info_claims, info_request and info_answer from standard input,
+    tools/plain_info.py answers   reads cases of info_claims, info_request, info_answer and info_issue
                                   and answers each: a line each; any other line comes back as it came
     tools/plain_info.py cases     280 generated cases, a line each
 
-It is a second reader and verifier beside oidc_user_info, over plain_tokens.py, plain_records.py and plain_claims.py:
+It is a second reader, verifier and issuer beside oidc_user_info, over plain_tokens.py, plain_records.py and plain_claims.py:
 OpenID Connect Core 1.0 sections 5.1, 5.1.2 and 5.3, RFC 6750 section 2.1. Each member of an object is judged by
 looking back at all that stand before it. It takes URLs as they are written, so it is right where these are written
 as the URL Standard writes them.
@@ -168,7 +168,26 @@ def info_answer(line):
     return "refused " + refusal if refusal else ok([("written", written(members))])
 
 
-OPERATIONS = {"info_claims": info_claims, "info_request": info_request, "info_answer": info_answer}
+def info_issue(line):
+    found, _ = read_case(line, {"claims", "secret", "alg"})
+    alg = plain_tokens.algorithm_in(found["alg"])
+    try:
+        claims = written(claim_members(found["claims"].encode()))
+    except Refused:
+        raise NoCase from None
+    if not alg.startswith("HS"):
+        return "refused unsupported_alg"
+    return ok([("token", plain_tokens.signed(claims, found["secret"], alg))])
+
+
+OPERATIONS = {"info_claims": info_claims, "info_request": info_request, "info_answer": info_answer,
+              "info_issue": info_issue}
+
+
+def answer_line(line):
+    """The answer of a case of one of these operations; any other line as it came."""
+    return answer_by(OPERATIONS, line)
+
 
 # ---- generated cases
 

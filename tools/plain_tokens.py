@@ -307,8 +307,9 @@ def hash_answer(line):
     return ok([("hash", half_hash(alg, found["text"]))])
 
 
-def issued(members, secret, alg, hashes=()):
-    message = encoded(b'{"alg":"' + alg.encode() + b'"}') + "." + encoded(written(members, hashes).encode())
+def signed(claims, secret, alg):
+    """The token whose payload is the text of these claims."""
+    message = encoded(b'{"alg":"' + alg.encode() + b'"}') + "." + encoded(claims.encode())
     return message + "." + encoded(mac(secret, alg, message))
 
 
@@ -323,7 +324,7 @@ def issue(line):
         return "refused unsupported_alg"
     beside = {"at_hash": found.get("access_token"), "c_hash": found.get("code")}
     hashes = [(name, half_hash(alg, text)) for name, text in beside.items() if text is not None]
-    return ok([("token", issued(members, found["secret"], alg, hashes))])
+    return ok([("token", signed(written(members, hashes), found["secret"], alg))])
 
 
 # ---- token responses, with an ID token or without

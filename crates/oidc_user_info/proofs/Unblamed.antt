@@ -13,14 +13,14 @@ use Rattle.oidc_tokens.specs.declared.verification.refusals.ClaimsVerificationEr
 use Rattle.oidc_tokens.specs.declared.verification.refusals.ClaimsVerificationError.TheVariants as claims
 use Rattle.oidc_user_info.specs.UserInfoClaims.{SeenUserInfoClaims}
 use Rattle.oidc_user_info.specs.InfoErrors.{InfoRefusal, Meant, Gives}
-use Rattle.oidc_user_info.specs.InfoAnswers.{◌for◌, Reading, Demand, claims_in, token_in, failure_of, accepted_claims, from_json, of_object, of_token, by_media_type, info_answer}
+use Rattle.oidc_user_info.specs.InfoAnswers.{◌for◌, Readers, Demand, claims_in, token_in, failure_of, accepted_claims, from_json, of_object, of_token, by_media_type, info_answer}
 use Rattle.oidc_user_info.specs.InfoRuns.{IsRequestBlamed}
 use Rattle.oidc_user_info.specs.declared.errors.InfoOther.TheVariants as other
 use Rattle.oidc_user_info.specs.declared.errors.ResponseCause.TheVariants.{Status, MediaType}
 use Rattle.oidc_user_info.specs.declared.errors.UserInfoError.{UserInfoError}
 use Rattle.oidc_user_info.specs.declared.errors.UserInfoError.TheVariants.{ClaimsVerification, Parse, Request, Response, Other, TooLong, Memory}
 
-module _ {AC GC JE Key Use Algorithm Type' : Type 0} (r : Reading AC GC JE Key Use Algorithm Type') (demand : Demand Key) where
+module _ {AC GC JE Key Use Algorithm Type' : Type 0} (r : Readers AC GC JE Key Use Algorithm Type') (demand : Demand Key) where
   abbrev Claims : Type 0
   Claims = SeenUserInfoClaims AC GC
 

@@ -32,18 +32,18 @@ pub record Demand (Key : Type 0) : Type 0 where
 
 -- ---- how claims and tokens are read, and what is known of keys
 
-pub record Reading (AC GC JE Key Use Algorithm Type' : Type 0) : Type 1 where
+pub record Readers (AC GC JE Key Use Algorithm Type' : Type 0) : Type 1 where
   pub additional : List SeenMember → Result AC Refusal
   pub gender : SeenMember → Result GC Refusal
   pub encrypts : List ℕ → Option JE
   pub signs : List ℕ → Option Algorithm
   pub keys : KeyMeanings Key Use Algorithm Type'
 
-abbrev pub reading : {AC GC JE Key Use Algorithm Type' : Type 0}
+abbrev pub readers : {AC GC JE Key Use Algorithm Type' : Type 0}
     → (List SeenMember → Result AC Refusal) → (SeenMember → Result GC Refusal)
     → (List ℕ → Option JE) → (List ℕ → Option Algorithm) → KeyMeanings Key Use Algorithm Type'
-    → Reading AC GC JE Key Use Algorithm Type'
-reading additional gender encrypts signs keys =
+    → Readers AC GC JE Key Use Algorithm Type'
+readers additional gender encrypts signs keys =
     record { additional = additional; gender = gender; encrypts = encrypts; signs = signs; keys = keys }
 
 -- the claims that a body holds as an object
@@ -68,7 +68,7 @@ of_object additional gender demand body = do
   ClaimsVerification (SignatureVerification NoSignature) when demand.signed
   from_json additional gender demand.verifier.expected_subject body
 
-module _ {AC GC JE Key Use Algorithm Type' : Type 0} (r : Reading AC GC JE Key Use Algorithm Type') where
+module _ {AC GC JE Key Use Algorithm Type' : Type 0} (r : Readers AC GC JE Key Use Algorithm Type') where
   -- the token that a text is
   abbrev pub token_in : List ℕ → Result (SeenToken JE Algorithm (SeenUserInfoClaims AC GC)) Refusal
   token_in text = token_of r.encrypts r.signs (user_info_claims_of r.additional r.gender) text

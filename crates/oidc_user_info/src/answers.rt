@@ -7,7 +7,7 @@ ghost use Rattle.oidc_oauth2.specs.HttpUtils.{may_be as may_be_of};
 ghost use Rattle.oidc_oauth2.specs.Messages.{seen_response};
 ghost use Rattle.oidc_tokens.specs.Signatures.{meanings};
 ghost use Rattle.oidc_user_info.specs.InfoAnswers as spec;
-ghost use Rattle.oidc_user_info.specs.InfoAnswers.{reading};
+ghost use Rattle.oidc_user_info.specs.InfoAnswers.{readers};
 ghost use Rattle.oidc_user_info.specs.InfoErrors.{Gives};
 
 use crate::claims::UserInfoClaims;
@@ -74,7 +74,7 @@ where
     ensures { let k = meanings K.JsonWebKey K.KeyUse.JsonWebKeyUse
         K.SigningAlgorithm.JwsSigningAlgorithm.own K.SigningAlgorithm.ClosedVocabulary
         K.SigningAlgorithm.KeyType.ClosedVocabulary in
-        let r = reading AC.read_of GC.read_of JE.from_str K.SigningAlgorithm.from_str k in
+        let r = readers AC.read_of GC.read_of JE.from_str K.SigningAlgorithm.from_str k in
         Gives result (spec.accepted_claims r verifier.now token) }
 {
     match token.claims(alloc, verifier) {
@@ -98,7 +98,7 @@ where
     ensures { let k = meanings K.JsonWebKey K.KeyUse.JsonWebKeyUse
         K.SigningAlgorithm.JwsSigningAlgorithm.own K.SigningAlgorithm.ClosedVocabulary
         K.SigningAlgorithm.KeyType.ClosedVocabulary in
-        let r = reading AC.read_of GC.read_of JE.from_str K.SigningAlgorithm.from_str k in
+        let r = readers AC.read_of GC.read_of JE.from_str K.SigningAlgorithm.from_str k in
         Gives result (spec.of_text r verifier.now text.now) }
 {
     match UserInfoJsonWebToken::<AC, GC, JE, K::SigningAlgorithm>::read(alloc, text) {
@@ -122,7 +122,7 @@ where
     ensures { let k = meanings K.JsonWebKey K.KeyUse.JsonWebKeyUse
         K.SigningAlgorithm.JwsSigningAlgorithm.own K.SigningAlgorithm.ClosedVocabulary
         K.SigningAlgorithm.KeyType.ClosedVocabulary in
-        let r = reading AC.read_of GC.read_of JE.from_str K.SigningAlgorithm.from_str k in
+        let r = readers AC.read_of GC.read_of JE.from_str K.SigningAlgorithm.from_str k in
         Gives result (spec.of_token r verifier.now body.now) }
 {
     match str::from_utf8(body.as_slice()) {
@@ -173,7 +173,7 @@ impl<'a, JE: JweContentEncryptionAlgorithm, K: JsonWebKey> UserInfoRequest<'a, J
         ensures answer { let k = meanings K.JsonWebKey K.KeyUse.JsonWebKeyUse
             K.SigningAlgorithm.JwsSigningAlgorithm.own K.SigningAlgorithm.ClosedVocabulary
             K.SigningAlgorithm.KeyType.ClosedVocabulary in
-            let r = reading AC.read_of GC.read_of JE.from_str K.SigningAlgorithm.from_str k in
+            let r = readers AC.read_of GC.read_of JE.from_str K.SigningAlgorithm.from_str k in
             Gives result (spec.info_answer r self.now.demand (seen_response response)) }
     {
         let status = response.status();
