@@ -103,21 +103,73 @@ pub(crate) fn info_answer(alloc: Global, case: &Case) -> Result<String, CaseErro
     let required = ["status", "body", "id", "issuer"];
     let optional = ["type", "subject", "signed", "any_issuer", "any_audience"];
     case.check_all(&required, &optional, Some("key"))?;
-    let endpoint: UserInfoUrl = url_of(alloc, "https://example/userinfo")?;
-    let id = ClientId::new(String::from_str(alloc, case.value("id"))?);
-    let issuer: IssuerUrl = url_of(alloc, case.value("issuer"))?;
-    let keys = keys_in(alloc, case)?;
-    let verifier = Verifier::new(&id, &issuer, &keys, subject_in(alloc, case)?);
-    let token = AccessToken::new(String::from_str(alloc, "abc")?);
-    let request = Request::new(&endpoint, token, verifier)
-        .require_signed_response(flag(case, "signed")?)
-        .require_issuer_match(!flag(case, "any_issuer")?)
-        .require_audience_match(!flag(case, "any_audience")?);
+    let expected = expected_in(alloc, case)?;
     let mut http = transport(alloc, case)?;
-    match request.request::<AllOtherClaims, CoreGenderClaim, Recorded>(alloc, &mut http) {
-        Ok(claims) => ok_pair(alloc, "written", written_claims(alloc, &claims)?.as_str()),
+    let request = request_in(alloc, case, &expected)?;
+    reply_line(alloc, request, &mut http)
+}
+
+// What a line expects of an answer, and where it comes from.
+#[derive(Drop)]
+struct Expected {
+    endpoint: UserInfoUrl,
+    id: ClientId,
+    issuer: IssuerUrl,
+    keys: JsonWebKeySet<VerifierKey>,
+}
+
+fn expected_in(alloc: Global, case: &Case) -> Result<Expected, CaseError> {
+    let endpoint = url_of(alloc, "https://example/userinfo")?;
+    let id = ClientId::new(String::from_str(alloc, case.value("id"))?);
+    let issuer = url_of(alloc, case.value("issuer"))?;
+    let keys = keys_in(alloc, case)?;
+    Ok(Expected {
+        endpoint,
+        id,
+        issuer,
+        keys,
+    })
+}
+
+// The request, with the subject and the switches of a line.
+fn request_in<'a>(
+    alloc: Global,
+    case: &Case,
+    expected: &'a Expected,
+) -> Result<Request<'a>, CaseError> {
+    let subject = subject_in(alloc, case)?;
+    let token = AccessToken::new(String::from_str(alloc, "abc")?);
+    let verifier = Verifier::new(&expected.id, &expected.issuer, &expected.keys, subject);
+    let request = Request::new(&expected.endpoint, token, verifier);
+    switched(case, request)
+}
+
+fn switched<'a>(case: &Case, request: Request<'a>) -> Result<Request<'a>, CaseError> {
+    let is_signed = flag(case, "signed")?;
+    let any_issuer = flag(case, "any_issuer")?;
+    let any_audience = flag(case, "any_audience")?;
+    Ok(
+        request
+            .require_signed_response(is_signed)
+            .require_issuer_match(!any_issuer)
+            .require_audience_match(!any_audience),
+    )
+}
+
+fn reply_line(
+    alloc: Global,
+    request: Request<'_>,
+    http: &mut Recorded,
+) -> Result<String, CaseError> {
+    match request.request::<AllOtherClaims, CoreGenderClaim, Recorded>(alloc, http) {
+        Ok(claims) => written_line(alloc, &claims),
         Err(refusal) => refused_line(alloc, &refusal),
     }
+}
+
+fn written_line(alloc: Global, claims: &Claims) -> Result<String, CaseError> {
+    let written = written_claims(alloc, claims)?;
+    ok_pair(alloc, "written", written.as_str())
 }
 
 // The transport that gives the answer of a line.
