@@ -1,0 +1,203 @@
+//! URLs with pairs after their query, to which a site sends its users: the authorization endpoint's (RFC 6749
+//! section 3.1) and the logout endpoint's.
+
+ghost use Rattle.std.specs.Prelude.{◌≡◌, ◌∷◌, ◌++◌, [], IfOk, OnOk, OnErr, map, option_map};
+ghost use Rattle.std.specs.Option.{option_copied};
+ghost use Rattle.std.specs.String.{string_bytes};
+ghost use Rattle.form_urlencoded.specs.Form.{pair_text};
+ghost use Rattle.oidc_oauth2.specs.ClientAuth.{pair_if};
+ghost use Rattle.oidc_user_info.specs.Urls.{spaced, spaced_if, extended, Builds};
+
+use oidc_types::{Marker, Text, Vocabulary};
+use std::alloc::{AllocError, Global};
+use std::marker::Model;
+use thiserror::Error;
+use url::Url;
+
+/// The most bytes that a URL may have.
+pub const MAX_URL: usize = 1_048_576;
+
+/// Why there is no URL.
+#[derive(Clone, Copy, Debug, Error, PartialEq, Eq)]
+pub enum BuildUrlError {
+    /// It would have more than 1,048,576 bytes.
+    #[error("a URL that is too long")]
+    TooLong,
+    /// There was no memory.
+    #[error("out of memory")]
+    Memory,
+}
+
+impl From<AllocError> for BuildUrlError {
+    ghost use Rattle.std.specs.Prelude.{◌≡◌};
+    ghost use Rattle.oidc_user_info.specs.declared.urls.BuildUrlError.TheVariants.{Memory};
+
+    ghost from_gives = { λ _ error. error ≡ Memory };
+
+    fn from(_refused: AllocError) -> BuildUrlError {
+        BuildUrlError::Memory
+    }
+}
+
+// ---- texts with spaces between them
+
+// The texts of a list.
+fn texts_of<M: Marker>(alloc: Global, list: &[Text<M>]) -> Result<Vec<&str>, AllocError>
+    ensures { IfOk result (λ texts. map (λ text. text.now) texts.items ≡ list.now) }
+{
+    let mut texts = Vec::new(alloc);
+    for text in list {
+        texts.push(text.as_str())?;
+    }
+    Ok(texts)
+}
+
+// The texts of words.
+fn texts_of_words<V: Vocabulary>(alloc: Global, words: &[V]) -> Result<Vec<&str>, AllocError>
+    ensures { IfOk result (λ texts. map (λ text. text.now) texts.items ≡ map V.as_ref words.now) }
+{
+    let mut texts = Vec::new(alloc);
+    for word in words {
+        texts.push(word.as_ref())?;
+    }
+    Ok(texts)
+}
+
+// These texts, with single spaces between them.
+fn spaced_text(alloc: Global, texts: &[&str]) -> Result<String, AllocError>
+    ensures { IfOk result (λ text. string_bytes text ≡ spaced (map (λ t. t.now) texts.now)) }
+{
+    texts.join(alloc, " ")
+}
+
+/// The texts of words, with single spaces between them. `AllocError` is want of memory, the one error.
+pub fn spaced_words<V: Vocabulary>(alloc: Global, words: &[V]) -> Result<String, AllocError>
+    ensures text { IfOk result (λ text. string_bytes text ≡ spaced (map V.as_ref words.now)) }
+{
+    let texts = texts_of_words(alloc, words)?;
+    spaced_text(alloc, texts.as_slice())
+}
+
+/// The same, where there is a word at all.
+pub fn spaced_words_if<V: Vocabulary>(
+    alloc: Global,
+    words: &[V],
+) -> Result<Option<String>, AllocError>
+    ensures text { IfOk result
+        (λ text. option_map string_bytes text ≡ spaced_if (map V.as_ref words.now)) }
+{
+    match words {
+        [] => Ok(None),
+        [_, ..] => Ok(Some(spaced_words(alloc, words)?)),
+    }
+}
+
+/// Texts, with single spaces between them. `AllocError` is want of memory, the one error.
+pub fn spaced_texts<M: Marker>(alloc: Global, list: &[Text<M>]) -> Result<String, AllocError>
+    ensures text { IfOk result (λ text. string_bytes text ≡ spaced list.now) }
+{
+    let texts = texts_of(alloc, list)?;
+    spaced_text(alloc, texts.as_slice())
+}
+
+/// The same, where there is a text at all.
+pub fn spaced_texts_if<M: Marker>(
+    alloc: Global,
+    list: &[Text<M>],
+) -> Result<Option<String>, AllocError>
+    ensures text { IfOk result (λ text. option_map string_bytes text ≡ spaced_if list.now) }
+{
+    match list {
+        [] => Ok(None),
+        [_, ..] => Ok(Some(spaced_texts(alloc, list)?)),
+    }
+}
+
+// ---- the pairs
+
+/// Pairs that stand after the query of a URL, in their order. Contracts see their list. They borrow their
+/// texts.
+#[derive(Drop)]
+pub struct QueryPairs<'p> {
+    pairs: Vec<(&'p str, &'p str)>,
+}
+
+impl<'p> Model for QueryPairs<'p> {
+    ghost use Rattle.std.specs.Prelude.{List, ℕ, map};
+    ghost use Rattle.form_urlencoded.specs.Form.{pair_text};
+
+    ghost Value = { List (List ℕ × List ℕ) };
+
+    ghost view = { λ p. map pair_text p.pairs.items };
+}
+
+impl<'p> QueryPairs<'p> {
+    /// No pairs.
+    pub fn new(alloc: Global) -> Self
+        ensures { result ≡ [] }
+    {
+        QueryPairs {
+            pairs: Vec::new(alloc),
+        }
+    }
+
+    /// Adds a pair at the end. After an error nothing is added.
+    pub fn push(&mut self, name: &'p str, value: &'p str) -> Result<(), AllocError>
+        ensures ok { OnOk result (self.new ≡ self.old ++ (name.now, value.now) ∷ []) }
+        ensures err { OnErr result (self.new ≡ self.old) }
+    {
+        self.pairs.push((name, value))?;
+        Ok(())
+    }
+
+    /// Adds a pair at the end, where there is a value. After an error nothing is added.
+    pub fn push_if(&mut self, name: &'p str, value: Option<&'p str>) -> Result<(), AllocError>
+        ensures ok { OnOk result (self.new ≡ self.old ++ pair_if name.now (option_copied value.entry)) }
+        ensures err { OnErr result (self.new ≡ self.old) }
+    {
+        match value {
+            None => Ok(()),
+            Some(value) => self.push(name, value),
+        }
+    }
+
+    /// An endpoint with these pairs after its query. `TooLong` exactly where it would have more than 1,048,576
+    /// bytes. A URL that is too long for its record is `Memory`.
+    pub fn extend(&self, endpoint: &Url) -> Result<Url, BuildUrlError>
+        ensures url { Builds result (extended endpoint.now self.now) }
+    {
+        let url = self.appended(endpoint)?;
+        if url.as_str().len() > MAX_URL {
+            return Err(BuildUrlError::TooLong);
+        }
+        Ok(url)
+    }
+
+    // The endpoint with the pairs, however long.
+    fn appended(&self, endpoint: &Url) -> Result<Url, AllocError>
+        ensures { IfOk result (λ url. url ≡ extended endpoint.now self.now) }
+    {
+        let mut url = endpoint.clone()?;
+        if self.pairs.is_empty() {
+            drop_empty_query(&mut url)?;
+            return Ok(url);
+        }
+        match url.append_query_pairs(self.pairs.as_slice()) {
+            Ok(()) => Ok(url),
+            Err(_) => Err(AllocError),
+        }
+    }
+}
+
+// Without a query where that is empty.
+fn drop_empty_query(url: &mut Url) -> Result<(), AllocError>
+    ensures { OnOk result (url.new ≡ extended url.old []) }
+{
+    if url.query() != Some("") {
+        return Ok(());
+    }
+    match url.set_query(None) {
+        Ok(()) => Ok(()),
+        Err(_) => Err(AllocError),
+    }
+}
