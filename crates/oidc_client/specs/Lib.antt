@@ -6,3 +6,5 @@ pub mod Authorization
 -- lower words that these cite
 pub use Rattle.oidc_types.specs.{TextAndUrl}
 pub use Rattle.oidc_user_info.specs.Urls
+-- what no public clause cites
+pub mod Texts
