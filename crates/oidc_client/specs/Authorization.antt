@@ -16,9 +16,9 @@ use Rattle.oidc_client.specs.declared.authorization.AuthenticationFlow.TheVarian
 
 -- what a request asks for: a code; an ID token, and an access token too where that is true; or these types
 pub data Flow (ResponseType : Type 0) : Type 0 where
-  pub Code : Flow ResponseType
-  pub Implicit : Bool → Flow ResponseType
-  pub Hybrid : List ResponseType → Flow ResponseType
+  Code : Flow ResponseType
+  Implicit : Bool → Flow ResponseType
+  Hybrid : List ResponseType → Flow ResponseType
 
 abbrev pub seen_flow : {ResponseType : Type 0} → AuthenticationFlow ResponseType → Flow ResponseType
 seen_flow flow.AuthorizationCode = Code

@@ -241,11 +241,7 @@ impl<'a, AD: AuthDisplay, P: AuthPrompt, RT: ResponseType> AuthorizationRequest<
         GC: GenderClaim,
         JE: JweContentEncryptionAlgorithm,
         JS: JwsSigningAlgorithm,
-    >(
-        mut self,
-        alloc: Global,
-        token: &IdToken<AC, GC, JE, JS>,
-    ) -> Result<Self, AllocError>
+    >(mut self, alloc: Global, token: &IdToken<AC, GC, JE, JS>) -> Result<Self, AllocError>
         ensures set { IfOk result
             (λ r. r ≡ record self.entry { id_token_hint = Some token.now.text }) }
     {

@@ -10,12 +10,12 @@ mod requests;
 mod settings;
 
 use crate::provider_metadata::ProviderMetadata;
+use oidc_claims::EmptyAdditionalClaims;
 use oidc_keys::{CoreJsonWebKey, JsonWebKey, JsonWebKeySet};
 use oidc_oauth2::{
     AuthType, CoreErrorResponseType, CoreRevocableToken, CoreRevocationErrorResponse,
     CoreTokenIntrospectionResponse, StandardErrorResponse,
 };
-use oidc_claims::EmptyAdditionalClaims;
 use oidc_tokens::CoreTokenResponse;
 use oidc_types::{
     AuthUrl, ClientId, ClientSecret, CoreAuthDisplay, CoreAuthPrompt, CoreGenderClaim,
@@ -192,19 +192,7 @@ impl<
         × IsTrue (fits HasUserInfoUrl.REQUIRED c.endpoints.user_info_url) };
 }
 
-impl<
-    AC,
-    AD,
-    GC,
-    JE,
-    K: JsonWebKey,
-    P,
-    TE,
-    TR,
-    TIR,
-    RT,
-    TRE,
-> Client<
+impl<AC, AD, GC, JE, K: JsonWebKey, P, TE, TR, TIR, RT, TRE> Client<
     AC,
     AD,
     GC,
@@ -254,19 +242,7 @@ impl<
     }
 }
 
-impl<
-    AC,
-    AD,
-    GC,
-    JE,
-    K: JsonWebKey,
-    P,
-    TE,
-    TR,
-    TIR,
-    RT,
-    TRE,
-> Client<
+impl<AC, AD, GC, JE, K: JsonWebKey, P, TE, TR, TIR, RT, TRE> Client<
     AC,
     AD,
     GC,

@@ -412,9 +412,7 @@ impl<
         ensures missing { IfErr result (IsMissing (codes "user info")) }
     {
         match self.user_info_url() {
-            Some(endpoint) => {
-                Ok(self.info_request_at(endpoint, access_token, expected_subject))
-            }
+            Some(endpoint) => { Ok(self.info_request_at(endpoint, access_token, expected_subject)) }
             None => Err(ConfigurationError::MissingUrl("user info")),
         }
     }
