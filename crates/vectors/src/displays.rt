@@ -13,6 +13,7 @@ use oidc_oauth2::{
 };
 use oidc_tokens::{ClaimsVerificationError, JsonWebTokenError};
 use oidc_types::{SigningError, UrlTextError};
+use oidc_user_info::BuildUrlError;
 use std::alloc::Global;
 use std::fmt::{Debug, Display};
 
@@ -84,6 +85,8 @@ const OTHERS: [OtherCause; 3] = [
 
 const CHALLENGES: [PkceError; 2] = [PkceError::Length, PkceError::Memory];
 
+const URLS: [BuildUrlError; 2] = [BuildUrlError::TooLong, BuildUrlError::Memory];
+
 const REQUESTS: [PrepareError; 2] = [PrepareError::Uri, PrepareError::Memory];
 
 const TYPES: [UnexpectedType; 1] = [UnexpectedType];
@@ -118,6 +121,7 @@ fn token_layer(alloc: Global, kind: &str, variant: &str) -> Result<String, CaseE
         "Fault" => one_of(alloc, &FAULTS, variant),
         "OtherCause" => one_of(alloc, &OTHERS, variant),
         "PkceError" => one_of(alloc, &CHALLENGES, variant),
+        "BuildUrlError" => one_of(alloc, &URLS, variant),
         "PrepareError" => one_of(alloc, &REQUESTS, variant),
         "RequestTokenError" => request_error(alloc, variant),
         "UnexpectedType" => one_of(alloc, &TYPES, variant),

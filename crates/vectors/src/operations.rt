@@ -5,8 +5,8 @@ ghost use Rattle.vectors.specs.Operations.{operation_of};
 
 use crate::case::{Case, CaseError};
 use crate::{
-    claims, displays, exchanges, headers, keys, members, pkce, records, scripts, tokens, types,
-    user_info, verifiers, vocabularies,
+    authorization, claims, displays, exchanges, headers, keys, members, pkce, records, scripts,
+    tokens, types, user_info, verifiers, vocabularies,
 };
 use std::alloc::Global;
 
@@ -47,6 +47,7 @@ pub(crate) enum Operation {
     InfoClaims,
     InfoRequest,
     InfoAnswer,
+    Authorize,
 }
 
 /// The operation of that name.
@@ -88,6 +89,7 @@ pub(crate) fn operation_named(name: &str) -> Option<Operation>
         "info_claims" => Some(Operation::InfoClaims),
         "info_request" => Some(Operation::InfoRequest),
         "info_answer" => Some(Operation::InfoAnswer),
+        "authorize" => Some(Operation::Authorize),
         _ => None,
     }
 }
@@ -130,6 +132,7 @@ impl Operation {
             Operation::InfoClaims => user_info::info_claims(alloc, case),
             Operation::InfoRequest => user_info::info_request(alloc, case),
             Operation::InfoAnswer => user_info::info_answer(alloc, case),
+            Operation::Authorize => authorization::authorize(alloc, case),
         }
     }
 }

@@ -92,7 +92,7 @@ fn response_type(text: &str) -> Result<UserInfoResponseType, CaseError> {
 pub(crate) fn info_answer(alloc: Global, case: &Case) -> Result<String, CaseError> {
     let required = ["status", "body", "id", "issuer"];
     let optional = ["type", "subject", "signed", "any_issuer", "any_audience"];
-    case.check_all(&required, &optional, Some("key"))?;
+    case.check_all(&required, &optional, &["key"])?;
     let endpoint: UserInfoUrl = url_of(alloc, "https://example/userinfo")?;
     let id = ClientId::new(String::from_str(alloc, case.value("id"))?);
     let issuer: IssuerUrl = url_of(alloc, case.value("issuer"))?;
