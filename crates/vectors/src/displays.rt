@@ -85,7 +85,7 @@ const OTHERS: [OtherCause; 3] = [
 
 const CHALLENGES: [PkceError; 2] = [PkceError::Length, PkceError::Memory];
 
-const URLS: [BuildUrlError; 2] = [BuildUrlError::TooLong, BuildUrlError::Memory];
+const BUILDS: [BuildUrlError; 2] = [BuildUrlError::TooLong, BuildUrlError::Memory];
 
 const REQUESTS: [PrepareError; 2] = [PrepareError::Uri, PrepareError::Memory];
 
@@ -121,7 +121,7 @@ fn token_layer(alloc: Global, kind: &str, variant: &str) -> Result<String, CaseE
         "Fault" => one_of(alloc, &FAULTS, variant),
         "OtherCause" => one_of(alloc, &OTHERS, variant),
         "PkceError" => one_of(alloc, &CHALLENGES, variant),
-        "BuildUrlError" => one_of(alloc, &URLS, variant),
+        "BuildUrlError" => one_of(alloc, &BUILDS, variant),
         "PrepareError" => one_of(alloc, &REQUESTS, variant),
         "RequestTokenError" => request_error(alloc, variant),
         "UnexpectedType" => one_of(alloc, &TYPES, variant),
