@@ -1,10 +1,12 @@
 //! URLs with pairs after their query, to which a site sends its users: the authorization endpoint's (RFC 6749
 //! section 3.1) and the logout endpoint's.
 
-ghost use Rattle.std.specs.Prelude.{◌≡◌, ◌∷◌, ◌++◌, [], IfOk, OnOk, OnErr, map, option_map};
+ghost use Rattle.std.specs.Prelude.{◌≡◌, ◌∷◌, ◌++◌, [], false, Some, IfOk, IsTrue, OnOk, OnErr, map, option_map};
 ghost use Rattle.std.specs.Option.{option_copied};
 ghost use Rattle.std.specs.String.{string_bytes};
 ghost use Rattle.form_urlencoded.specs.Form.{pair_text};
+ghost use Rattle.url.specs.Parts.{IsValid};
+ghost use Rattle.url.specs.Setters.{append_query_pairs};
 ghost use Rattle.oidc_oauth2.specs.ClientAuth.{pair_if};
 ghost use Rattle.oidc_user_info.specs.Urls.{spaced, spaced_if, extended, Builds};
 
@@ -64,6 +66,7 @@ fn texts_of_words<V: Vocabulary>(alloc: Global, words: &[V]) -> Result<Vec<&str>
 }
 
 // These texts, with single spaces between them.
+#[tactic(auto, using(crate::proofs::QueryLists::join_by_spaced))]
 fn spaced_text(alloc: Global, texts: &[&str]) -> Result<String, AllocError>
     ensures { IfOk result (λ text. string_bytes text ≡ spaced (map (λ t. t.now) texts.now)) }
 {
@@ -174,30 +177,51 @@ impl<'p> QueryPairs<'p> {
     }
 
     // The endpoint with the pairs, however long.
+    #[tactic(auto, using(crate::proofs::QueryLists::append_query_pairs_extended))]
     fn appended(&self, endpoint: &Url) -> Result<Url, AllocError>
         ensures { IfOk result (λ url. url ≡ extended endpoint.now self.now) }
     {
-        let mut url = endpoint.clone()?;
-        if self.pairs.is_empty() {
-            drop_empty_query(&mut url)?;
-            return Ok(url);
-        }
-        match url.append_query_pairs(self.pairs.as_slice()) {
-            Ok(()) => Ok(url),
-            Err(_) => Err(AllocError),
+        let url = endpoint.clone()?;
+        match self.pairs.as_slice() {
+            [] => without_empty_query(url),
+            [_, ..] => with_pairs(url, self.pairs.as_slice()),
         }
     }
 }
 
-// Without a query where that is empty.
-fn drop_empty_query(url: &mut Url) -> Result<(), AllocError>
-    ensures { OnOk result (url.new ≡ extended url.old []) }
+// A URL with pairs appended to its query.
+fn with_pairs(mut url: Url, pairs: &[(&str, &str)]) -> Result<Url, AllocError>
+    ensures { let list = map pair_text pairs.now in
+        IfOk result (λ made. made ≡ append_query_pairs url list) }
 {
-    if url.query() != Some("") {
-        return Ok(());
+    match url.append_query_pairs(pairs) {
+        Ok(()) => Ok(url),
+        Err(_) => Err(AllocError),
+    }
+}
+
+// A URL whose query, where it is empty, is none.
+#[tactic(auto, using(crate::proofs::QueryLists::without_query_extended))]
+fn without_empty_query(mut url: Url) -> Result<Url, AllocError>
+    ensures { IfOk result (λ made. made ≡ extended url []) }
+{
+    if !has_empty_query(&url) {
+        return Ok(url);
     }
     match url.set_query(None) {
-        Ok(()) => Ok(()),
+        Ok(()) => Ok(url),
         Err(_) => Err(AllocError),
+    }
+}
+
+// Whether there is a query, which is empty.
+fn has_empty_query(url: &Url) -> bool
+    ensures empty { IsTrue result → url.now.query ≡ Some [] }
+    ensures other { result ≡ false → extended url.now [] ≡ url.now }
+    ensures valid { IsValid url.now }
+{
+    match url.query() {
+        Some(query) => query.is_empty(),
+        None => false,
     }
 }
