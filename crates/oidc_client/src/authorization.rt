@@ -1,7 +1,7 @@
 //! Authorization requests and their URLs (RFC 6749 section 4.1.1, OpenID Connect Core 1.0 sections 3.1.2.1,
 //! 3.2.2.1 and 3.3.2.1).
 
-ghost use Rattle.std.specs.Prelude.{◌≡◌, ◌≤◌, ◌<◌, ◌∷◌, ◌++◌, [], Some, Err, IfOk, length, codes, map, if◌then◌else◌};
+ghost use Rattle.std.specs.Prelude.{◌≡◌, ◌≤◌, ◌<◌, ◌∷◌, ◌++◌, [], None, Some, Err, IfOk, length, codes, map, if◌then◌else◌};
 ghost use Rattle.std.specs.Duration.{as_nanos};
 ghost use Rattle.std.specs.Option.{option_copied};
 ghost use Rattle.std.specs.String.{string_bytes};
@@ -129,16 +129,16 @@ impl<'a, AD: AuthDisplay, P: AuthPrompt, RT: ResponseType> AuthorizationRequest<
           client_id = parties.entry.client_id.now;
           state = state;
           nonce = nonce;
-          challenge = Option.None;
+          challenge = None;
           redirect_uri = option_copied parties.entry.redirect_uri;
           scopes = scopes.items;
           extra = [];
           acr_values = [];
           claims_locales = [];
-          display = Option.None;
-          id_token_hint = Option.None;
-          login_hint = Option.None;
-          max_age = Option.None;
+          display = None;
+          id_token_hint = None;
+          login_hint = None;
+          max_age = None;
           prompts = [];
           ui_locales = [];
         } }

@@ -28,7 +28,7 @@ use std::marker::{Model, PhantomData};
 
 // The client's own values, and what it knows of its provider beside the endpoints.
 #[derive(Drop)]
-struct Settings<K: JsonWebKey> {
+struct OwnValues<K: JsonWebKey> {
     client_id: ClientId,
     client_secret: Option<ClientSecret>,
     auth_type: AuthType,
@@ -41,7 +41,7 @@ struct Settings<K: JsonWebKey> {
 
 // The endpoints, each where it is set.
 #[derive(Drop)]
-struct Endpoints {
+struct EndpointUrls {
     auth_uri: Option<AuthUrl>,
     device_authorization_url: Option<DeviceAuthorizationUrl>,
     introspection_url: Option<IntrospectionUrl>,
@@ -80,8 +80,8 @@ pub struct Client<
     HasTokenUrl: EndpointState,
     HasUserInfoUrl: EndpointState,
 > {
-    settings: Settings<K>,
-    endpoints: Endpoints,
+    own: OwnValues<K>,
+    endpoints: EndpointUrls,
     answers: PhantomData<(AC, AD, GC, JE, P, TE, TR, TIR, RT, TRE)>,
     states: PhantomData<
         (
@@ -167,14 +167,14 @@ impl<
     ghost Value = { SeenClient K K.SigningAlgorithm };
 
     ghost view = { λ c. record {
-      client_id = c.settings.client_id;
-      client_secret = c.settings.client_secret;
-      auth_type = c.settings.auth_type;
-      redirect_uri = c.settings.redirect_uri;
-      openid_scope = c.settings.openid_scope;
-      issuer = c.settings.issuer;
-      keys = c.settings.jwks;
-      allowed = option_map (λ algs. algs.items) c.settings.allowed_algs;
+      client_id = c.own.client_id;
+      client_secret = c.own.client_secret;
+      auth_type = c.own.auth_type;
+      redirect_uri = c.own.redirect_uri;
+      openid_scope = c.own.openid_scope;
+      issuer = c.own.issuer;
+      keys = c.own.jwks;
+      allowed = option_map (λ algs. algs.items) c.own.allowed_algs;
       auth_uri = c.endpoints.auth_uri;
       device_authorization_url = c.endpoints.device_authorization_url;
       introspection_url = c.endpoints.introspection_url;
@@ -218,7 +218,7 @@ impl<AC, AD, GC, JE, K: JsonWebKey, P, TE, TR, TIR, RT, TRE> Client<
         ensures kept { result ≡ new_client client_id issuer jwks }
     {
         Client {
-            settings: Settings {
+            own: OwnValues {
                 client_id,
                 client_secret: None,
                 auth_type: AuthType::BasicAuth,
@@ -228,7 +228,7 @@ impl<AC, AD, GC, JE, K: JsonWebKey, P, TE, TR, TIR, RT, TRE> Client<
                 jwks,
                 allowed_algs: None,
             },
-            endpoints: Endpoints {
+            endpoints: EndpointUrls {
                 auth_uri: None,
                 device_authorization_url: None,
                 introspection_url: None,
@@ -272,7 +272,7 @@ impl<AC, AD, GC, JE, K: JsonWebKey, P, TE, TR, TIR, RT, TRE> Client<
         ensures kept { result ≡ client_of_provider metadata client_id client_secret }
     {
         Client {
-            settings: Settings {
+            own: OwnValues {
                 client_id,
                 client_secret,
                 auth_type: AuthType::BasicAuth,
@@ -282,7 +282,7 @@ impl<AC, AD, GC, JE, K: JsonWebKey, P, TE, TR, TIR, RT, TRE> Client<
                 jwks: metadata.jwks,
                 allowed_algs: Some(metadata.signing_algorithms),
             },
-            endpoints: Endpoints {
+            endpoints: EndpointUrls {
                 auth_uri: Some(metadata.authorization_endpoint),
                 device_authorization_url: None,
                 introspection_url: None,

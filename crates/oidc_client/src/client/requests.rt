@@ -64,7 +64,7 @@ impl<
             (λ verifier. verifier ≡ verifier_of K.symmetric_of self.now) }
     {
         let verifier = self.verifier_without_list(alloc)?;
-        match &self.settings.allowed_algs {
+        match &self.own.allowed_algs {
             None => Ok(verifier),
             Some(algs) => {
                 let algs = Vec::from_slice(alloc, algs.as_slice())?;
@@ -78,19 +78,19 @@ impl<
         ensures { IfOk result (λ verifier. verifier
             ≡ verifier_of K.symmetric_of (record self.now { allowed = None })) }
     {
-        let settings = &self.settings;
-        match &settings.client_secret {
+        let own = &self.own;
+        match &own.client_secret {
             None => Ok(IdTokenVerifier::new_public_client(
-                &settings.client_id,
-                &settings.issuer,
-                &settings.jwks,
+                &own.client_id,
+                &own.issuer,
+                &own.jwks,
             )),
             Some(secret) => IdTokenVerifier::new_confidential_client(
                 alloc,
-                &settings.client_id,
+                &own.client_id,
                 secret,
-                &settings.issuer,
-                &settings.jwks,
+                &own.issuer,
+                &own.jwks,
             ),
         }
     }
@@ -105,12 +105,12 @@ impl<
         ensures { result ≡ code_request_at self.now code endpoint.now }
     {
         let auth = ClientAuth {
-            client_id: &self.settings.client_id,
-            client_secret: self.settings.client_secret.as_ref(),
-            auth_type: self.settings.auth_type,
+            client_id: &self.own.client_id,
+            client_secret: self.own.client_secret.as_ref(),
+            auth_type: self.own.auth_type,
         };
         let request = CodeTokenRequest::new(alloc, endpoint, auth, code);
-        match &self.settings.redirect_uri {
+        match &self.own.redirect_uri {
             None => request,
             Some(redirect) => request.set_redirect_uri(redirect),
         }
@@ -126,9 +126,9 @@ impl<
         ensures { result ≡ info_request_at self.now access_token expected_subject endpoint.now }
     {
         let verifier = UserInfoVerifier::new(
-            &self.settings.client_id,
-            &self.settings.issuer,
-            &self.settings.jwks,
+            &self.own.client_id,
+            &self.own.issuer,
+            &self.own.jwks,
             expected_subject,
         );
         UserInfoRequest::new(endpoint, access_token, verifier)
@@ -193,14 +193,14 @@ impl<
         ensures rest { IfOk result (λ request. request ≡ new_request self.now request.endpoint
             (seen_flow flow) request.state request.nonce) }
     {
-        let scopes = openid_scopes(alloc, self.settings.openid_scope)?;
+        let scopes = openid_scopes(alloc, self.own.openid_scope)?;
         let state = state_fn();
         let nonce = nonce_fn();
-        let settings = &self.settings;
+        let own = &self.own;
         let parties = Parties {
             endpoint: self.auth_uri(),
-            client_id: &settings.client_id,
-            redirect_uri: settings.redirect_uri.as_ref(),
+            client_id: &own.client_id,
+            redirect_uri: own.redirect_uri.as_ref(),
         };
         Ok(AuthorizationRequest::new(alloc, parties, flow, state, nonce, scopes))
     }

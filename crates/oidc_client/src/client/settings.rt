@@ -53,7 +53,7 @@ impl<
     pub fn set_auth_type(mut self, auth_type: AuthType) -> Self
         ensures set { result ≡ record self { auth_type = auth_type } }
     {
-        self.settings.auth_type = auth_type;
+        self.own.auth_type = auth_type;
         self
     }
 
@@ -61,21 +61,21 @@ impl<
     pub fn auth_type(&self) -> &AuthType
         ensures auth_type { result.now ≡ self.now.auth_type }
     {
-        &self.settings.auth_type
+        &self.own.auth_type
     }
 
     /// The client ID.
     pub fn client_id(&self) -> &ClientId
         ensures id { result.now ≡ self.now.client_id }
     {
-        &self.settings.client_id
+        &self.own.client_id
     }
 
     /// As a confidential client with this secret.
     pub fn set_client_secret(mut self, secret: ClientSecret) -> Self
         ensures set { result ≡ record self { client_secret = Some secret } }
     {
-        self.settings.client_secret = Some(secret);
+        self.own.client_secret = Some(secret);
         self
     }
 
@@ -83,14 +83,14 @@ impl<
     pub fn client_secret(&self) -> Option<&ClientSecret>
         ensures secret { option_copied result ≡ self.now.client_secret }
     {
-        self.settings.client_secret.as_ref()
+        self.own.client_secret.as_ref()
     }
 
     /// With this redirect of its authorization requests (RFC 6749 section 3.1.2).
     pub fn set_redirect_uri(mut self, redirect: RedirectUrl) -> Self
         ensures set { result ≡ record self { redirect_uri = Some redirect } }
     {
-        self.settings.redirect_uri = Some(redirect);
+        self.own.redirect_uri = Some(redirect);
         self
     }
 
@@ -98,14 +98,14 @@ impl<
     pub fn redirect_uri(&self) -> Option<&RedirectUrl>
         ensures redirect { option_copied result ≡ self.now.redirect_uri }
     {
-        self.settings.redirect_uri.as_ref()
+        self.own.redirect_uri.as_ref()
     }
 
     /// Its requests ask for the scope `openid`, as at first (OpenID Connect Core 1.0 section 3.1.2.1).
     pub fn enable_openid_scope(mut self) -> Self
         ensures set { result ≡ record self { openid_scope = true } }
     {
-        self.settings.openid_scope = true;
+        self.own.openid_scope = true;
         self
     }
 
@@ -113,7 +113,7 @@ impl<
     pub fn disable_openid_scope(mut self) -> Self
         ensures set { result ≡ record self { openid_scope = false } }
     {
-        self.settings.openid_scope = false;
+        self.own.openid_scope = false;
         self
     }
 
@@ -159,7 +159,7 @@ impl<
         let mut endpoints = self.endpoints;
         endpoints.auth_uri = Some(url);
         Client {
-            settings: self.settings,
+            own: self.own,
             endpoints,
             answers: PhantomData,
             states: PhantomData,
@@ -194,7 +194,7 @@ impl<
         let mut endpoints = self.endpoints;
         endpoints.device_authorization_url = Some(url);
         Client {
-            settings: self.settings,
+            own: self.own,
             endpoints,
             answers: PhantomData,
             states: PhantomData,
@@ -229,7 +229,7 @@ impl<
         let mut endpoints = self.endpoints;
         endpoints.introspection_url = Some(url);
         Client {
-            settings: self.settings,
+            own: self.own,
             endpoints,
             answers: PhantomData,
             states: PhantomData,
@@ -264,7 +264,7 @@ impl<
         let mut endpoints = self.endpoints;
         endpoints.revocation_url = Some(url);
         Client {
-            settings: self.settings,
+            own: self.own,
             endpoints,
             answers: PhantomData,
             states: PhantomData,
@@ -299,7 +299,7 @@ impl<
         let mut endpoints = self.endpoints;
         endpoints.token_uri = Some(url);
         Client {
-            settings: self.settings,
+            own: self.own,
             endpoints,
             answers: PhantomData,
             states: PhantomData,
@@ -334,7 +334,7 @@ impl<
         let mut endpoints = self.endpoints;
         endpoints.user_info_url = Some(url);
         Client {
-            settings: self.settings,
+            own: self.own,
             endpoints,
             answers: PhantomData,
             states: PhantomData,
