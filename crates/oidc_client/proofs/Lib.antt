@@ -1,0 +1,2 @@
+mod QueryValues
+mod StandOnce

@@ -1,11 +1,15 @@
 -- Texts in a row, and pairs after the query of a URL.
-use Rattle.std.proofs.Common.{◌≡◌, ℕ, ◌<◌, length, List, [], ◌∷◌, ◌++◌, map, None, Some, refl, sym, ap, ◌∙◌, arith}
+use Rattle.std.proofs.Common.{◌≡◌, ℕ, ◌<◌, length, All, List, [], ◌∷◌, ◌++◌, map, None, Some, refl, sym, ap, ◌∙◌, arith}
 use Rattle.std.specs.Prelude.{unwrap_or, codes}
+use Rattle.std.specs.Borrow.{Bor}
 use Rattle.std.specs.List.{join_by, flat_map}
-use Rattle.form_urlencoded.specs.Form.{extend_pairs}
+use Rattle.std.proofs.lemmas.List.{map-append}
+use Rattle.std.proofs.lemmas.List.Elements.{All-nil, All-cons, All-append}
+use Rattle.form_urlencoded.specs.Form.{extend_pairs, pair_text}
 use Rattle.url.specs.Parts.{Parts, IsValid}
 use Rattle.url.specs.Setters.{append_query_pairs, set_query}
 use Rattle.url.proofs.ValidLemmas.{with_own_tail}
+use Rattle.oidc_pairs.specs.Pairs.{IsTextPair}
 use Rattle.oidc_pairs.specs.Form.{form}
 use Rattle.oidc_pairs.proofs.Theorems.{extend_pairs-on_empty, extend_pairs-after_text}
 use Rattle.oidc_user_info.specs.Urls.{spaced, joined, kept_query, extended}
@@ -37,3 +41,11 @@ pub without_query_extended : (url : Parts) → IsValid url → url.query ≡ Som
 without_query_extended url valid empty =
     ap (λ (u : Parts). record u { query = None }) (with_own_tail url valid)
     ∙ ap (λ query. record url { query = kept_query query }) (sym empty)
+
+-- a list of texts with one pair more
+pub grown_texts : (pairs : List (Bor (List ℕ) × Bor (List ℕ))) (pair : Bor (List ℕ) × Bor (List ℕ))
+    → All IsTextPair (map pair_text pairs) → IsTextPair (pair_text pair) → All IsTextPair (map pair_text (pairs ++ pair ∷ []))
+grown_texts pairs pair were is =
+    rw (map-append pair_text pairs (pair ∷ []))
+    (All-append IsTextPair (map pair_text pairs) (pair_text pair ∷ []) were
+    (All-cons IsTextPair (pair_text pair) [] is (All-nil IsTextPair)))

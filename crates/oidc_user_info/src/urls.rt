@@ -1,12 +1,13 @@
 //! URLs with pairs after their query, to which a site sends its users: the authorization endpoint's (RFC 6749
 //! section 3.1) and the logout endpoint's.
 
-ghost use Rattle.std.specs.Prelude.{◌≡◌, ◌∷◌, ◌++◌, [], false, Some, IfOk, IsTrue, OnOk, OnErr, map, option_map};
+ghost use Rattle.std.specs.Prelude.{◌≡◌, ◌∷◌, ◌++◌, [], false, Some, All, IfOk, IsTrue, OnOk, OnErr, map, option_map};
 ghost use Rattle.std.specs.Option.{option_copied};
 ghost use Rattle.std.specs.String.{string_bytes};
 ghost use Rattle.form_urlencoded.specs.Form.{pair_text};
 ghost use Rattle.url.specs.Parts.{IsValid};
 ghost use Rattle.url.specs.Setters.{append_query_pairs};
+ghost use Rattle.oidc_pairs.specs.Pairs.{IsTextPair};
 ghost use Rattle.oidc_oauth2.specs.ClientAuth.{pair_if};
 ghost use Rattle.oidc_user_info.specs.Urls.{spaced, spaced_if, extended, Builds};
 
@@ -126,12 +127,15 @@ pub struct QueryPairs<'p> {
 }
 
 impl<'p> Model for QueryPairs<'p> {
-    ghost use Rattle.std.specs.Prelude.{List, ℕ, map};
+    ghost use Rattle.std.specs.Prelude.{All, List, ℕ, map};
     ghost use Rattle.form_urlencoded.specs.Form.{pair_text};
+    ghost use Rattle.oidc_pairs.specs.Pairs.{IsTextPair};
 
     ghost Value = { List (List ℕ × List ℕ) };
 
     ghost view = { λ p. map pair_text p.pairs.items };
+
+    ghost invariant = { λ p. All IsTextPair (map pair_text p.pairs.items) };
 }
 
 impl<'p> QueryPairs<'p> {
@@ -168,6 +172,7 @@ impl<'p> QueryPairs<'p> {
     /// bytes. A URL that is too long for its record is `Memory`.
     pub fn extend(&self, endpoint: &Url) -> Result<Url, BuildUrlError>
         ensures url { Builds result (extended endpoint.now self.now) }
+        ensures texts { All IsTextPair self.now }
     {
         let url = self.appended(endpoint)?;
         if url.as_str().len() > MAX_URL {

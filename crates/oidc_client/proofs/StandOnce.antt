@@ -1,0 +1,125 @@
+-- State, nonce and redirect stand in an authorization URL once each.
+use Rattle.std.proofs.Common.{◌≡◌, ℕ, List, [], ◌∷◌, ◌++◌, All, Option, None, Some, refl, sym, ap, ◌∙◌, append-nil, lit<}
+use Rattle.std.specs.Prelude.{codes, decimal, map, unwrap_or, option_map}
+use Rattle.oidc_pairs.specs.Pairs.{pairs, values_in, IsTextPair}
+use Rattle.oidc_oauth2.specs.ClientAuth.{pair_if}
+use Rattle.oidc_oauth2.specs.TokenResponse.{whole_seconds}
+use Rattle.oidc_user_info.specs.Urls.{spaced, spaced_if}
+use Rattle.oidc_client.specs.Authorization.{SeenAuthorization, text_if, managed_names, pairs_before_extra, pairs_after_extra, auth_list, auth_url, query_values, at_most_one, IsUnmanagedBeside, StandOnce}
+use Rattle.oidc_client.proofs.QueryValues.{pairs_joined, values_in_append, pass_by, one_here, optional_pairs, none_among}
+
+-- what holds of each managed name holds of these three
+third : (P : List ℕ → Type 0) → All P managed_names → P (codes "state")
+third P all = all 2 [] (lit< tt)
+
+sixth : (P : List ℕ → Type 0) → All P managed_names → P (codes "redirect_uri")
+sixth P all = all 5 [] (lit< tt)
+
+eighth : (P : List ℕ → Type 0) → All P managed_names → P (codes "nonce")
+eighth P all = all 7 [] (lit< tt)
+
+module _ {Display Prompt ResponseType : Type 0} (display_text : Display → List ℕ) (prompt_text : Prompt → List ℕ)
+    (type_text : ResponseType → List ℕ) (r : SeenAuthorization Display Prompt ResponseType) where
+  abbrev before : List (List ℕ × List ℕ)
+  before = pairs_before_extra display_text prompt_text type_text r
+
+  abbrev after : List (List ℕ × List ℕ)
+  after = pairs_after_extra display_text prompt_text type_text r
+
+  abbrev list : List (List ℕ × List ℕ)
+  list = auth_list display_text prompt_text type_text r
+
+  -- the values of a name are those of the endpoint's query, and of the three lists
+  values_of : All IsTextPair list → (name : List ℕ)
+      → query_values (auth_url display_text prompt_text type_text r) name
+      ≡ query_values r.endpoint.url name ++ (values_in before name ++ (values_in r.extra name ++ values_in after name))
+  unfolding auth_list
+  values_of texts name =
+      ap (λ found. values_in found name) (pairs_joined (unwrap_or r.endpoint.url.query []) list texts)
+      ∙ values_in_append (pairs (unwrap_or r.endpoint.url.query [])) list name
+      ∙ ap (λ later. query_values r.endpoint.url name ++ later)
+      (values_in_append before (r.extra ++ after) name
+      ∙ ap (λ later. values_in before name ++ later) (values_in_append r.extra after name))
+
+  -- a name that neither the query nor the added pairs have
+  own_values : All IsTextPair list → (name : List ℕ) → query_values r.endpoint.url name ≡ [] → values_in r.extra name ≡ []
+      → query_values (auth_url display_text prompt_text type_text r) name ≡ values_in before name ++ values_in after name
+  own_values texts name query extra =
+      values_of texts name
+      ∙ ap (λ front. front ++ (values_in before name ++ (values_in r.extra name ++ values_in after name))) query
+      ∙ ap (λ middle. values_in before name ++ (middle ++ values_in after name)) extra
+
+  -- ---- the three names
+
+  abbrev redirect : Option (List ℕ)
+  redirect = option_map (λ u. u.text) r.redirect_uri
+
+  abbrev scope : List (List ℕ × Option (List ℕ))
+  scope = (codes "scope", text_if (spaced r.scopes)) ∷ []
+
+  abbrev settings : List (List ℕ × Option (List ℕ))
+  settings =
+      (codes "acr_values", spaced_if r.acr_values)
+      ∷ (codes "claims_locales", spaced_if r.claims_locales)
+      ∷ (codes "display", option_map display_text r.display)
+      ∷ (codes "id_token_hint", r.id_token_hint)
+      ∷ (codes "login_hint", r.login_hint)
+      ∷ (codes "max_age", option_map (λ age. decimal (whole_seconds age)) r.max_age)
+      ∷ (codes "prompt", spaced_if (map prompt_text r.prompts))
+      ∷ (codes "ui_locales", spaced_if r.ui_locales)
+      ∷ []
+
+  abbrev before_scope : List (List ℕ × Option (List ℕ))
+  before_scope =
+      (codes "code_challenge", r.challenge)
+      ∷ (codes "code_challenge_method", option_map (λ challenge. codes "S256") r.challenge)
+      ∷ (codes "redirect_uri", redirect)
+      ∷ (codes "scope", text_if (spaced r.scopes))
+      ∷ []
+
+  state_before : values_in before (codes "state") ≡ r.state ∷ []
+  state_before =
+      ap (λ later. r.state ∷ later) (none_among (codes "state") before_scope (refl, (refl, (refl, (refl, tt)))))
+
+  nonce_before : values_in before (codes "nonce") ≡ []
+  nonce_before = none_among (codes "nonce") before_scope (refl, (refl, (refl, (refl, tt))))
+
+  redirect_before : values_in before (codes "redirect_uri") ≡ at_most_one redirect
+  redirect_before =
+      let name = codes "redirect_uri" in
+      let method = option_map (λ challenge. codes "S256") r.challenge in
+      let from_redirect = pair_if name redirect ++ optional_pairs scope in
+      pass_by name (codes "code_challenge") r.challenge (pair_if (codes "code_challenge_method") method ++ from_redirect) refl
+      ∙ pass_by name (codes "code_challenge_method") method from_redirect refl
+      ∙ one_here name name redirect (optional_pairs scope) refl (none_among name scope (refl, tt))
+
+  state_after : values_in after (codes "state") ≡ []
+  state_after =
+      none_among (codes "state") settings (refl, (refl, (refl, (refl, (refl, (refl, (refl, (refl, tt))))))))
+
+  nonce_after : values_in after (codes "nonce") ≡ r.nonce ∷ []
+  nonce_after =
+      ap (λ later. r.nonce ∷ later)
+      (none_among (codes "nonce") settings (refl, (refl, (refl, (refl, (refl, (refl, (refl, (refl, tt)))))))))
+
+  redirect_after : values_in after (codes "redirect_uri") ≡ []
+  redirect_after =
+      none_among (codes "redirect_uri") settings (refl, (refl, (refl, (refl, (refl, (refl, (refl, (refl, tt))))))))
+
+  -- ---- the law
+
+  abbrev Unmanaged : List ℕ → Type 0
+  Unmanaged name = (query_values r.endpoint.url name ≡ []) × (values_in r.extra name ≡ [])
+
+  module _ (texts : All IsTextPair list) (unmanaged : IsUnmanagedBeside r) where
+    one_of : (name : List ℕ) (values : List (List ℕ)) → Unmanaged name → values_in before name ++ values_in after name ≡ values
+        → query_values (auth_url display_text prompt_text type_text r) name ≡ values
+    one_of name values none own = own_values texts name none.0 none.1 ∙ own
+
+    pub stand_once : StandOnce r (auth_url display_text prompt_text type_text r)
+    stand_once = record {
+      state = one_of (codes "state") (r.state ∷ []) (third _ unmanaged.query, third _ unmanaged.extra) (ap (λ front. front ++ values_in after (codes "state")) state_before ∙ ap (λ later. r.state ∷ later) state_after);
+      nonce = one_of (codes "nonce") (r.nonce ∷ []) (eighth _ unmanaged.query, eighth _ unmanaged.extra) (ap (λ front. front ++ values_in after (codes "nonce")) nonce_before ∙ nonce_after);
+      redirect_uri = one_of (codes "redirect_uri") (at_most_one redirect) (sixth _ unmanaged.query, sixth _ unmanaged.extra)
+          (ap (λ front. front ++ values_in after (codes "redirect_uri")) redirect_before ∙ ap (λ later. at_most_one redirect ++ later) redirect_after ∙ append-nil (at_most_one redirect));
+    }
