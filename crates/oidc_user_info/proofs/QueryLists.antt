@@ -1,5 +1,5 @@
 -- Texts in a row, and pairs after the query of a URL.
-use Rattle.std.proofs.Common.{◌≡◌, ℕ, ◌<◌, length, All, List, [], ◌∷◌, ◌++◌, map, None, Some, refl, sym, ap, ◌∙◌, arith}
+use Rattle.std.proofs.Common.{◌≡◌, ℕ, ◌<◌, length, All, List, [], ◌∷◌, ◌++◌, map, None, Some, refl, sym, ap, ◌∙◌, subst, arith}
 use Rattle.std.specs.Prelude.{unwrap_or, codes}
 use Rattle.std.specs.Borrow.{Bor}
 use Rattle.std.specs.List.{join_by, flat_map}
@@ -42,10 +42,17 @@ without_query_extended url valid empty =
     ap (λ (u : Parts). record u { query = None }) (with_own_tail url valid)
     ∙ ap (λ query. record url { query = kept_query query }) (sym empty)
 
--- a list of texts with one pair more
-pub grown_texts : (pairs : List (Bor (List ℕ) × Bor (List ℕ))) (pair : Bor (List ℕ) × Bor (List ℕ))
-    → All IsTextPair (map pair_text pairs) → IsTextPair (pair_text pair) → All IsTextPair (map pair_text (pairs ++ pair ∷ []))
-grown_texts pairs pair were is =
-    rw (map-append pair_text pairs (pair ∷ []))
-    (All-append IsTextPair (map pair_text pairs) (pair_text pair ∷ []) were
+abbrev Texts : List (Bor (List ℕ) × Bor (List ℕ)) → Type 0
+Texts pairs = All IsTextPair (map pair_text pairs)
+
+-- the same pairs
+pub kept_texts : (old new : List (Bor (List ℕ) × Bor (List ℕ))) → new ≡ old → Texts old → Texts new
+kept_texts old new same were = subst Texts (sym same) were
+
+-- one pair more
+pub more_texts : (old new : List (Bor (List ℕ) × Bor (List ℕ))) (pair : Bor (List ℕ) × Bor (List ℕ))
+    → new ≡ old ++ pair ∷ [] → Texts old → IsTextPair (pair_text pair) → Texts new
+more_texts old new pair grown were is =
+    subst (All IsTextPair) (sym (ap (map pair_text) grown ∙ map-append pair_text old (pair ∷ [])))
+    (All-append IsTextPair (map pair_text old) (pair_text pair ∷ []) were
     (All-cons IsTextPair (pair_text pair) [] is (All-nil IsTextPair)))

@@ -181,15 +181,25 @@ impl<'p> QueryPairs<'p> {
         Ok(url)
     }
 
+    // The pairs, which are texts.
+    fn as_slice(&self) -> &[(&'p str, &'p str)]
+        ensures pairs { map pair_text result.now ≡ self.now }
+        ensures texts { All IsTextPair self.now }
+    {
+        self.pairs.as_slice()
+    }
+
     // The endpoint with the pairs, however long.
     #[tactic(auto, using(crate::proofs::QueryLists::append_query_pairs_extended))]
     fn appended(&self, endpoint: &Url) -> Result<Url, AllocError>
-        ensures { IfOk result (λ url. url ≡ extended endpoint.now self.now) }
+        ensures url { IfOk result (λ url. url ≡ extended endpoint.now self.now) }
+        ensures texts { All IsTextPair self.now }
     {
+        let pairs = self.as_slice();
         let url = endpoint.clone()?;
-        match self.pairs.as_slice() {
+        match pairs {
             [] => without_empty_query(url),
-            [_, ..] => with_pairs(url, self.pairs.as_slice()),
+            [_, ..] => with_pairs(url, pairs),
         }
     }
 }

@@ -80,11 +80,7 @@ impl<
     {
         let own = &self.own;
         match &own.client_secret {
-            None => Ok(IdTokenVerifier::new_public_client(
-                &own.client_id,
-                &own.issuer,
-                &own.jwks,
-            )),
+            None => Ok(IdTokenVerifier::new_public_client(&own.client_id, &own.issuer, &own.jwks)),
             Some(secret) => IdTokenVerifier::new_confidential_client(
                 alloc,
                 &own.client_id,
