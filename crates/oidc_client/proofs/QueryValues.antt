@@ -11,7 +11,7 @@ use Rattle.oidc_pairs.specs.Pairs.{pairs, text_of, is_named, values_in, IsTextPa
 use Rattle.oidc_pairs.specs.Form.{form}
 use Rattle.oidc_pairs.proofs.Theorems.{pairs-form}
 use Rattle.oidc_oauth2.specs.ClientAuth.{pair_if}
-use Rattle.oidc_user_info.specs.Urls.{joined}
+use Rattle.oidc_user_info.specs.Urls.{joined, given_pairs}
 use Rattle.oidc_client.specs.Authorization.{at_most_one}
 
 -- ---- pieces
@@ -92,23 +92,12 @@ one_here name given None rest same none = none
 one_here name given (Some value) rest same none =
     ap (map (λ p. p.1)) (cond-true _ _ _ same) ∙ ap (λ later. value ∷ later) none
 
--- pairs, each of them where there is a value
-abbrev pub optional_pairs : List (List ℕ × Option (List ℕ)) → List (List ℕ × List ℕ)
-optional_pairs [] = []
-optional_pairs (o ∷ []) = pair_if o.0 o.1
-optional_pairs (o ∷ next ∷ later) = pair_if o.0 o.1 ++ optional_pairs (next ∷ later)
-
+-- none of the names is this one
 abbrev pub AllOthers : List ℕ → List (List ℕ × Option (List ℕ)) → Type 0
 AllOthers name [] = Unit {0}
-AllOthers name (o ∷ later) = (bytes_eq o.0 name ≡ false) × AllOthers name later
+AllOthers name (given ∷ later) = (bytes_eq given.0 name ≡ false) × AllOthers name later
 
-last_other : (name given : List ℕ) (value : Option (List ℕ)) → bytes_eq given name ≡ false → values_in (pair_if given value) name ≡ []
-last_other name given None other = refl
-last_other name given (Some value) other = ap (map (λ p. p.1)) (cond-false _ _ _ other)
-
--- none of them has this name
-pub none_among : (name : List ℕ) (of : List (List ℕ × Option (List ℕ))) → AllOthers name of → values_in (optional_pairs of) name ≡ []
+pub none_among : (name : List ℕ) (list : List (List ℕ × Option (List ℕ))) → AllOthers name list → values_in (given_pairs list) name ≡ []
 none_among name [] others = refl
-none_among name (o ∷ []) others = last_other name o.0 o.1 others.0
-none_among name (o ∷ next ∷ later) others =
-    pass_by name o.0 o.1 (optional_pairs (next ∷ later)) others.0 ∙ none_among name (next ∷ later) others.1
+none_among name (given ∷ later) others =
+    pass_by name given.0 given.1 (given_pairs later) others.0 ∙ none_among name later others.1

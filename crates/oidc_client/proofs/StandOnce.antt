@@ -1,12 +1,11 @@
 -- State, nonce and redirect stand in an authorization URL once each.
 use Rattle.std.proofs.Common.{◌≡◌, ℕ, List, [], ◌∷◌, ◌++◌, All, Option, None, Some, refl, sym, ap, ◌∙◌, append-nil, lit<}
-use Rattle.std.specs.Prelude.{codes, decimal, map, unwrap_or, option_map}
+use Rattle.std.specs.Prelude.{codes, unwrap_or, option_map}
 use Rattle.oidc_pairs.specs.Pairs.{pairs, values_in, IsTextPair}
 use Rattle.oidc_oauth2.specs.ClientAuth.{pair_if}
-use Rattle.oidc_oauth2.specs.TokenResponse.{whole_seconds}
-use Rattle.oidc_user_info.specs.Urls.{spaced, spaced_if}
-use Rattle.oidc_client.specs.Authorization.{SeenAuthorization, text_if, managed_names, pairs_before_extra, pairs_after_extra, auth_list, auth_url, query_values, at_most_one, IsUnmanagedBeside, StandOnce}
-use Rattle.oidc_client.proofs.QueryValues.{pairs_joined, values_in_append, pass_by, one_here, optional_pairs, none_among}
+use Rattle.oidc_user_info.specs.Urls.{given_pairs, spaced}
+use Rattle.oidc_client.specs.Authorization.{SeenAuthorization, text_if, managed_names, given_before_extra, given_after_extra, pairs_before_extra, pairs_after_extra, auth_list, auth_url, query_values, at_most_one, IsUnmanagedBeside, StandOnce}
+use Rattle.oidc_client.proofs.QueryValues.{pairs_joined, values_in_append, pass_by, one_here, none_among}
 
 -- what holds of each managed name holds of these three
 third : (P : List ℕ → Type 0) → All P managed_names → P (codes "state")
@@ -54,57 +53,41 @@ module _ {Display Prompt ResponseType : Type 0} (display_text : Display → List
   abbrev redirect : Option (List ℕ)
   redirect = option_map (λ u. u.text) r.redirect_uri
 
-  abbrev scope : List (List ℕ × Option (List ℕ))
-  scope = (codes "scope", text_if (spaced r.scopes)) ∷ []
+  abbrev given_before : List (List ℕ × Option (List ℕ))
+  given_before = given_before_extra display_text prompt_text type_text r
 
-  abbrev settings : List (List ℕ × Option (List ℕ))
-  settings =
-      (codes "acr_values", spaced_if r.acr_values)
-      ∷ (codes "claims_locales", spaced_if r.claims_locales)
-      ∷ (codes "display", option_map display_text r.display)
-      ∷ (codes "id_token_hint", r.id_token_hint)
-      ∷ (codes "login_hint", r.login_hint)
-      ∷ (codes "max_age", option_map (λ age. decimal (whole_seconds age)) r.max_age)
-      ∷ (codes "prompt", spaced_if (map prompt_text r.prompts))
-      ∷ (codes "ui_locales", spaced_if r.ui_locales)
-      ∷ []
-
-  abbrev before_scope : List (List ℕ × Option (List ℕ))
-  before_scope =
-      (codes "code_challenge", r.challenge)
-      ∷ (codes "code_challenge_method", option_map (λ challenge. codes "S256") r.challenge)
-      ∷ (codes "redirect_uri", redirect)
-      ∷ (codes "scope", text_if (spaced r.scopes))
-      ∷ []
+  abbrev given_after : List (List ℕ × Option (List ℕ))
+  given_after = given_after_extra display_text prompt_text type_text r
 
   state_before : values_in before (codes "state") ≡ r.state ∷ []
   state_before =
-      ap (λ later. r.state ∷ later) (none_among (codes "state") before_scope (refl, (refl, (refl, (refl, tt)))))
+      ap (λ later. r.state ∷ later) (none_among (codes "state") given_before (refl, (refl, (refl, (refl, tt)))))
 
   nonce_before : values_in before (codes "nonce") ≡ []
-  nonce_before = none_among (codes "nonce") before_scope (refl, (refl, (refl, (refl, tt))))
+  nonce_before = none_among (codes "nonce") given_before (refl, (refl, (refl, (refl, tt))))
 
   redirect_before : values_in before (codes "redirect_uri") ≡ at_most_one redirect
   redirect_before =
       let name = codes "redirect_uri" in
       let method = option_map (λ challenge. codes "S256") r.challenge in
-      let from_redirect = pair_if name redirect ++ optional_pairs scope in
+      let scope : List (List ℕ × Option (List ℕ)) = (codes "scope", text_if (spaced r.scopes)) ∷ [] in
+      let from_redirect = pair_if name redirect ++ given_pairs scope in
       pass_by name (codes "code_challenge") r.challenge (pair_if (codes "code_challenge_method") method ++ from_redirect) refl
       ∙ pass_by name (codes "code_challenge_method") method from_redirect refl
-      ∙ one_here name name redirect (optional_pairs scope) refl (none_among name scope (refl, tt))
+      ∙ one_here name name redirect (given_pairs scope) refl (none_among name scope (refl, tt))
 
   state_after : values_in after (codes "state") ≡ []
   state_after =
-      none_among (codes "state") settings (refl, (refl, (refl, (refl, (refl, (refl, (refl, (refl, tt))))))))
+      none_among (codes "state") given_after (refl, (refl, (refl, (refl, (refl, (refl, (refl, (refl, tt))))))))
 
   nonce_after : values_in after (codes "nonce") ≡ r.nonce ∷ []
   nonce_after =
       ap (λ later. r.nonce ∷ later)
-      (none_among (codes "nonce") settings (refl, (refl, (refl, (refl, (refl, (refl, (refl, (refl, tt)))))))))
+      (none_among (codes "nonce") given_after (refl, (refl, (refl, (refl, (refl, (refl, (refl, (refl, tt)))))))))
 
   redirect_after : values_in after (codes "redirect_uri") ≡ []
   redirect_after =
-      none_among (codes "redirect_uri") settings (refl, (refl, (refl, (refl, (refl, (refl, (refl, (refl, tt))))))))
+      none_among (codes "redirect_uri") given_after (refl, (refl, (refl, (refl, (refl, (refl, (refl, (refl, tt))))))))
 
   -- ---- the law
 

@@ -5,9 +5,8 @@ use Rattle.std.specs.Prelude.{◌≡◌, ℕ, List, [], ◌∷◌, ◌++◌, map
 use Rattle.url.specs.Parts.{Parts}
 use Rattle.oidc_pairs.specs.Pairs.{values, values_in}
 use Rattle.oidc_types.specs.{TextAndUrl}
-use Rattle.oidc_oauth2.specs.ClientAuth.{pair_if}
 use Rattle.oidc_oauth2.specs.TokenResponse.{whole_seconds}
-use Rattle.oidc_user_info.specs.Urls.{spaced, spaced_if, extended}
+use Rattle.oidc_user_info.specs.Urls.{given_pairs, spaced, spaced_if, extended}
 use Rattle.oidc_client.specs.Client.{SeenClient}
 use Rattle.oidc_client.specs.declared.authorization.AuthenticationFlow.{AuthenticationFlow}
 use Rattle.oidc_client.specs.declared.authorization.AuthenticationFlow.TheVariants as flow
@@ -89,29 +88,37 @@ text_if (b ∷ text) = Some (b ∷ text)
 
 module _ {Display Prompt ResponseType : Type 0} (display_text : Display → List ℕ) (prompt_text : Prompt → List ℕ)
     (type_text : ResponseType → List ℕ) where
-  -- the pairs before those that a caller adds
+  -- the names before the pairs that a caller adds whose value may be absent
+  abbrev pub given_before_extra : SeenAuthorization Display Prompt ResponseType → List (List ℕ × Option (List ℕ))
+  given_before_extra r =
+      (codes "code_challenge", r.challenge)
+      ∷ (codes "code_challenge_method", option_map (λ challenge. codes "S256") r.challenge)
+      ∷ (codes "redirect_uri", option_map (λ u. u.text) r.redirect_uri)
+      ∷ (codes "scope", text_if (spaced r.scopes))
+      ∷ []
+
+  -- those behind them
+  abbrev pub given_after_extra : SeenAuthorization Display Prompt ResponseType → List (List ℕ × Option (List ℕ))
+  given_after_extra r =
+      (codes "acr_values", spaced_if r.acr_values)
+      ∷ (codes "claims_locales", spaced_if r.claims_locales)
+      ∷ (codes "display", option_map display_text r.display)
+      ∷ (codes "id_token_hint", r.id_token_hint)
+      ∷ (codes "login_hint", r.login_hint)
+      ∷ (codes "max_age", option_map (λ age. decimal (whole_seconds age)) r.max_age)
+      ∷ (codes "prompt", spaced_if (map prompt_text r.prompts))
+      ∷ (codes "ui_locales", spaced_if r.ui_locales)
+      ∷ []
+
   abbrev pub pairs_before_extra : SeenAuthorization Display Prompt ResponseType → List (List ℕ × List ℕ)
   pairs_before_extra r =
       (codes "response_type", response_type_of type_text r.flow)
       ∷ (codes "client_id", r.client_id)
       ∷ (codes "state", r.state)
-      ∷ pair_if (codes "code_challenge") r.challenge
-      ++ pair_if (codes "code_challenge_method") (option_map (λ challenge. codes "S256") r.challenge)
-      ++ pair_if (codes "redirect_uri") (option_map (λ u. u.text) r.redirect_uri)
-      ++ pair_if (codes "scope") (text_if (spaced r.scopes))
+      ∷ given_pairs (given_before_extra r)
 
-  -- the pairs behind them
   abbrev pub pairs_after_extra : SeenAuthorization Display Prompt ResponseType → List (List ℕ × List ℕ)
-  pairs_after_extra r =
-      (codes "nonce", r.nonce)
-      ∷ pair_if (codes "acr_values") (spaced_if r.acr_values)
-      ++ pair_if (codes "claims_locales") (spaced_if r.claims_locales)
-      ++ pair_if (codes "display") (option_map display_text r.display)
-      ++ pair_if (codes "id_token_hint") r.id_token_hint
-      ++ pair_if (codes "login_hint") r.login_hint
-      ++ pair_if (codes "max_age") (option_map (λ age. decimal (whole_seconds age)) r.max_age)
-      ++ pair_if (codes "prompt") (spaced_if (map prompt_text r.prompts))
-      ++ pair_if (codes "ui_locales") (spaced_if r.ui_locales)
+  pairs_after_extra r = (codes "nonce", r.nonce) ∷ given_pairs (given_after_extra r)
 
   -- all pairs, in their order
   unfoldable pub auth_list : SeenAuthorization Display Prompt ResponseType → List (List ℕ × List ℕ)

@@ -1,8 +1,11 @@
 -- URLs with pairs after their query (RFC 6749 section 3.1, OpenID Connect RP-Initiated Logout 1.0 section 2).
 use Rattle.std.specs.Prelude.{◌≡◌, ℕ, ◌<◌, ◌≤◌, List, [], ◌∷◌, ◌++◌, length, Option, None, Some, unwrap_or, Result, Ok, Err, codes}
-use Rattle.std.specs.List.{join_by}
+use Rattle.std.specs.Borrow.{Bor}
+use Rattle.std.specs.List.{join_by, flat_map}
+use Rattle.std.specs.Option.{option_copied}
 use Rattle.url.specs.Parts.{Parts, serialize}
 use Rattle.oidc_pairs.specs.Form.{form}
+use Rattle.oidc_oauth2.specs.ClientAuth.{pair_if}
 use Rattle.oidc_user_info.specs.declared.urls.BuildUrlError.{BuildUrlError}
 use Rattle.oidc_user_info.specs.declared.urls.BuildUrlError.TheVariants.{TooLong, Memory}
 
@@ -16,6 +19,14 @@ spaced texts = join_by (λ text. text) (codes " ") texts
 abbrev pub spaced_if : List (List ℕ) → Option (List ℕ)
 spaced_if [] = None
 spaced_if (text ∷ later) = Some (spaced (text ∷ later))
+
+-- what a name and a value that may be absent say
+abbrev pub named_value : Bor (List ℕ) × Option (Bor (List ℕ)) → List ℕ × Option (List ℕ)
+named_value given = (given.0.now, option_copied given.1)
+
+-- a pair for each name that has a value, in their order
+abbrev pub given_pairs : List (List ℕ × Option (List ℕ)) → List (List ℕ × List ℕ)
+given_pairs list = flat_map (λ given. pair_if given.0 given.1) list
 
 -- ---- the URL
 

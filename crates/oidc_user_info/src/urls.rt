@@ -9,7 +9,7 @@ ghost use Rattle.url.specs.Parts.{IsValid};
 ghost use Rattle.url.specs.Setters.{append_query_pairs};
 ghost use Rattle.oidc_pairs.specs.Pairs.{IsTextPair};
 ghost use Rattle.oidc_oauth2.specs.ClientAuth.{pair_if};
-ghost use Rattle.oidc_user_info.specs.Urls.{spaced, spaced_if, extended, Builds};
+ghost use Rattle.oidc_user_info.specs.Urls.{given_pairs, named_value, spaced, spaced_if, extended, Builds};
 
 use oidc_types::{Marker, Text, Vocabulary};
 use std::alloc::{AllocError, Global};
@@ -157,10 +157,19 @@ impl<'p> QueryPairs<'p> {
         Ok(())
     }
 
-    /// Adds a pair at the end, where there is a value. After an error nothing is added.
-    pub fn push_if(&mut self, name: &'p str, value: Option<&'p str>) -> Result<(), AllocError>
-        ensures ok { OnOk result (self.new ≡ self.old ++ pair_if name.now (option_copied value.entry)) }
-        ensures err { OnErr result (self.new ≡ self.old) }
+    /// Adds a pair for each name that has a value, in their order. After an error some of them may be added.
+    pub fn push_given(&mut self, list: &[(&'p str, Option<&'p str>)]) -> Result<(), AllocError>
+        ensures ok { OnOk result (self.new ≡ self.old ++ given_pairs (map named_value list.now)) }
+    {
+        for (name, value) in list {
+            self.push_if(name, *value)?;
+        }
+        Ok(())
+    }
+
+    // Adds a pair at the end, where there is a value.
+    fn push_if(&mut self, name: &'p str, value: Option<&'p str>) -> Result<(), AllocError>
+        ensures { OnOk result (self.new ≡ self.old ++ pair_if name.now (option_copied value.entry)) }
     {
         match value {
             None => Ok(()),

@@ -1,12 +1,13 @@
 // The pairs of an authorization request, and the URL that they are appended to.
 
-ghost use Rattle.std.specs.Prelude.{◌≡◌, ◌++◌, IfOk, OnOk, codes, decimal, map, option_map};
+ghost use Rattle.std.specs.Prelude.{◌≡◌, ◌++◌, ◌∷◌, [], All, IfOk, OnOk, codes, decimal, map, option_map};
 ghost use Rattle.std.specs.Duration.{as_nanos};
 ghost use Rattle.std.specs.Option.{option_copied};
 ghost use Rattle.std.specs.String.{string_bytes};
+ghost use Rattle.oidc_pairs.specs.Pairs.{IsTextPair};
 ghost use Rattle.oidc_oauth2.specs.TokenResponse.{whole_seconds};
-ghost use Rattle.oidc_user_info.specs.Urls.{Builds};
-ghost use Rattle.oidc_client.specs.Authorization.{auth_list, auth_url, pairs_after_extra, pairs_before_extra, response_type_of, seen_flow, text_if};
+ghost use Rattle.oidc_user_info.specs.Urls.{named_value, Builds};
+ghost use Rattle.oidc_client.specs.Authorization.{auth_list, auth_url, given_after_extra, given_before_extra, pairs_after_extra, pairs_before_extra, response_type_of, seen_flow, text_if};
 ghost use Rattle.oidc_client.specs.Texts.{texts_of};
 
 use crate::authorization::{AuthenticationFlow, AuthorizationRequest};
@@ -142,6 +143,52 @@ impl<'a, AD: AuthDisplay, P: AuthPrompt, RT: ResponseType> AuthorizationRequest<
         }
     }
 
+    fn given_before_extra<'p>(&'p self, texts: &'p Texts) -> [(&'p str, Option<&'p str>); 4]
+        requires { texts.now ≡ texts_of P.as_ref RT.as_ref self.now }
+        ensures { map named_value result
+            ≡ given_before_extra AD.as_ref P.as_ref RT.as_ref self.now }
+    {
+        [
+            ("code_challenge", self.challenge_text()),
+            ("code_challenge_method", self.challenge_method()),
+            ("redirect_uri", self.redirect_text()),
+            ("scope", unless_empty(texts.scope.as_str())),
+        ]
+    }
+
+    fn given_after_extra<'p>(&'p self, texts: &'p Texts) -> [(&'p str, Option<&'p str>); 8]
+        requires { texts.now ≡ texts_of P.as_ref RT.as_ref self.now }
+        ensures { map named_value result
+            ≡ given_after_extra AD.as_ref P.as_ref RT.as_ref self.now }
+    {
+        [
+            ("acr_values", text_of(&texts.acr_values)),
+            ("claims_locales", text_of(&texts.claims_locales)),
+            ("display", self.display_text()),
+            ("id_token_hint", text_of(&self.id_token_hint)),
+            ("login_hint", self.login_hint_text()),
+            ("max_age", text_of(&texts.max_age)),
+            ("prompt", text_of(&texts.prompt)),
+            ("ui_locales", text_of(&texts.ui_locales)),
+        ]
+    }
+
+    // Adds the pairs that each request has.
+    fn push_first<'p>(
+        &'p self,
+        response_type: &'p str,
+        pairs: &mut QueryPairs<'p>,
+    ) -> Result<(), AllocError>
+        ensures { OnOk result (pairs.new ≡ pairs.old
+            ++ (codes "response_type", response_type.now)
+            ∷ (codes "client_id", self.now.client_id)
+            ∷ (codes "state", self.now.state) ∷ []) }
+    {
+        pairs.push("response_type", response_type)?;
+        pairs.push("client_id", self.client_id().as_str())?;
+        pairs.push("state", self.state.secret())
+    }
+
     fn push_before_extra<'p>(
         &'p self,
         texts: &'p Texts,
@@ -151,22 +198,8 @@ impl<'a, AD: AuthDisplay, P: AuthPrompt, RT: ResponseType> AuthorizationRequest<
         ensures { let added = pairs_before_extra AD.as_ref P.as_ref RT.as_ref self.now in
             OnOk result (pairs.new ≡ pairs.old ++ added) }
     {
-        pairs.push("response_type", texts.response_type.as_str())?;
-        pairs.push("client_id", self.client_id().as_str())?;
-        pairs.push("state", self.state.secret())?;
-        pairs.push_if("code_challenge", self.challenge_text())?;
-        pairs.push_if("code_challenge_method", self.challenge_method())?;
-        pairs.push_if("redirect_uri", self.redirect_text())?;
-        pairs.push_if("scope", unless_empty(texts.scope.as_str()))
-    }
-
-    fn push_extra<'p>(&'p self, pairs: &mut QueryPairs<'p>) -> Result<(), AllocError>
-        ensures { OnOk result (pairs.new ≡ pairs.old ++ self.now.extra) }
-    {
-        for (name, value) in &self.extra_params {
-            pairs.push(name.as_str(), value.as_str())?;
-        }
-        Ok(())
+        self.push_first(texts.response_type.as_str(), pairs)?;
+        pairs.push_given(&self.given_before_extra(texts))
     }
 
     fn push_after_extra<'p>(
@@ -179,14 +212,7 @@ impl<'a, AD: AuthDisplay, P: AuthPrompt, RT: ResponseType> AuthorizationRequest<
             OnOk result (pairs.new ≡ pairs.old ++ added) }
     {
         pairs.push("nonce", self.nonce.secret())?;
-        pairs.push_if("acr_values", text_of(&texts.acr_values))?;
-        pairs.push_if("claims_locales", text_of(&texts.claims_locales))?;
-        pairs.push_if("display", self.display_text())?;
-        pairs.push_if("id_token_hint", text_of(&self.id_token_hint))?;
-        pairs.push_if("login_hint", self.login_hint_text())?;
-        pairs.push_if("max_age", text_of(&texts.max_age))?;
-        pairs.push_if("prompt", text_of(&texts.prompt))?;
-        pairs.push_if("ui_locales", text_of(&texts.ui_locales))
+        pairs.push_given(&self.given_after_extra(texts))
     }
 
     // All pairs, in their order.
@@ -198,14 +224,16 @@ impl<'a, AD: AuthDisplay, P: AuthPrompt, RT: ResponseType> AuthorizationRequest<
     {
         let mut pairs = QueryPairs::new(alloc);
         self.push_before_extra(texts, &mut pairs)?;
-        self.push_extra(&mut pairs)?;
+        push_all(&mut pairs, self.extra_params.as_slice())?;
         self.push_after_extra(texts, &mut pairs)?;
         Ok(pairs)
     }
 
     // The URL of the request.
     pub(super) fn built(&self, alloc: Global) -> Result<Url, BuildUrlError>
-        ensures { Builds result (auth_url AD.as_ref P.as_ref RT.as_ref self.now) }
+        ensures url { Builds result (auth_url AD.as_ref P.as_ref RT.as_ref self.now) }
+        ensures texts { IfOk result
+            (λ url. All IsTextPair (auth_list AD.as_ref P.as_ref RT.as_ref self.now)) }
     {
         let texts = self.texts(alloc)?;
         let pairs = self.pairs(alloc, &texts)?;
@@ -220,4 +248,15 @@ fn text_of(text: &Option<String>) -> Option<&str>
         None => None,
         Some(text) => Some(text.as_str()),
     }
+}
+
+// Adds each pair.
+fn push_all<'p>(pairs: &mut QueryPairs<'p>, list: &'p [(String, String)]) -> Result<(), AllocError>
+    ensures { OnOk result
+        (pairs.new ≡ pairs.old ++ map (λ p. (string_bytes p.0, string_bytes p.1)) list.now) }
+{
+    for (name, value) in list {
+        pairs.push(name.as_str(), value.as_str())?;
+    }
+    Ok(())
 }
