@@ -1,5 +1,5 @@
 -- The values that the query of an extended URL has for a name.
-use Rattle.std.proofs.Common.{◌≡◌, ℕ, Bool, true, false, cond, List, [], ◌∷◌, ◌++◌, map, All, Option, None, Some, refl, sym, ap, ◌∙◌}
+use Rattle.std.proofs.Common.{◌≡◌, ℕ, Bool, true, false, cond, List, [], ◌∷◌, ◌++◌, map, All, Option, None, Some, refl, sym, ap, ◌∙◌, append_assoc}
 use Rattle.std.specs.Prelude.{◌==◌, filter}
 use Rattle.std.specs.Str.{bytes_eq}
 use Rattle.std.proofs.lemmas.Bool.{cond-true, cond-false, eq-eqb}
@@ -69,7 +69,9 @@ pub pairs_joined : (query : List ℕ) (list : List (List ℕ × List ℕ)) → A
     → pairs (joined query (form list)) ≡ pairs query ++ list
 pairs_joined [] list texts = pairs-form list texts ∙ ap (λ front. front ++ list) (sym pairs-nil)
 pairs_joined (b ∷ query) list texts =
-    pairs-append (b ∷ query) (form list) ∙ ap (λ later. pairs (b ∷ query) ++ later) (pairs-form list texts)
+    ap pairs (append_assoc (b ∷ query) (38 ∷ []) (form list))
+    ∙ pairs-append (b ∷ query) (form list)
+    ∙ ap (λ later. pairs (b ∷ query) ++ later) (pairs-form list texts)
 
 -- ---- values
 

@@ -1,9 +1,10 @@
 -- State, nonce and redirect stand in an authorization URL once each.
 use Rattle.std.proofs.Common.{◌≡◌, ℕ, List, [], ◌∷◌, ◌++◌, All, Option, None, Some, refl, sym, ap, ◌∙◌, append-nil, lit<}
 use Rattle.std.specs.Prelude.{codes, unwrap_or, option_map}
-use Rattle.oidc_pairs.specs.Pairs.{pairs, values_in, IsTextPair}
+use Rattle.oidc_pairs.specs.Pairs.{pairs, values, values_in, IsTextPair}
+use Rattle.oidc_pairs.specs.Form.{form}
 use Rattle.oidc_oauth2.specs.ClientAuth.{pair_if}
-use Rattle.oidc_user_info.specs.Urls.{given_pairs, spaced}
+use Rattle.oidc_user_info.specs.Urls.{given_pairs, joined, spaced}
 use Rattle.oidc_client.specs.Authorization.{SeenAuthorization, text_if, managed_names, given_before_extra, given_after_extra, pairs_before_extra, pairs_after_extra, auth_list, auth_url, query_values, at_most_one, IsUnmanagedBeside, StandOnce}
 use Rattle.oidc_client.proofs.QueryValues.{pairs_joined, values_in_append, pass_by, one_here, none_among}
 
@@ -28,25 +29,38 @@ module _ {Display Prompt ResponseType : Type 0} (display_text : Display → List
   abbrev list : List (List ℕ × List ℕ)
   list = auth_list display_text prompt_text type_text r
 
+  abbrev query : List ℕ
+  query = unwrap_or r.endpoint.url.query []
+
+  list_is : list ≡ (before ++ r.extra) ++ after
+  unfolding auth_list
+  list_is = refl
+
+  query_is : (auth_url display_text prompt_text type_text r).query ≡ Some (joined query (form list))
+  unfolding auth_list
+  query_is = refl
+
   -- the values of a name are those of the endpoint's query, and of the three lists
   values_of : All IsTextPair list → (name : List ℕ)
       → query_values (auth_url display_text prompt_text type_text r) name
-      ≡ query_values r.endpoint.url name ++ (values_in before name ++ (values_in r.extra name ++ values_in after name))
-  unfolding auth_list
+      ≡ query_values r.endpoint.url name ++ ((values_in before name ++ values_in r.extra name) ++ values_in after name)
   values_of texts name =
-      ap (λ found. values_in found name) (pairs_joined (unwrap_or r.endpoint.url.query []) list texts)
-      ∙ values_in_append (pairs (unwrap_or r.endpoint.url.query [])) list name
-      ∙ ap (λ later. query_values r.endpoint.url name ++ later)
-      (values_in_append before (r.extra ++ after) name
-      ∙ ap (λ later. values_in before name ++ later) (values_in_append r.extra after name))
+      ap (λ q. values (unwrap_or q []) name) query_is
+      ∙ ap (λ found. values_in found name) (pairs_joined query list texts)
+      ∙ values_in_append (pairs query) list name
+      ∙ ap (λ l. values_in (pairs query) name ++ values_in l name) list_is
+      ∙ ap (λ later. values_in (pairs query) name ++ later)
+      (values_in_append (before ++ r.extra) after name
+      ∙ ap (λ front. front ++ values_in after name) (values_in_append before r.extra name))
 
   -- a name that neither the query nor the added pairs have
   own_values : All IsTextPair list → (name : List ℕ) → query_values r.endpoint.url name ≡ [] → values_in r.extra name ≡ []
       → query_values (auth_url display_text prompt_text type_text r) name ≡ values_in before name ++ values_in after name
-  own_values texts name query extra =
+  own_values texts name in_query in_extra =
       values_of texts name
-      ∙ ap (λ front. front ++ (values_in before name ++ (values_in r.extra name ++ values_in after name))) query
-      ∙ ap (λ middle. values_in before name ++ (middle ++ values_in after name)) extra
+      ∙ ap (λ front. front ++ ((values_in before name ++ values_in r.extra name) ++ values_in after name)) in_query
+      ∙ ap (λ middle. (values_in before name ++ middle) ++ values_in after name) in_extra
+      ∙ ap (λ front. front ++ values_in after name) (append-nil (values_in before name))
 
   -- ---- the three names
 
@@ -91,18 +105,21 @@ module _ {Display Prompt ResponseType : Type 0} (display_text : Display → List
 
   -- ---- the law
 
-  abbrev Unmanaged : List ℕ → Type 0
-  Unmanaged name = (query_values r.endpoint.url name ≡ []) × (values_in r.extra name ≡ [])
+  abbrev InQuery : List ℕ → Type 0
+  InQuery name = query_values r.endpoint.url name ≡ []
+
+  abbrev InExtra : List ℕ → Type 0
+  InExtra name = values_in r.extra name ≡ []
 
   module _ (texts : All IsTextPair list) (unmanaged : IsUnmanagedBeside r) where
-    one_of : (name : List ℕ) (values : List (List ℕ)) → Unmanaged name → values_in before name ++ values_in after name ≡ values
+    one_of : (name : List ℕ) (values : List (List ℕ)) → InQuery name → InExtra name → values_in before name ++ values_in after name ≡ values
         → query_values (auth_url display_text prompt_text type_text r) name ≡ values
-    one_of name values none own = own_values texts name none.0 none.1 ∙ own
+    one_of name values in_query in_extra own = own_values texts name in_query in_extra ∙ own
 
     pub stand_once : StandOnce r (auth_url display_text prompt_text type_text r)
     stand_once = record {
-      state = one_of (codes "state") (r.state ∷ []) (third _ unmanaged.query, third _ unmanaged.extra) (ap (λ front. front ++ values_in after (codes "state")) state_before ∙ ap (λ later. r.state ∷ later) state_after);
-      nonce = one_of (codes "nonce") (r.nonce ∷ []) (eighth _ unmanaged.query, eighth _ unmanaged.extra) (ap (λ front. front ++ values_in after (codes "nonce")) nonce_before ∙ nonce_after);
-      redirect_uri = one_of (codes "redirect_uri") (at_most_one redirect) (sixth _ unmanaged.query, sixth _ unmanaged.extra)
+      state = one_of (codes "state") (r.state ∷ []) (third InQuery unmanaged.query) (third InExtra unmanaged.extra) (ap (λ front. front ++ values_in after (codes "state")) state_before ∙ ap (λ later. r.state ∷ later) state_after);
+      nonce = one_of (codes "nonce") (r.nonce ∷ []) (eighth InQuery unmanaged.query) (eighth InExtra unmanaged.extra) (ap (λ front. front ++ values_in after (codes "nonce")) nonce_before ∙ nonce_after);
+      redirect_uri = one_of (codes "redirect_uri") (at_most_one redirect) (sixth InQuery unmanaged.query) (sixth InExtra unmanaged.extra)
           (ap (λ front. front ++ values_in after (codes "redirect_uri")) redirect_before ∙ ap (λ later. at_most_one redirect ++ later) redirect_after ∙ append-nil (at_most_one redirect));
     }

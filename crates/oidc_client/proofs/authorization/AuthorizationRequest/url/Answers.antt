@@ -1,5 +1,9 @@
+use Rattle.std.proofs.Common.{sym, subst}
+use Rattle.oidc_client.specs.Authorization.{StandOnce}
 use Rattle.oidc_client.proofs.StandOnce.{stand_once}
 use Rattle.oidc_client.proofs.authorization.AuthorizationRequest.url.Goals as goal
 
 pub returns-clause-once : goal.returns-clause-once
-returns-clause-once g c = ?
+returns-clause-once g c =
+    λ unmanaged. subst (StandOnce c.args.self) (sym c.in_ok-url.ensures.url.0)
+    (stand_once g.AD.Vocabulary.as_ref g.P.Vocabulary.as_ref g.RT.Vocabulary.as_ref c.args.self c.in_ok-url.ensures.texts unmanaged)
