@@ -1,15 +1,17 @@
 #!/usr/bin/env python3
-"""Judges the answers of a provider, and answers the cases of crates/vectors of that: `run`, and those of
-the token layer.
+"""Judges the answers of a provider, and answers the cases of crates/vectors of that: scripts (`run`), and
+the operations of oidc_oauth2 but `challenge`.
 
-    tools/plain_answers.py answers   reads cases from standard input, and answers each: a line each
+    tools/plain_answers.py answers   reads cases from standard input, and answers each: a line each; a line of
+                                     an operation that isn't in OPERATIONS comes back as it came
     tools/plain_answers.py judge     the same, and says on standard error which line each script ends with
 
 It is a second reader of scripts beside oidc_cli, oidc_login and oidc_oauth2, over Python's json, hashlib,
 base64 and urllib.parse: RFC 6749 sections 2.3.1 and 4.1.2 to 5.2, RFC 6750 section 2.1, RFC 7009 section
 2.2.1, RFC 7636 section 4.2, RFC 7662 section 2.2, RFC 8628 sections 3.2 and 3.5, OpenID Connect Core 1.0
 sections 3.1.2.1 and 3.1.3.3. ID tokens are read and judged by plain_tokens.py. It takes URLs as they are
-written, so it is right where these are written as the URL Standard writes them.
+written, so it is right where these are written as the URL Standard writes them, and it judges neither the URLs
+nor the algorithms of a script's client line.
 """
 import base64
 import hashlib

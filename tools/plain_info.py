@@ -1,24 +1,29 @@
 #!/usr/bin/env python3
-"""Reads and judges user info, and answers the cases of crates/vectors of that.
+"""Reads, judges and issues user info, and answers the cases of crates/vectors of that.
 
-    tools/plain_info.py answers   reads cases from standard input, and answers each: a line each
-    tools/plain_info.py cases     generated cases, a line each
+    tools/plain_info.py answers   reads cases of info_claims, info_request, info_answer and info_issue
+                                  and answers each: a line each; any other line comes back as it came
+    tools/plain_info.py cases     280 generated cases, a line each
 
-It is a second reader and verifier beside oidc_user_info, over plain_tokens.py and plain_claims.py: OpenID Connect
-Core 1.0 sections 5.1, 5.1.2 and 5.3, RFC 6750 section 2.1. Each member of an object is judged by looking back at
-all that stand before it. It takes URLs as plain_answers.py does.
+It is a second reader, verifier and issuer beside oidc_user_info, over plain_tokens.py, plain_records.py and plain_claims.py:
+OpenID Connect Core 1.0 sections 5.1, 5.1.2 and 5.3, RFC 6750 section 2.1. Each member of an object is judged by
+looking back at all that stand before it. It takes URLs as they are written, so it is right where these are written
+as the URL Standard writes them.
 """
 import re
 import sys
 
-import plain_answers
 import plain_claims
 import plain_tokens
-from plain_answers import NoCase, Refused, ok, read_case
-from plain_tokens import check, check_there, encoded, fault_in, is_text, members_of, value_of
+from plain_answers import LONGEST_ADDRESS
+from plain_records import (
+    LONGEST_BODY, NoCase, Refused, answer_by, answer_of, has_essence, is_text, members_of, ok, read_case,
+    text_or_texts_fault, url_fault,
+)
+from plain_tokens import check, check_there, encoded, fault_in, value_of
 
 # In the order in which they are written. A null stands for no value.
-INFO = {"iss": (plain_answers.url_fault, True), "aud": (plain_tokens.text_or_texts_fault, True)}
+INFO = {"iss": (url_fault, True), "aud": (text_or_texts_fault, True)}
 
 # ---- claims
 
@@ -106,14 +111,14 @@ def claims_in_token(client, body):
 
 
 def judged(client, status, content_type, body):
-    if len(body) > plain_answers.LONGEST_BODY:
+    if len(body) > LONGEST_BODY:
         return None, "too_long"
     if status != 200:
         return None, "status"
     essence = "application/json" if content_type is None else content_type
-    if plain_answers.has_essence(essence.encode(), "application/json"):
+    if has_essence(essence.encode(), "application/json"):
         return claims_in(client, body)
-    if plain_answers.has_essence(essence.encode(), "application/jwt"):
+    if has_essence(essence.encode(), "application/jwt"):
         return claims_in_token(client, body)
     return None, "media_type"
 
@@ -121,7 +126,6 @@ def judged(client, status, content_type, body):
 # ---- cases
 
 
-@plain_tokens.refused_if_unread
 def info_claims(line):
     members = claim_members(read_case(line, {"text"})[0]["text"].encode())
     additional = plain_claims.written_object(additional_of(members))
@@ -130,12 +134,12 @@ def info_claims(line):
 
 def info_request(line):
     found, _ = read_case(line, {"endpoint", "token", "accept"})
-    if found["accept"] not in ("json", "jwt") or plain_answers.url_fault(found["endpoint"]):
+    if found["accept"] not in ("json", "jwt") or url_fault(found["endpoint"]):
         raise NoCase
     if not all(byte == 9 or 32 <= byte <= 126 for byte in found["token"].encode()):
         return "refused bearer"
     address = found["endpoint"]
-    if len(address.encode()) > plain_answers.LONGEST_ADDRESS or not re.fullmatch("[!-~]*", address):
+    if len(address.encode()) > LONGEST_ADDRESS or not re.fullmatch("[!-~]*", address):
         return "refused uri"
     return ok([("method", "GET"), ("address", address), ("accept", "application/" + found["accept"]),
                ("authorization", "Bearer " + found["token"])])
@@ -150,9 +154,8 @@ def flag(found, name):
 def info_answer(line):
     optional = {"type", "subject", "signed", "any_issuer", "any_audience"}
     found, keys = read_case(line, {"status", "body", "id", "issuer"}, optional, "key")
-    answer = plain_answers.answer_of({"token_" + name: found[name] for name in ("status", "type", "body")
-                                      if name in found})
-    if answer is None or plain_answers.url_fault(found["issuer"]):
+    answer = answer_of({"token_" + name: found[name] for name in ("status", "type", "body") if name in found})
+    if answer is None or url_fault(found["issuer"]):
         raise NoCase
     client = {"id": found["id"], "issuer": found["issuer"], "subject": found.get("subject"),
               "signed": flag(found, "signed"), "issuer_match": not flag(found, "any_issuer"),
@@ -161,22 +164,29 @@ def info_answer(line):
     try:
         members, refusal = judged(client, *answer[1])
     except Refused as refused:
-        return "refused " + refused.words
+        return "refused parse " + refused.words
     return "refused " + refusal if refusal else ok([("written", written(members))])
 
 
-OPERATIONS = {"info_claims": info_claims, "info_request": info_request, "info_answer": info_answer}
+def info_issue(line):
+    found, _ = read_case(line, {"claims", "secret", "alg"})
+    alg = plain_tokens.algorithm_in(found["alg"])
+    try:
+        claims = written(claim_members(found["claims"].encode()))
+    except Refused:
+        raise NoCase from None
+    if not alg.startswith("HS"):
+        return "refused unsupported_alg"
+    return ok([("token", plain_tokens.signed(claims, found["secret"], alg))])
+
+
+OPERATIONS = {"info_claims": info_claims, "info_request": info_request, "info_answer": info_answer,
+              "info_issue": info_issue}
 
 
 def answer_line(line):
     """The answer of a case of one of these operations; any other line as it came."""
-    operation = OPERATIONS.get(re.split("[=&]", line + "=")[1]) if line.startswith("op=") else None
-    if operation is None:
-        return line
-    try:
-        return operation(line)
-    except NoCase:
-        return "no case"
+    return answer_by(OPERATIONS, line)
 
 
 # ---- generated cases
@@ -242,7 +252,7 @@ def main(words):
             print(case)
     elif words == ["answers"]:
         for line in sys.stdin.read().split("\n")[:-1]:
-            print(answer_line(line))
+            print(answer_by(OPERATIONS, line))
     else:
         sys.exit(__doc__)
 

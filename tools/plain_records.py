@@ -1,4 +1,5 @@
-"""Reads form texts, records and the answers to a token request: what plain_tokens.py and plain_answers.py share.
+"""Reads form texts, records and the answers to a token request: what plain_tokens.py, plain_answers.py and
+plain_info.py share. It is imported by these, and is no program.
 
 It stands on Python's json and urllib.parse, and on the reader of members of plain_claims.py: URL Standard
 sections 5.1 and 5.2, RFC 6749 sections 5.1 and 5.2, RFC 9110 sections 5.5, 5.6.3 and 8.3.1.

@@ -1,8 +1,10 @@
 #!/usr/bin/env python3
 """Reads, judges and issues ID tokens, and answers the cases of crates/vectors of that.
 
-    tools/plain_tokens.py answers   reads cases from standard input, and answers each: a line each
-    tools/plain_tokens.py cases     generated cases, a line each
+    tools/plain_tokens.py answers   reads cases of header, id_claims, token, verify, hash, issue, token_response
+                                    and token_answer from standard input, and answers each: a line each; any
+                                    other line comes back as it came
+    tools/plain_tokens.py cases     360 generated cases, a line each
 
 It is a second reader, verifier and issuer beside oidc_tokens, over Python's json, base64, hashlib and hmac:
 RFC 7515 sections 2, 4.1, 5 and 7.1, RFC 7518 section 3.1, RFC 7519 sections 5 and 7, OpenID Connect Core 1.0
@@ -305,8 +307,9 @@ def hash_answer(line):
     return ok([("hash", half_hash(alg, found["text"]))])
 
 
-def issued(members, secret, alg, hashes=()):
-    message = encoded(b'{"alg":"' + alg.encode() + b'"}') + "." + encoded(written(members, hashes).encode())
+def signed(claims, secret, alg):
+    """The token whose payload is the text of these claims."""
+    message = encoded(b'{"alg":"' + alg.encode() + b'"}') + "." + encoded(claims.encode())
     return message + "." + encoded(mac(secret, alg, message))
 
 
@@ -321,7 +324,7 @@ def issue(line):
         return "refused unsupported_alg"
     beside = {"at_hash": found.get("access_token"), "c_hash": found.get("code")}
     hashes = [(name, half_hash(alg, text)) for name, text in beside.items() if text is not None]
-    return ok([("token", issued(members, found["secret"], alg, hashes))])
+    return ok([("token", signed(written(members, hashes), found["secret"], alg))])
 
 
 # ---- token responses, with an ID token or without

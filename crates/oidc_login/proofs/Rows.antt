@@ -14,7 +14,8 @@ use Rattle.oidc_oauth2.specs.declared.token_answers.RequestTokenError.TheVariant
 use Rattle.oidc_login.specs.Logins.{SeenLogin}
 use Rattle.oidc_login.specs.TokenRequest.{token_request}
 use Rattle.oidc_login.specs.TokenResponse.{Tokens, TokenError, tokens_or_refusal}
-use Rattle.oidc_login.specs.IdTokens.{SeenIdToken, verifier_of, IsAcceptedBy, failure_for}
+use Rattle.oidc_login.specs.IdTokens.{SeenIdToken, core_keys, verifier_of, is_nonce, IsAcceptedBy, failure_for}
+use Rattle.oidc_tokens.proofs.Theorems.{failure_cause}
 use Rattle.oidc_login.specs.TokenHash.{claimed_hash, hash_under, hash_beside, FitsHash}
 use Rattle.oidc_login.specs.Errors.{Error}
 use Rattle.oidc_login.specs.Rows.{Attempt, Meant, SeenOpened, login_named_by, error_in, code_in, opening, tokens_in, hash_rows, accepting, signing_in, after_token, with_token, outcome}
@@ -113,7 +114,12 @@ module _ (a : Attempt) (answers : List SeenAnswer) where
   accepting-walk : (h : Held) → Holds a answers h → Walk (λ u. Fits h) Q (accepting a.client a.now h.login h.token h.tokens.access_token)
   unfolding accepting
   accepting-walk h holds =
-      at_for _ _ (failure_for a.client h.login.nonce a.now h.token) _ _ (λ kind is. record { held = h; holds = holds; check_failed = is }) (λ none_fails.
+      at_for _ _ (failure_for a.client h.login.nonce a.now h.token) _ _ (λ kind is. record {
+        held = h;
+        holds = holds;
+        check_failed = is;
+        cause = failure_cause core_keys (verifier_of a.client) (is_nonce h.login.nonce) a.now h.token kind is;
+      }) (λ none_fails.
       let accepted : Accepted a answers h = record { holds = holds; accepts = accepts a.client h.login.nonce a.now h.token none_fails } in
       let x = accepted.accepts in
       subst (λ r. Walk (λ u. Fits h) Q (hash_rows (claimed_hash h.token) r)) (sym (beside (verifier_of a.client) h.token x.alg x.key x.signed x.chosen h.tokens.access_token))

@@ -12,7 +12,7 @@ use Rattle.oidc_oauth2.specs.declared.token_answers.RequestTokenError.TheVariant
 use Rattle.oidc_login.specs.Logins.{SeenLogin}
 use Rattle.oidc_login.specs.TokenRequest.{token_request}
 use Rattle.oidc_login.specs.TokenResponse.{Tokens, TokenError, tokens_or_refusal}
-use Rattle.oidc_login.specs.IdTokens.{SeenIdToken, IsAcceptedBy, failure_for}
+use Rattle.oidc_login.specs.IdTokens.{SeenIdToken, IsAcceptedBy, failure_for, FailsFor}
 use Rattle.oidc_login.specs.TokenHash.{claimed_hash, hash_under, FitsHash}
 use Rattle.oidc_login.specs.SignedIn.{SeenSignedIn}
 use Rattle.oidc_login.specs.Errors.{Error}
@@ -158,6 +158,8 @@ module _ (a : Attempt) (answers : List SeenAnswer) where
     pub held : Held
     pub holds : Holds held
     pub check_failed : failure_for a.client held.login.nonce a.now held.token ≡ Some kind
+    -- and this is why, said by itself
+    pub cause : FailsFor a.client held.login.nonce a.now held.token kind
 
   -- the accepted ID token has an `at_hash`, and no hash goes with its algorithm, which the refusal names
   pub record LacksHash (refusal : SigningError) : Type 0 where

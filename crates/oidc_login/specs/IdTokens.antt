@@ -24,6 +24,7 @@ use Rattle.oidc_tokens.specs.Tokens.{SeenToken, token_of}
 use Rattle.oidc_tokens.specs.IdTokenClaims.{SeenIdTokenClaims, id_token_claims_of, id_token_members}
 use Rattle.oidc_tokens.specs.Signatures.{KeyMeanings, SeenVerifier, meanings}
 use Rattle.oidc_tokens.specs.Verification.{Accepts, first_failure}
+use Rattle.oidc_tokens.specs.Causes.{Cause}
 use Rattle.oidc_tokens.specs.declared.verification.refusals.ClaimsVerificationError.{ClaimsVerificationError}
 use Rattle.oidc_login.specs.Client.{SeenClient}
 
@@ -82,3 +83,7 @@ IsAcceptedBy client sent now token = Accepts core_keys (verifier_of client) (is_
 -- the first check of a token that fails
 abbrev pub failure_for : SeenClient → List ℕ → ℤ → SeenIdToken → Option ClaimsVerificationError
 failure_for client sent now token = first_failure core_keys (verifier_of client) (is_nonce sent) now token
+
+-- why a check of a token fails, said by itself
+abbrev pub FailsFor : SeenClient → List ℕ → ℤ → SeenIdToken → ClaimsVerificationError → Type 0
+FailsFor client sent now token kind = Cause core_keys (verifier_of client) (is_nonce sent) now token kind

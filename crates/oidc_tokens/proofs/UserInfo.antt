@@ -12,7 +12,7 @@ use Rattle.oidc_tokens.specs.declared.verification.refusals.ClaimsVerificationEr
 use Rattle.oidc_tokens.specs.Tokens.{SeenToken}
 use Rattle.oidc_tokens.specs.Signatures.{KeyMeanings, verdict_on}
 use Rattle.oidc_tokens.specs.Verification.{is_token_type, is_encrypted, is_supported, is_alone_in, unless, refused_as, first_of}
-use Rattle.oidc_tokens.specs.UserInfoVerification.{SeenUserInfoVerifier, Parties, without_secret, IsIssuedBy, IsForAlone, AcceptsInfo, passes_issuer, passes_audience, is_expected, first_info_failure, InfoFailsUnlessAccepted}
+use Rattle.oidc_tokens.specs.UserInfoVerification.{SeenUserInfoVerifier, Parties, without_secret, IsIssuedBy, IsForAlone, AcceptsInfo, passes_issuer, passes_audience, is_expected_subject, first_info_failure, InfoFailsUnlessAccepted}
 use Rattle.oidc_tokens.specs.UserInfoCauses.{InfoCause}
 use Rattle.oidc_tokens.proofs.Accepted.{same_bytes, bytes_same, alone, alone_back, supported_parts, supported_back, good, good_back, passes, passed}
 use Rattle.oidc_tokens.proofs.Causes.{same_some, too_much_by, plain_of, differ, signature_cause}
@@ -56,15 +56,15 @@ for_alone_back id audiences is = ap (is_for_alone id) is.there ∙ alone_back id
 same_text : (a b : List ℕ) → Some a ≡ Some b → a ≡ b
 same_text a b h = cc
 
-pub about : (expected : Option (List ℕ)) (subject : List ℕ) → is_expected expected subject ≡ true → (e : List ℕ) → expected ≡ Some e → subject ≡ e
+pub about : (expected : Option (List ℕ)) (subject : List ℕ) → is_expected_subject expected subject ≡ true → (e : List ℕ) → expected ≡ Some e → subject ≡ e
 about None subject h e is = absurd cc
 about (Some x) subject h e is = same_bytes subject x h ∙ same_text x e is
 
-pub about_back : (expected : Option (List ℕ)) (subject : List ℕ) → ((e : List ℕ) → expected ≡ Some e → subject ≡ e) → is_expected expected subject ≡ true
+pub about_back : (expected : Option (List ℕ)) (subject : List ℕ) → ((e : List ℕ) → expected ≡ Some e → subject ≡ e) → is_expected_subject expected subject ≡ true
 about_back None subject h = refl
 about_back (Some x) subject h = bytes_same subject x (h x refl)
 
-pub about_another : (expected : Option (List ℕ)) (subject : List ℕ) → is_expected expected subject ≡ false → (e : List ℕ) × (expected ≡ Some e) × (subject ≢ e)
+pub about_another : (expected : Option (List ℕ)) (subject : List ℕ) → is_expected_subject expected subject ≡ false → (e : List ℕ) × (expected ≡ Some e) × (subject ≢ e)
 about_another None subject h = absurd (true≢false h)
 about_another (Some x) subject h = (x, refl, differ subject x h)
 
@@ -89,7 +89,7 @@ module _ {Key Use Algorithm Type' : Type 0} (k : KeyMeanings Key Use Algorithm T
   unfolding first_info_failure
   info_accepts v token named h =
       let five = all_five (unless (is_supported token.header) Unsupported) (unless (passes_issuer v named.issuer) InvalidIssuer) (unless (passes_audience v named.audiences) InvalidAudience)
-      (refused_as SignatureVerification (verdict_on k (without_secret v) token)) (unless (is_expected v.expected_subject named.subject) InvalidSubject) h in
+      (refused_as SignatureVerification (verdict_on k (without_secret v) token)) (unless (is_expected_subject v.expected_subject named.subject) InvalidSubject) h in
       let header = supported_parts token.header (passes (is_supported token.header) Unsupported five.0) in
       let signed = good k (without_secret v) token (passed (verdict_on k (without_secret v) token) five.3) in
       record {
@@ -104,7 +104,7 @@ module _ {Key Use Algorithm Type' : Type 0} (k : KeyMeanings Key Use Algorithm T
         key = signed.key;
         chosen = signed.chosen;
         verified = signed.verified;
-        subject = about v.expected_subject named.subject (passes (is_expected v.expected_subject named.subject) InvalidSubject five.4);
+        subject = about v.expected_subject named.subject (passes (is_expected_subject v.expected_subject named.subject) InvalidSubject five.4);
       }
 
   pub info_accepted : (v : SeenUserInfoVerifier Key) (token : SeenToken JE Algorithm P) (named : Parties) → AcceptsInfo k v token named → first_info_failure k v token named ≡ None
@@ -125,17 +125,17 @@ module _ {Key Use Algorithm Type' : Type 0} (k : KeyMeanings Key Use Algorithm T
 
 module _ {Key Use Algorithm Type' : Type 0} (k : KeyMeanings Key Use Algorithm Type') {JE P : Type 0}
     (v : SeenUserInfoVerifier Key) (token : SeenToken JE Algorithm P) (named : Parties) where
-  subject_cause : (expected : Bool) → is_expected v.expected_subject named.subject ≡ expected → (e : ClaimsVerificationError) → first_of (unless expected InvalidSubject ∷ []) ≡ Some e → InfoCause k v token named e
+  subject_cause : (expected : Bool) → is_expected_subject v.expected_subject named.subject ≡ expected → (e : ClaimsVerificationError) → first_of (unless expected InvalidSubject ∷ []) ≡ Some e → InfoCause k v token named e
   subject_cause true is e h = absurd cc
   subject_cause false is e h = subst (InfoCause k v token named) (same_some InvalidSubject e h) (about_another v.expected_subject named.subject is)
 
   signed_cause : is_encrypted token.header.alg ≡ false → (said : Result (Unit {0}) SignatureVerificationError) → verdict_on k (without_secret v) token ≡ said → (e : ClaimsVerificationError)
-      → first_of (refused_as SignatureVerification said ∷ unless (is_expected v.expected_subject named.subject) InvalidSubject ∷ []) ≡ Some e → InfoCause k v token named e
-  signed_cause plain (Ok u) is e h = subject_cause (is_expected v.expected_subject named.subject) refl e h
+      → first_of (refused_as SignatureVerification said ∷ unless (is_expected_subject v.expected_subject named.subject) InvalidSubject ∷ []) ≡ Some e → InfoCause k v token named e
+  signed_cause plain (Ok u) is e h = subject_cause (is_expected_subject v.expected_subject named.subject) refl e h
   signed_cause plain (Err r) is e h = subst (InfoCause k v token named) (same_some (SignatureVerification r) e h) (signature_cause k (without_secret v) token plain r is)
 
   audience_cause : is_encrypted token.header.alg ≡ false → (passes : Bool) → passes_audience v named.audiences ≡ passes → (e : ClaimsVerificationError)
-      → first_of (unless passes InvalidAudience ∷ refused_as SignatureVerification (verdict_on k (without_secret v) token) ∷ unless (is_expected v.expected_subject named.subject) InvalidSubject ∷ []) ≡ Some e
+      → first_of (unless passes InvalidAudience ∷ refused_as SignatureVerification (verdict_on k (without_secret v) token) ∷ unless (is_expected_subject v.expected_subject named.subject) InvalidSubject ∷ []) ≡ Some e
       → InfoCause k v token named e
   audience_cause plain true is e h = signed_cause plain (verdict_on k (without_secret v) token) refl e h
   audience_cause plain false is e h =
@@ -145,7 +145,7 @@ module _ {Key Use Algorithm Type' : Type 0} (k : KeyMeanings Key Use Algorithm T
 
   issuer_cause : is_encrypted token.header.alg ≡ false → (passes : Bool) → passes_issuer v named.issuer ≡ passes → (e : ClaimsVerificationError)
       → first_of (unless passes InvalidIssuer ∷ unless (passes_audience v named.audiences) InvalidAudience ∷ refused_as SignatureVerification (verdict_on k (without_secret v) token)
-      ∷ unless (is_expected v.expected_subject named.subject) InvalidSubject ∷ []) ≡ Some e
+      ∷ unless (is_expected_subject v.expected_subject named.subject) InvalidSubject ∷ []) ≡ Some e
       → InfoCause k v token named e
   issuer_cause plain true is e h = audience_cause plain (passes_audience v named.audiences) refl e h
   issuer_cause plain false is e h =
@@ -155,7 +155,7 @@ module _ {Key Use Algorithm Type' : Type 0} (k : KeyMeanings Key Use Algorithm T
 
   header_cause : (supported : Bool) → is_supported token.header ≡ supported → (e : ClaimsVerificationError)
       → first_of (unless supported Unsupported ∷ unless (passes_issuer v named.issuer) InvalidIssuer ∷ unless (passes_audience v named.audiences) InvalidAudience
-      ∷ refused_as SignatureVerification (verdict_on k (without_secret v) token) ∷ unless (is_expected v.expected_subject named.subject) InvalidSubject ∷ []) ≡ Some e
+      ∷ refused_as SignatureVerification (verdict_on k (without_secret v) token) ∷ unless (is_expected_subject v.expected_subject named.subject) InvalidSubject ∷ []) ≡ Some e
       → InfoCause k v token named e
   header_cause true is e h = issuer_cause (plain_of token.header.crit (is_none token.header.cty) (is_token_type token.header.typ) (is_encrypted token.header.alg) is) (passes_issuer v named.issuer) refl e h
   header_cause false is e h =

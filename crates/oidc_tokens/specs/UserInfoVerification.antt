@@ -92,8 +92,8 @@ module _ {Key : Type 0} where
   passes_audience v audiences = not v.audience_match || option_map_or (is_alone_in v.client_id) audiences false
 
 -- A subject is the expected one, where one is expected.
-abbrev pub is_expected : Option (List ℕ) → List ℕ → Bool
-is_expected expected subject = option_map_or (bytes_eq subject) expected true
+abbrev pub is_expected_subject : Option (List ℕ) → List ℕ → Bool
+is_expected_subject expected subject = option_map_or (bytes_eq subject) expected true
 
 module _ {Key Use Algorithm Type' : Type 0} (k : KeyMeanings Key Use Algorithm Type') {JE P : Type 0} where
   -- the first check that fails
@@ -105,7 +105,7 @@ module _ {Key Use Algorithm Type' : Type 0} (k : KeyMeanings Key Use Algorithm T
       ∷ unless (passes_issuer v named.issuer) InvalidIssuer
       ∷ unless (passes_audience v named.audiences) InvalidAudience
       ∷ refused_as SignatureVerification (verdict_on k (without_secret v) token)
-      ∷ unless (is_expected v.expected_subject named.subject) InvalidSubject
+      ∷ unless (is_expected_subject v.expected_subject named.subject) InvalidSubject
       ∷ [])
 
 -- No check fails exactly where the token is accepted.

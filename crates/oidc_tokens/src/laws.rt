@@ -1,4 +1,5 @@
-//! What holds of ID tokens as a whole. Each function here says a law in its contract, and does nothing.
+//! What holds of ID tokens, and of user info answers that are tokens, as a whole. Each function here says a
+//! law in its contract, and does nothing.
 
 ghost use Rattle.oidc_tokens.specs.Homes.{AcceptedHaveOneHome};
 ghost use Rattle.oidc_tokens.specs.RoundTrip.{WrittenReadBack};

@@ -50,5 +50,5 @@ pub use crate::payload::Payload;
 pub use crate::token::TokenResponse;
 pub use crate::verification::{
     AudiencesClaim, ClaimsVerificationError, IdTokenVerifier, IssuerClaim, NonceVerifier,
-    UserInfoVerifier, is_expected,
+    UserInfoVerifier, is_expected_subject,
 };

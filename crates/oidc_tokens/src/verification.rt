@@ -20,7 +20,7 @@ use crate::jwt::JsonWebToken;
 pub use crate::verification::claims::{AudiencesClaim, IssuerClaim, NonceVerifier};
 pub(crate) use crate::verification::keys::signing_alg;
 pub use crate::verification::refusals::ClaimsVerificationError;
-pub use crate::verification::user_info::{UserInfoVerifier, is_expected};
+pub use crate::verification::user_info::{UserInfoVerifier, is_expected_subject};
 use jiff::Timestamp;
 use oidc_claims::{AdditionalClaims, GenderClaim};
 use oidc_keys::{JsonWebKey, JsonWebKeySet};

@@ -12,13 +12,13 @@ use Rattle.oidc_oauth2.specs.Requests.{is_address}
 use Rattle.oidc_oauth2.specs.Transport.{first_of}
 use Rattle.oidc_oauth2.specs.TokenAnswers.{◌>>=◌, ◌>>◌, ◌when◌, ◌or_as◌, is_over_long}
 use Rattle.oidc_tokens.specs.Tokens.{SeenToken}
-use Rattle.oidc_tokens.specs.UserInfoVerification.{is_expected}
+use Rattle.oidc_tokens.specs.UserInfoVerification.{is_expected_subject}
 use Rattle.oidc_tokens.specs.declared.verification.refusals.ClaimsVerificationError.{ClaimsVerificationError}
 use Rattle.oidc_tokens.specs.declared.verification.refusals.ClaimsVerificationError.TheVariants as claims
-use Rattle.oidc_tokens.proofs.Theorems.{about, about_back, about_another, info_accepts, info_accepted}
+use Rattle.oidc_tokens.proofs.Theorems.{about, about_back, about_another, info_accepts, info_accepted, info_failure_cause, info_never_memory, info_never_memory_inside}
 use Rattle.oidc_user_info.specs.UserInfoClaims.{SeenUserInfoClaims, parties_of}
 use Rattle.oidc_user_info.specs.InfoErrors.{InfoRefusal, Meant}
-use Rattle.oidc_user_info.specs.InfoAnswers.{◌for◌, Reading, Demand, claims_in, token_in, failure_of, accepted_claims, from_json, of_object, of_token, by_media_type, info_answer}
+use Rattle.oidc_user_info.specs.InfoAnswers.{◌for◌, Readers, Demand, claims_in, token_in, failure_of, accepted_claims, from_json, of_object, of_token, by_media_type, info_answer}
 use Rattle.oidc_user_info.specs.InfoRequests.{SeenInfoRequest, get_with, info_request}
 use Rattle.oidc_user_info.specs.InfoCauses.{IsAsked, HasNoAddress, HasNoResponse, Came, Fits, Succeeds, HoldsObject, HoldsToken, AllowsObject, HoldsText, HasOtherStatus, HasOtherType, HoldsNoText, IsTooLong, ReadsObject, ReadsToken, IsUserInfo, ObjectIsRefused, TokenIsRefused, ObjectFails, TokenFails, Cause}
 use Rattle.oidc_user_info.specs.InfoRuns.{reply_of, reply_to, reply}
@@ -34,14 +34,19 @@ equal n m h = grind arith
 apart : (n m : ℕ) → n ≢ m → (n == m) ≡ false
 apart n m h = grind arith
 
-about_none : (expected : Option (List ℕ)) (subject e : List ℕ) → expected ≡ Some e → subject ≢ e → (passes : Bool) → is_expected expected subject ≡ passes → passes ≡ false
+about_none : (expected : Option (List ℕ)) (subject e : List ℕ) → expected ≡ Some e → subject ≢ e → (passes : Bool) → is_expected_subject expected subject ≡ passes → passes ≡ false
 about_none expected subject e is another true passes = absurd (another (about expected subject passes e is))
 about_none expected subject e is another false passes = refl
 
 unequal : (n m : ℕ) → (n == m) ≡ false → n ≢ m
 unequal n m h = grind arith
 
-module _ {AC GC JE Key Use Algorithm Type' : Type 0} (r : Reading AC GC JE Key Use Algorithm Type') (ask : SeenInfoRequest Key) (answers : List SeenAnswer) where
+module _ {AC GC JE Key Use Algorithm Type' : Type 0} (r : Readers AC GC JE Key Use Algorithm Type') where
+  -- no verdict of a key is want of memory
+  abbrev pub NeverWants : Type 0
+  NeverWants = (key : Key) (alg : Algorithm) (message made : List ℕ) → r.keys.keys.verdict key alg message made ≢ Err NoMemory
+
+module _ {AC GC JE Key Use Algorithm Type' : Type 0} (r : Readers AC GC JE Key Use Algorithm Type') (ask : SeenInfoRequest Key) (answers : List SeenAnswer) where
   abbrev Claims : Type 0
   Claims = SeenUserInfoClaims AC GC
 
@@ -50,9 +55,48 @@ module _ {AC GC JE Key Use Algorithm Type' : Type 0} (r : Reading AC GC JE Key U
   Rests (Ok found) = IsUserInfo ask answers r found
   Rests (Err e) = Cause ask answers r e
 
+  -- ---- checks that fail, of an object or of a token
+
+  abbrev Fails : ClaimsVerificationError → Type 0
+  Fails kind = ObjectFails ask answers r kind ⊎ TokenFails ask answers r kind
+
+  as_cause : (kind : ClaimsVerificationError) → kind ≢ claims.Memory → kind ≢ claims.SignatureVerification NoMemory → Fails kind → Cause ask answers r (ClaimsVerification kind)
+  as_cause claims.Unsupported own inside fails = fails
+  as_cause claims.InvalidIssuer own inside fails = fails
+  as_cause claims.InvalidAudience own inside fails = fails
+  as_cause (claims.SignatureVerification AmbiguousKeyId) own inside fails = fails
+  as_cause (claims.SignatureVerification CryptoError) own inside fails = fails
+  as_cause (claims.SignatureVerification DisallowedAlg) own inside fails = fails
+  as_cause (claims.SignatureVerification InvalidKey) own inside fails = fails
+  as_cause (claims.SignatureVerification NoMatchingKey) own inside fails = fails
+  as_cause (claims.SignatureVerification NoSignature) own inside fails = fails
+  as_cause (claims.SignatureVerification UnsupportedAlg) own inside fails = fails
+  as_cause claims.Expired own inside fails = fails
+  as_cause claims.InvalidNonce own inside fails = fails
+  as_cause claims.InvalidSubject own inside fails = fails
+  as_cause (claims.SignatureVerification NoMemory) own inside fails = absurd (inside refl)
+  as_cause claims.Memory own inside fails = absurd (own refl)
+
+  of_cause : (kind : ClaimsVerificationError) → Cause ask answers r (ClaimsVerification kind) → Fails kind
+  of_cause claims.Unsupported cause = cause
+  of_cause claims.InvalidIssuer cause = cause
+  of_cause claims.InvalidAudience cause = cause
+  of_cause (claims.SignatureVerification AmbiguousKeyId) cause = cause
+  of_cause (claims.SignatureVerification CryptoError) cause = cause
+  of_cause (claims.SignatureVerification DisallowedAlg) cause = cause
+  of_cause (claims.SignatureVerification InvalidKey) cause = cause
+  of_cause (claims.SignatureVerification NoMatchingKey) cause = cause
+  of_cause (claims.SignatureVerification NoSignature) cause = cause
+  of_cause (claims.SignatureVerification UnsupportedAlg) cause = cause
+  of_cause claims.Expired cause = cause
+  of_cause claims.InvalidNonce cause = cause
+  of_cause claims.InvalidSubject cause = cause
+  of_cause (claims.SignatureVerification NoMemory) cause = absurd cause
+  of_cause claims.Memory cause = absurd cause
+
   -- ---- from the table
 
-  about_rests : (found : Claims) → ReadsObject ask answers r found → (expected : Bool) → is_expected ask.demand.verifier.expected_subject found.standard_claims.subject ≡ expected
+  about_rests : (found : Claims) → ReadsObject ask answers r found → (expected : Bool) → is_expected_subject ask.demand.verifier.expected_subject found.standard_claims.subject ≡ expected
       → Rests ((ClaimsVerification claims.InvalidSubject when not expected) >> Ok found)
   about_rests found reads true is = inl (record { reads = reads; about = about ask.demand.verifier.expected_subject found.standard_claims.subject is })
   about_rests found reads false is =
@@ -60,8 +104,8 @@ module _ {AC GC JE Key Use Algorithm Type' : Type 0} (r : Reading AC GC JE Key U
       inl (record { found = found; reads = reads; expected = another.0; is_expected = another.1; another = another.2 })
 
   read_rests : (body : List ℕ) → AllowsObject ask answers body → (read : Result Claims Refusal) → claims_in r.additional r.gender body ≡ read
-      → Rests ((read or_as Parse) >>= λ found. (ClaimsVerification claims.InvalidSubject when not (is_expected ask.demand.verifier.expected_subject found.standard_claims.subject)) >> Ok found)
-  read_rests body allows (Ok found) is = about_rests found (record { body = body; allows = allows; read = is }) (is_expected ask.demand.verifier.expected_subject found.standard_claims.subject) refl
+      → Rests ((read or_as Parse) >>= λ found. (ClaimsVerification claims.InvalidSubject when not (is_expected_subject ask.demand.verifier.expected_subject found.standard_claims.subject)) >> Ok found)
+  read_rests body allows (Ok found) is = about_rests found (record { body = body; allows = allows; read = is }) (is_expected_subject ask.demand.verifier.expected_subject found.standard_claims.subject) refl
   read_rests body allows (Err refusal) is = inl (record { body = body; allows = allows; refused = is })
 
   json_rests : (body : List ℕ) → AllowsObject ask answers body → Rests (from_json r.additional r.gender ask.demand.verifier.expected_subject body)
@@ -77,69 +121,75 @@ module _ {AC GC JE Key Use Algorithm Type' : Type 0} (r : Reading AC GC JE Key U
   unfolding of_object
   object_rests body holds = signed_rests body holds ask.demand.signed refl
 
-  failure_rests : (token : SeenToken JE Algorithm Claims) → ReadsToken ask answers r token → (failure : Option ClaimsVerificationError) → failure_of r ask.demand.verifier token ≡ failure
-      → Rests ((ClaimsVerification for failure) >> Ok token.payload)
-  failure_rests token reads None is = inr (record { token = token; reads = reads; accepts = info_accepts r.keys ask.demand.verifier token (parties_of token.payload) is; own_claims = refl })
-  failure_rests token reads (Some kind) is = inr (record { token = token; reads = reads; check_failed = is })
+  -- where no verdict of a key is want of memory
+  module _ (never : NeverWants r) where
+    failure_rests : (token : SeenToken JE Algorithm Claims) → ReadsToken ask answers r token → (failure : Option ClaimsVerificationError) → failure_of r ask.demand.verifier token ≡ failure
+        → Rests ((ClaimsVerification for failure) >> Ok token.payload)
+    failure_rests token reads None is = inr (record { token = token; reads = reads; accepts = info_accepts r.keys ask.demand.verifier token (parties_of token.payload) is; own_claims = refl })
+    failure_rests token reads (Some kind) is =
+        let parties = parties_of token.payload in
+        as_cause kind (λ own. info_never_memory r.keys ask.demand.verifier token parties (is ∙ ap Some own))
+        (λ inside. info_never_memory_inside r.keys never ask.demand.verifier token parties (is ∙ ap Some inside))
+        (inr (record { token = token; reads = reads; check_failed = is; cause = info_failure_cause r.keys ask.demand.verifier token parties kind is }))
 
-  token_rests : (body : List ℕ) → HoldsText ask answers body → (read : Result (SeenToken JE Algorithm Claims) Refusal) → token_in r body ≡ read
-      → Rests ((read or_as Parse) >>= accepted_claims r ask.demand.verifier)
-  token_rests body holds (Ok token) is = failure_rests token (record { body = body; holds = holds; read = is }) (failure_of r ask.demand.verifier token) refl
-  token_rests body holds (Err refusal) is = inr (record { body = body; holds = holds; refused = is })
+    token_rests : (body : List ℕ) → HoldsText ask answers body → (read : Result (SeenToken JE Algorithm Claims) Refusal) → token_in r body ≡ read
+        → Rests ((read or_as Parse) >>= accepted_claims r ask.demand.verifier)
+    token_rests body holds (Ok token) is = failure_rests token (record { body = body; holds = holds; read = is }) (failure_of r ask.demand.verifier token) refl
+    token_rests body holds (Err refusal) is = inr (record { body = body; holds = holds; refused = is })
 
-  text_rests : (body : List ℕ) → HoldsToken ask answers body → (text : Bool) → is_utf8 body ≡ text
-      → Rests ((Other other.Utf8 when not text) >> ((token_in r body or_as Parse) >>= accepted_claims r ask.demand.verifier))
-  text_rests body holds true is = token_rests body (record { holds = holds; text = is }) (token_in r body) refl
-  text_rests body holds false is = record { body = body; holds = holds; no_text = is }
+    text_rests : (body : List ℕ) → HoldsToken ask answers body → (text : Bool) → is_utf8 body ≡ text
+        → Rests ((Other other.Utf8 when not text) >> ((token_in r body or_as Parse) >>= accepted_claims r ask.demand.verifier))
+    text_rests body holds true is = token_rests body (record { holds = holds; text = is }) (token_in r body) refl
+    text_rests body holds false is = record { body = body; holds = holds; no_text = is }
 
-  of_token_rests : (body : List ℕ) → HoldsToken ask answers body → Rests (of_token r ask.demand.verifier body)
-  unfolding of_token
-  of_token_rests body holds = text_rests body holds (is_utf8 body) refl
+    of_token_rests : (body : List ℕ) → HoldsToken ask answers body → Rests (of_token r ask.demand.verifier body)
+    unfolding of_token
+    of_token_rests body holds = text_rests body holds (is_utf8 body) refl
 
-  module _ (response : SeenResponse) where
-    abbrev json : Bool
-    json = may_be response.content_type (codes "application/json")
+    module _ (response : SeenResponse) where
+      abbrev json : Bool
+      json = may_be response.content_type (codes "application/json")
 
-    abbrev jwt : Bool
-    jwt = may_be response.content_type (codes "application/jwt")
+      abbrev jwt : Bool
+      jwt = may_be response.content_type (codes "application/jwt")
 
-    type_rests : Succeeds ask answers response → (is_json is_jwt : Bool) → json ≡ is_json → jwt ≡ is_jwt
-        → Rests (if is_json then of_object r.additional r.gender ask.demand response.body else if is_jwt then of_token r ask.demand.verifier response.body else Err (Response response.status response.body MediaType))
-    type_rests succeeds true is_jwt j w = object_rests response.body (record { response = response; succeeds = succeeds; json = j; own_body = refl })
-    type_rests succeeds false true j w = of_token_rests response.body (record { response = response; succeeds = succeeds; no_json = j; jwt = w; own_body = refl })
-    type_rests succeeds false false j w = record { response = response; succeeds = succeeds; no_json = j; no_jwt = w; own_status = refl; own_body = refl }
+      type_rests : Succeeds ask answers response → (is_json is_jwt : Bool) → json ≡ is_json → jwt ≡ is_jwt
+          → Rests (if is_json then of_object r.additional r.gender ask.demand response.body else if is_jwt then of_token r ask.demand.verifier response.body else Err (Response response.status response.body MediaType))
+      type_rests succeeds true is_jwt j w = object_rests response.body (record { response = response; succeeds = succeeds; json = j; own_body = refl })
+      type_rests succeeds false true j w = of_token_rests response.body (record { response = response; succeeds = succeeds; no_json = j; jwt = w; own_body = refl })
+      type_rests succeeds false false j w = record { response = response; succeeds = succeeds; no_json = j; no_jwt = w; own_status = refl; own_body = refl }
 
-    media_rests : Succeeds ask answers response → Rests (by_media_type r ask.demand response)
-    unfolding by_media_type
-    media_rests succeeds = type_rests succeeds json jwt refl refl
+      media_rests : Succeeds ask answers response → Rests (by_media_type r ask.demand response)
+      unfolding by_media_type
+      media_rests succeeds = type_rests succeeds json jwt refl refl
 
-    status_rests : Fits ask answers response → (success : Bool) → (response.status == 200) ≡ success → Rests ((Response response.status response.body Status when not success) >> by_media_type r ask.demand response)
-    status_rests fits true is = media_rests (record { fits = fits; success = equal response.status 200 is })
-    status_rests fits false is = record { response = response; fits = fits; no_success = unequal response.status 200 is; own_status = refl; own_body = refl }
+      status_rests : Fits ask answers response → (success : Bool) → (response.status == 200) ≡ success → Rests ((Response response.status response.body Status when not success) >> by_media_type r ask.demand response)
+      status_rests fits true is = media_rests (record { fits = fits; success = equal response.status 200 is })
+      status_rests fits false is = record { response = response; fits = fits; no_success = unequal response.status 200 is; own_status = refl; own_body = refl }
 
-    size_rests : Came ask answers response → (long : Bool) → is_over_long response.body ≡ long
-        → Rests ((TooLong response.body when long) >> ((Response response.status response.body Status when not (response.status == 200)) >> by_media_type r ask.demand response))
-    size_rests came true is = record { response = response; came = came; too_long = is; own_body = refl }
-    size_rests came false is = status_rests (record { came = came; not_too_long = is }) (response.status == 200) refl
+      size_rests : Came ask answers response → (long : Bool) → is_over_long response.body ≡ long
+          → Rests ((TooLong response.body when long) >> ((Response response.status response.body Status when not (response.status == 200)) >> by_media_type r ask.demand response))
+      size_rests came true is = record { response = response; came = came; too_long = is; own_body = refl }
+      size_rests came false is = status_rests (record { came = came; not_too_long = is }) (response.status == 200) refl
 
-    response_rests : Came ask answers response → Rests (info_answer r ask.demand response)
-    unfolding info_answer
-    response_rests came = size_rests came (is_over_long response.body) refl
+      response_rests : Came ask answers response → Rests (info_answer r ask.demand response)
+      unfolding info_answer
+      response_rests came = size_rests came (is_over_long response.body) refl
 
-  answer_rests : IsAsked ask → (answer : SeenAnswer) → first_of answers ≡ answer → Rests (reply_of r ask.demand answer)
-  answer_rests asked None is = record { asked = asked; no_response = is }
-  answer_rests asked (Some response) is = response_rests response (record { asked = asked; response_came = is })
+    answer_rests : IsAsked ask → (answer : SeenAnswer) → first_of answers ≡ answer → Rests (reply_of r ask.demand answer)
+    answer_rests asked None is = record { asked = asked; no_response = is }
+    answer_rests asked (Some response) is = response_rests response (record { asked = asked; response_came = is })
 
-  asked_rests : (visible fits : Bool) → is_visible_text ask.access_token ≡ visible → is_address ask.address ≡ fits → (request : SeenRequest)
-      → Rests (reply_to r ask.demand ((Bearer when not visible) >> ((Uri when not fits) >> Ok request)) answers)
-  asked_rests false fits v f request = v
-  asked_rests true false v f request = record { token_fits = v; no_address = f }
-  asked_rests true true v f request = answer_rests (record { token_fits = v; address_fits = f }) (first_of answers) refl
+    asked_rests : (visible fits : Bool) → is_visible_text ask.access_token ≡ visible → is_address ask.address ≡ fits → (request : SeenRequest)
+        → Rests (reply_to r ask.demand ((Bearer when not visible) >> ((Uri when not fits) >> Ok request)) answers)
+    asked_rests false fits v f request = v
+    asked_rests true false v f request = record { token_fits = v; no_address = f }
+    asked_rests true true v f request = answer_rests (record { token_fits = v; address_fits = f }) (first_of answers) refl
 
-  -- every reply of the table rests on its cause
-  pub rests : Rests (reply r ask answers)
-  unfolding info_request
-  rests = asked_rests (is_visible_text ask.access_token) (is_address ask.address) refl refl _
+    -- every reply of the table rests on its cause
+    pub rests : Rests (reply r ask answers)
+    unfolding info_request
+    rests = asked_rests (is_visible_text ask.access_token) (is_address ask.address) refl refl _
 
   -- ---- to the table
 
@@ -179,7 +229,7 @@ module _ {AC GC JE Key Use Algorithm Type' : Type 0} (r : Reading AC GC JE Key U
   text_reply body holds = token_reply body holds.holds ∙ rw holds.text refl
 
   reads_object_reply : (found : Claims) → ReadsObject ask answers r found
-      → Replies ((ClaimsVerification claims.InvalidSubject when not (is_expected ask.demand.verifier.expected_subject found.standard_claims.subject)) >> Ok found)
+      → Replies ((ClaimsVerification claims.InvalidSubject when not (is_expected_subject ask.demand.verifier.expected_subject found.standard_claims.subject)) >> Ok found)
   unfolding from_json
   reads_object_reply found reads = allows_reply reads.body reads.allows ∙ rw reads.read refl
 
@@ -203,7 +253,7 @@ module _ {AC GC JE Key Use Algorithm Type' : Type 0} (r : Reading AC GC JE Key U
       let v = ask.demand.verifier.expected_subject in
       let subject = another.found.standard_claims.subject in
       reads_object_reply another.found another.reads
-      ∙ ap (λ expected. (ClaimsVerification claims.InvalidSubject when not expected) >> Ok another.found) (about_none v subject another.expected another.is_expected another.another (is_expected v subject) refl)
+      ∙ ap (λ expected. (ClaimsVerification claims.InvalidSubject when not expected) >> Ok another.found) (about_none v subject another.expected another.is_expected another.another (is_expected_subject v subject) refl)
   object_fails_reply (claims.SignatureVerification AmbiguousKeyId) fails = absurd fails
   object_fails_reply (claims.SignatureVerification CryptoError) fails = absurd fails
   object_fails_reply (claims.SignatureVerification DisallowedAlg) fails = absurd fails
@@ -256,7 +306,7 @@ module _ {AC GC JE Key Use Algorithm Type' : Type 0} (r : Reading AC GC JE Key U
 
   -- a refusal that has its cause is the reply
   pub refused_reply : (e : InfoRefusal) → Cause ask answers r e → Replies (Err e)
-  refused_reply (ClaimsVerification kind) cause = elim cause [ inl object ↦ object_fails_reply kind object | inr token ↦ token_fails_reply kind token ]
+  refused_reply (ClaimsVerification kind) cause = elim (of_cause kind cause) [ inl object ↦ object_fails_reply kind object | inr token ↦ token_fails_reply kind token ]
   refused_reply (Parse refusal) cause = elim cause [ inl object ↦ object_refused_reply refusal object | inr token ↦ token_refused_reply refusal token ]
   refused_reply (Request u) cause = asked_reply cause.asked ∙ ap (reply_of r ask.demand) cause.no_response
   refused_reply (Response status body Status) cause = status_reply status body cause

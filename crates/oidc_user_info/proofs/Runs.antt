@@ -7,7 +7,7 @@ use Rattle.oidc_oauth2.specs.Transport.{Log, log_after, Plays}
 use Rattle.oidc_oauth2.specs.Exchanges.{Known, requests_of}
 use Rattle.oidc_user_info.specs.UserInfoClaims.{SeenUserInfoClaims}
 use Rattle.oidc_user_info.specs.InfoErrors.{InfoRefusal, Meant, seen_refusal, OrMemory, Gives}
-use Rattle.oidc_user_info.specs.InfoAnswers.{Reading}
+use Rattle.oidc_user_info.specs.InfoAnswers.{Readers}
 use Rattle.oidc_user_info.specs.InfoRequests.{SeenInfoRequest, info_request}
 use Rattle.oidc_user_info.specs.InfoCauses.{IsUserInfo, Cause}
 use Rattle.oidc_user_info.specs.InfoRuns.{unmade, reply_to, reply, Exchanged, Ran}
@@ -16,7 +16,7 @@ use Rattle.oidc_user_info.specs.declared.errors.PrepareInfoError.{PrepareInfoErr
 use Rattle.oidc_user_info.specs.declared.errors.PrepareInfoError.TheVariants.{Bearer, Uri}
 use Rattle.oidc_user_info.specs.declared.errors.UserInfoError.{UserInfoError}
 use Rattle.oidc_user_info.specs.declared.errors.UserInfoError.TheVariants.{ClaimsVerification, Parse, Request, Response, Other, TooLong, Memory}
-use Rattle.oidc_user_info.proofs.Rows.{Rests, rests, holds_reply, refused_reply}
+use Rattle.oidc_user_info.proofs.Rows.{NeverWants, Rests, rests, holds_reply, refused_reply}
 
 -- ---- a transport over which nothing went
 
@@ -28,39 +28,39 @@ plays_none : (script : Option (List SeenAnswer)) → Plays script [] script
 plays_none None = refl
 plays_none (Some script) = (refl, refl)
 
-module _ {AC GC JE Key Use Algorithm Type' : Type 0} (r : Reading AC GC JE Key Use Algorithm Type') (ask : SeenInfoRequest Key) (RE : Type 0) where
+module _ {AC GC JE Key Use Algorithm Type' : Type 0} (r : Readers AC GC JE Key Use Algorithm Type') (ask : SeenInfoRequest Key) (RE : Type 0) where
   abbrev Claims : Type 0
   Claims = SeenUserInfoClaims AC GC
 
   abbrev Answer : Type 0
   Answer = Result Claims (UserInfoError RE)
 
-  module _ (answers : List SeenAnswer) where
+  module _ (answers : List SeenAnswer) (never : NeverWants r) where
     -- a result that is the reply rests on what that does
     cause_of : (result : Answer) → Gives result (reply r ask answers) → IfErr result (λ e. OrMemory result (Cause ask answers r (seen_refusal e)))
     cause_of (Ok found) g = tt
-    cause_of (Err (ClaimsVerification kind)) g = subst (Rests r ask answers) g (rests r ask answers)
-    cause_of (Err (Parse refusal)) g = subst (Rests r ask answers) g (rests r ask answers)
-    cause_of (Err (Request e)) g = subst (Rests r ask answers) g (rests r ask answers)
-    cause_of (Err (Response status body cause)) g = subst (Rests r ask answers) g (rests r ask answers)
-    cause_of (Err (Other cause)) g = subst (Rests r ask answers) g (rests r ask answers)
-    cause_of (Err (TooLong body)) g = subst (Rests r ask answers) g (rests r ask answers)
+    cause_of (Err (ClaimsVerification kind)) g = subst (Rests r ask answers) g (rests r ask answers never)
+    cause_of (Err (Parse refusal)) g = subst (Rests r ask answers) g (rests r ask answers never)
+    cause_of (Err (Request e)) g = subst (Rests r ask answers) g (rests r ask answers never)
+    cause_of (Err (Response status body cause)) g = subst (Rests r ask answers) g (rests r ask answers never)
+    cause_of (Err (Other cause)) g = subst (Rests r ask answers) g (rests r ask answers never)
+    cause_of (Err (TooLong body)) g = subst (Rests r ask answers) g (rests r ask answers never)
     cause_of (Err Memory) g = tt
 
     held_of : (result : Answer) → Gives result (reply r ask answers) → IfOk result (IsUserInfo ask answers r)
-    held_of (Ok found) g = subst (Rests r ask answers) g (rests r ask answers)
+    held_of (Ok found) g = subst (Rests r ask answers) g (rests r ask answers never)
     held_of (Err e) g = tt
 
   abbrev GivenBy : Answer → Meant Claims → Type 0
   GivenBy result meant = Gives result meant
 
   -- what was exchanged rests on what the reply does
-  pub ran : (old new : Known) (result : Answer) → Exchanged r ask old new result → Ran r ask old new result
-  ran old new result e = record {
+  pub ran : NeverWants r → (old new : Known) (result : Answer) → Exchanged r ask old new result → Ran r ask old new result
+  ran never old new result e = record {
     exchanged = e;
-    cause = cause_of e.answers result e.replied;
+    cause = cause_of e.answers never result e.replied;
     refused = λ refusal cause. subst (GivenBy result) (refused_reply r ask e.answers refusal cause) e.replied;
-    held = held_of e.answers result e.replied;
+    held = held_of e.answers never result e.replied;
     holds = λ found held. subst (GivenBy result) (holds_reply r ask e.answers found held) e.replied;
   }
 

@@ -6,7 +6,7 @@ use Rattle.std.proofs.lemmas.Str.{IsUtf8-from_is_utf8, is_utf8-from_IsUtf8}
 use Rattle.oidc_tokens.specs.UserInfoVerification.{SeenUserInfoVerifier}
 use Rattle.oidc_user_info.specs.UserInfoClaims.{SeenUserInfoClaims}
 use Rattle.oidc_user_info.specs.InfoErrors.{Gives}
-use Rattle.oidc_user_info.specs.InfoAnswers.{Reading, of_text, of_token}
+use Rattle.oidc_user_info.specs.InfoAnswers.{Readers, of_text, of_token}
 use Rattle.oidc_user_info.specs.declared.errors.InfoOther.TheVariants.{Utf8}
 use Rattle.oidc_user_info.specs.declared.errors.UserInfoError.{UserInfoError}
 use Rattle.oidc_user_info.specs.declared.errors.UserInfoError.TheVariants.{Other}
@@ -15,7 +15,7 @@ no_text : (body : List ℕ) (b : Bool) → is_utf8 body ≡ b → (IsUtf8 body �
 no_text body true is h = absurd (h (IsUtf8-from_is_utf8 body is))
 no_text body false is h = refl
 
-module _ {AC GC JE Key Use Algorithm Type' : Type 0} (r : Reading AC GC JE Key Use Algorithm Type') (v : SeenUserInfoVerifier Key) (body : List ℕ) where
+module _ {AC GC JE Key Use Algorithm Type' : Type 0} (r : Readers AC GC JE Key Use Algorithm Type') (v : SeenUserInfoVerifier Key) (body : List ℕ) where
   pub no_text_row : (IsUtf8 body → ⊥) → of_token r v body ≡ Err (Other Utf8)
   unfolding of_token
   no_text_row h = rw (no_text body (is_utf8 body) refl h) refl

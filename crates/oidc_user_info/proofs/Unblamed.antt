@@ -8,19 +8,19 @@ use Rattle.oidc_oauth2.specs.HttpUtils.{may_be}
 use Rattle.oidc_oauth2.specs.Messages.{SeenResponse}
 use Rattle.oidc_oauth2.specs.TokenAnswers.{◌>>=◌, ◌>>◌, ◌when◌, ◌or_as◌, is_over_long}
 use Rattle.oidc_tokens.specs.Tokens.{SeenToken}
-use Rattle.oidc_tokens.specs.UserInfoVerification.{SeenUserInfoVerifier, is_expected}
+use Rattle.oidc_tokens.specs.UserInfoVerification.{SeenUserInfoVerifier, is_expected_subject}
 use Rattle.oidc_tokens.specs.declared.verification.refusals.ClaimsVerificationError.{ClaimsVerificationError}
 use Rattle.oidc_tokens.specs.declared.verification.refusals.ClaimsVerificationError.TheVariants as claims
 use Rattle.oidc_user_info.specs.UserInfoClaims.{SeenUserInfoClaims}
 use Rattle.oidc_user_info.specs.InfoErrors.{InfoRefusal, Meant, Gives}
-use Rattle.oidc_user_info.specs.InfoAnswers.{◌for◌, Reading, Demand, claims_in, token_in, failure_of, accepted_claims, from_json, of_object, of_token, by_media_type, info_answer}
+use Rattle.oidc_user_info.specs.InfoAnswers.{◌for◌, Readers, Demand, claims_in, token_in, failure_of, accepted_claims, from_json, of_object, of_token, by_media_type, info_answer}
 use Rattle.oidc_user_info.specs.InfoRuns.{IsRequestBlamed}
 use Rattle.oidc_user_info.specs.declared.errors.InfoOther.TheVariants as other
 use Rattle.oidc_user_info.specs.declared.errors.ResponseCause.TheVariants.{Status, MediaType}
 use Rattle.oidc_user_info.specs.declared.errors.UserInfoError.{UserInfoError}
 use Rattle.oidc_user_info.specs.declared.errors.UserInfoError.TheVariants.{ClaimsVerification, Parse, Request, Response, Other, TooLong, Memory}
 
-module _ {AC GC JE Key Use Algorithm Type' : Type 0} (r : Reading AC GC JE Key Use Algorithm Type') (demand : Demand Key) where
+module _ {AC GC JE Key Use Algorithm Type' : Type 0} (r : Readers AC GC JE Key Use Algorithm Type') (demand : Demand Key) where
   abbrev Claims : Type 0
   Claims = SeenUserInfoClaims AC GC
 
@@ -34,8 +34,8 @@ module _ {AC GC JE Key Use Algorithm Type' : Type 0} (r : Reading AC GC JE Key U
   after_when e false next own later = later
 
   read_judged : (read : Result Claims Refusal)
-      → IsJudged ((read or_as Parse) >>= λ found. (ClaimsVerification claims.InvalidSubject when not (is_expected demand.verifier.expected_subject found.standard_claims.subject)) >> Ok found)
-  read_judged (Ok found) = after_when (ClaimsVerification claims.InvalidSubject) (not (is_expected demand.verifier.expected_subject found.standard_claims.subject)) (Ok found) tt tt
+      → IsJudged ((read or_as Parse) >>= λ found. (ClaimsVerification claims.InvalidSubject when not (is_expected_subject demand.verifier.expected_subject found.standard_claims.subject)) >> Ok found)
+  read_judged (Ok found) = after_when (ClaimsVerification claims.InvalidSubject) (not (is_expected_subject demand.verifier.expected_subject found.standard_claims.subject)) (Ok found) tt tt
   read_judged (Err refusal) = tt
 
   json_judged : (body : List ℕ) → IsJudged (from_json r.additional r.gender demand.verifier.expected_subject body)

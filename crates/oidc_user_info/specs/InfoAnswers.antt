@@ -10,7 +10,7 @@ use Rattle.oidc_oauth2.specs.HttpUtils.{may_be}
 use Rattle.oidc_oauth2.specs.TokenAnswers.{◌>>=◌, ◌>>◌, ◌when◌, ◌or_as◌, is_over_long, record_in}
 use Rattle.oidc_tokens.specs.Tokens.{SeenToken, token_of}
 use Rattle.oidc_tokens.specs.Signatures.{KeyMeanings}
-use Rattle.oidc_tokens.specs.UserInfoVerification.{SeenUserInfoVerifier, is_expected, first_info_failure}
+use Rattle.oidc_tokens.specs.UserInfoVerification.{SeenUserInfoVerifier, is_expected_subject, first_info_failure}
 use Rattle.oidc_tokens.specs.declared.verification.refusals.ClaimsVerificationError.{ClaimsVerificationError}
 use Rattle.oidc_tokens.specs.declared.verification.refusals.ClaimsVerificationError.TheVariants.{SignatureVerification, InvalidSubject}
 use Rattle.oidc_user_info.specs.UserInfoClaims.{SeenUserInfoClaims, user_info_claims_of, parties_of}
@@ -32,18 +32,18 @@ pub record Demand (Key : Type 0) : Type 0 where
 
 -- ---- how claims and tokens are read, and what is known of keys
 
-pub record Reading (AC GC JE Key Use Algorithm Type' : Type 0) : Type 1 where
+pub record Readers (AC GC JE Key Use Algorithm Type' : Type 0) : Type 1 where
   pub additional : List SeenMember → Result AC Refusal
   pub gender : SeenMember → Result GC Refusal
   pub encrypts : List ℕ → Option JE
   pub signs : List ℕ → Option Algorithm
   pub keys : KeyMeanings Key Use Algorithm Type'
 
-abbrev pub reading : {AC GC JE Key Use Algorithm Type' : Type 0}
+abbrev pub readers : {AC GC JE Key Use Algorithm Type' : Type 0}
     → (List SeenMember → Result AC Refusal) → (SeenMember → Result GC Refusal)
     → (List ℕ → Option JE) → (List ℕ → Option Algorithm) → KeyMeanings Key Use Algorithm Type'
-    → Reading AC GC JE Key Use Algorithm Type'
-reading additional gender encrypts signs keys =
+    → Readers AC GC JE Key Use Algorithm Type'
+readers additional gender encrypts signs keys =
     record { additional = additional; gender = gender; encrypts = encrypts; signs = signs; keys = keys }
 
 -- the claims that a body holds as an object
@@ -58,7 +58,7 @@ unfoldable pub from_json : {AC GC : Type 0} → (List SeenMember → Result AC R
     → (SeenMember → Result GC Refusal) → Option (List ℕ) → List ℕ → Meant (SeenUserInfoClaims AC GC)
 from_json additional gender expected body = do
   claims ← claims_in additional gender body or_as Parse
-  ClaimsVerification InvalidSubject when not (is_expected expected claims.standard_claims.subject)
+  ClaimsVerification InvalidSubject when not (is_expected_subject expected claims.standard_claims.subject)
   Ok claims
 
 -- those of an answer that is an object
@@ -68,7 +68,7 @@ of_object additional gender demand body = do
   ClaimsVerification (SignatureVerification NoSignature) when demand.signed
   from_json additional gender demand.verifier.expected_subject body
 
-module _ {AC GC JE Key Use Algorithm Type' : Type 0} (r : Reading AC GC JE Key Use Algorithm Type') where
+module _ {AC GC JE Key Use Algorithm Type' : Type 0} (r : Readers AC GC JE Key Use Algorithm Type') where
   -- the token that a text is
   abbrev pub token_in : List ℕ → Result (SeenToken JE Algorithm (SeenUserInfoClaims AC GC)) Refusal
   token_in text = token_of r.encrypts r.signs (user_info_claims_of r.additional r.gender) text

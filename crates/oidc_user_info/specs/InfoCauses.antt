@@ -1,9 +1,9 @@
--- What each reply to a request for user info rests on, said without the table.
+-- What each reply to a request for user info rests on, said without the rows of the table.
 use Rattle.std.specs.Prelude.{◌≡◌, ◌≢◌, ◌⊎◌, ℕ, List, Option, None, Some, true, false, Ok, Err, codes}
 use Rattle.std.specs.Str.{is_utf8}
 use Rattle.http_header.specs.FieldValue.{is_visible_text}
 use Rattle.oidc_members.specs.declared.refusal.Refusal.{Refusal}
-use Rattle.oidc_keys.specs.declared.refusals.SignatureVerificationError.TheVariants.{NoSignature}
+use Rattle.oidc_keys.specs.declared.refusals.SignatureVerificationError.TheVariants.{NoSignature, Memory as NoMemory}
 use Rattle.oidc_oauth2.specs.Messages.{SeenResponse, SeenAnswer}
 use Rattle.oidc_oauth2.specs.HttpUtils.{may_be}
 use Rattle.oidc_oauth2.specs.Requests.{is_address}
@@ -11,11 +11,12 @@ use Rattle.oidc_oauth2.specs.Transport.{first_of}
 use Rattle.oidc_oauth2.specs.TokenAnswers.{is_over_long}
 use Rattle.oidc_tokens.specs.Tokens.{SeenToken}
 use Rattle.oidc_tokens.specs.UserInfoVerification.{AcceptsInfo}
+use Rattle.oidc_tokens.specs.UserInfoCauses.{InfoCause}
 use Rattle.oidc_tokens.specs.declared.verification.refusals.ClaimsVerificationError.{ClaimsVerificationError}
 use Rattle.oidc_tokens.specs.declared.verification.refusals.ClaimsVerificationError.TheVariants as claims
 use Rattle.oidc_user_info.specs.UserInfoClaims.{SeenUserInfoClaims, parties_of}
 use Rattle.oidc_user_info.specs.InfoErrors.{InfoRefusal}
-use Rattle.oidc_user_info.specs.InfoAnswers.{Reading, claims_in, token_in, failure_of}
+use Rattle.oidc_user_info.specs.InfoAnswers.{Readers, claims_in, token_in, failure_of}
 use Rattle.oidc_user_info.specs.InfoRequests.{SeenInfoRequest}
 use Rattle.oidc_user_info.specs.declared.errors.InfoOther.TheVariants as other
 use Rattle.oidc_user_info.specs.declared.errors.ResponseCause.TheVariants.{Status, MediaType}
@@ -107,7 +108,7 @@ module _ {Key : Type 0} (ask : SeenInfoRequest Key) where
       pub holds : HoldsToken body
       pub no_text : is_utf8 body ≡ false
 
-    module _ {AC GC JE Use Algorithm Type' : Type 0} (r : Reading AC GC JE Key Use Algorithm Type') where
+    module _ {AC GC JE Use Algorithm Type' : Type 0} (r : Readers AC GC JE Key Use Algorithm Type') where
       -- ---- what a body says
 
       abbrev Claims : Type 0
@@ -175,15 +176,18 @@ module _ {Key : Type 0} (ask : SeenInfoRequest Key) where
       ObjectFails claims.InvalidSubject = IsAboutAnother
       ObjectFails kind = ⊥
 
-      -- this check of the token is the first that fails
+      -- this check of the token is the first that fails, and this is why
       pub record TokenFails (kind : ClaimsVerificationError) : Type 0 where
         pub token : InfoToken
         pub reads : ReadsToken token
         pub check_failed : failure_of r ask.demand.verifier token ≡ Some kind
+        pub cause : InfoCause r.keys ask.demand.verifier token (parties_of token.payload) kind
 
-      -- ---- the cause of each refusal
+      -- ---- the cause of each refusal; want of memory is never one inside another
 
       abbrev pub Cause : InfoRefusal → Type 0
+      Cause (ClaimsVerification claims.Memory) = ⊥
+      Cause (ClaimsVerification (claims.SignatureVerification NoMemory)) = ⊥
       Cause (ClaimsVerification kind) = ObjectFails kind ⊎ TokenFails kind
       Cause (Parse refusal) = ObjectIsRefused refusal ⊎ TokenIsRefused refusal
       Cause (Request u) = HasNoResponse

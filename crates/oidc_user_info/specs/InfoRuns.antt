@@ -6,7 +6,7 @@ use Rattle.oidc_oauth2.specs.Transport.{log_after, Plays, HasRisen, first_of}
 use Rattle.oidc_oauth2.specs.Exchanges.{Known, requests_of}
 use Rattle.oidc_user_info.specs.UserInfoClaims.{SeenUserInfoClaims}
 use Rattle.oidc_user_info.specs.InfoErrors.{InfoRefusal, Meant, seen_refusal, OrMemory, Gives}
-use Rattle.oidc_user_info.specs.InfoAnswers.{Reading, Demand, info_answer}
+use Rattle.oidc_user_info.specs.InfoAnswers.{Readers, Demand, info_answer}
 use Rattle.oidc_user_info.specs.InfoRequests.{SeenInfoRequest, info_request}
 use Rattle.oidc_user_info.specs.InfoCauses.{IsUserInfo, Cause}
 use Rattle.oidc_user_info.specs.declared.errors.InfoOther.TheVariants as other
@@ -25,7 +25,7 @@ unmade Memory = error.Memory
 abbrev pub sent : {Key : Type 0} → SeenInfoRequest Key → List SeenRequest
 sent ask = requests_of (result_ok (info_request ask))
 
-module _ {AC GC JE Key Use Algorithm Type' : Type 0} (r : Reading AC GC JE Key Use Algorithm Type') where
+module _ {AC GC JE Key Use Algorithm Type' : Type 0} (r : Readers AC GC JE Key Use Algorithm Type') where
   abbrev pub reply_of : Demand Key → SeenAnswer → Meant (SeenUserInfoClaims AC GC)
   reply_of demand None = Err (error.Request tt)
   reply_of demand (Some response) = info_answer r demand response

@@ -7,7 +7,7 @@ ghost use Rattle.oidc_oauth2.specs.HttpUtils.{may_be as may_be_of};
 ghost use Rattle.oidc_oauth2.specs.Messages.{seen_response};
 ghost use Rattle.oidc_tokens.specs.Signatures.{meanings};
 ghost use Rattle.oidc_user_info.specs.InfoAnswers as spec;
-ghost use Rattle.oidc_user_info.specs.InfoAnswers.{reading};
+ghost use Rattle.oidc_user_info.specs.InfoAnswers.{readers};
 ghost use Rattle.oidc_user_info.specs.InfoErrors.{Gives};
 
 use crate::claims::UserInfoClaims;
@@ -18,7 +18,7 @@ use oidc_claims::{AdditionalClaims, GenderClaim};
 use oidc_keys::{JsonWebKey, SignatureVerificationError};
 use oidc_members::{Members, ParseError};
 use oidc_oauth2::{Body, HttpResponse, MAX_BODY, check_content_type};
-use oidc_tokens::{ClaimsVerificationError, Payload, UserInfoVerifier, is_expected};
+use oidc_tokens::{ClaimsVerificationError, Payload, UserInfoVerifier, is_expected_subject};
 use oidc_types::{JweContentEncryptionAlgorithm, SubjectIdentifier};
 use std::alloc::Global;
 
@@ -49,7 +49,7 @@ impl<AC: AdditionalClaims, GC: GenderClaim> UserInfoClaims<AC, GC> {
             Err(ParseError::Refused(refusal)) => Err(UserInfoError::Parse(refusal)),
             Err(ParseError::Memory) => Err(UserInfoError::Memory),
             Ok(claims) => {
-                if is_expected(expected_subject, claims.subject()) {
+                if is_expected_subject(expected_subject, claims.subject()) {
                     Ok(claims)
                 } else {
                     let refusal = ClaimsVerificationError::InvalidSubject;
@@ -74,7 +74,7 @@ where
     ensures { let k = meanings K.JsonWebKey K.KeyUse.JsonWebKeyUse
         K.SigningAlgorithm.JwsSigningAlgorithm.own K.SigningAlgorithm.ClosedVocabulary
         K.SigningAlgorithm.KeyType.ClosedVocabulary in
-        let r = reading AC.read_of GC.read_of JE.from_str K.SigningAlgorithm.from_str k in
+        let r = readers AC.read_of GC.read_of JE.from_str K.SigningAlgorithm.from_str k in
         Gives result (spec.accepted_claims r verifier.now token) }
 {
     match token.claims(alloc, verifier) {
@@ -98,7 +98,7 @@ where
     ensures { let k = meanings K.JsonWebKey K.KeyUse.JsonWebKeyUse
         K.SigningAlgorithm.JwsSigningAlgorithm.own K.SigningAlgorithm.ClosedVocabulary
         K.SigningAlgorithm.KeyType.ClosedVocabulary in
-        let r = reading AC.read_of GC.read_of JE.from_str K.SigningAlgorithm.from_str k in
+        let r = readers AC.read_of GC.read_of JE.from_str K.SigningAlgorithm.from_str k in
         Gives result (spec.of_text r verifier.now text.now) }
 {
     match UserInfoJsonWebToken::<AC, GC, JE, K::SigningAlgorithm>::read(alloc, text) {
@@ -122,7 +122,7 @@ where
     ensures { let k = meanings K.JsonWebKey K.KeyUse.JsonWebKeyUse
         K.SigningAlgorithm.JwsSigningAlgorithm.own K.SigningAlgorithm.ClosedVocabulary
         K.SigningAlgorithm.KeyType.ClosedVocabulary in
-        let r = reading AC.read_of GC.read_of JE.from_str K.SigningAlgorithm.from_str k in
+        let r = readers AC.read_of GC.read_of JE.from_str K.SigningAlgorithm.from_str k in
         Gives result (spec.of_token r verifier.now body.now) }
 {
     match str::from_utf8(body.as_slice()) {
@@ -173,7 +173,7 @@ impl<'a, JE: JweContentEncryptionAlgorithm, K: JsonWebKey> UserInfoRequest<'a, J
         ensures answer { let k = meanings K.JsonWebKey K.KeyUse.JsonWebKeyUse
             K.SigningAlgorithm.JwsSigningAlgorithm.own K.SigningAlgorithm.ClosedVocabulary
             K.SigningAlgorithm.KeyType.ClosedVocabulary in
-            let r = reading AC.read_of GC.read_of JE.from_str K.SigningAlgorithm.from_str k in
+            let r = readers AC.read_of GC.read_of JE.from_str K.SigningAlgorithm.from_str k in
             Gives result (spec.info_answer r self.now.demand (seen_response response)) }
     {
         let status = response.status();

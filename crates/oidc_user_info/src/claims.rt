@@ -259,9 +259,8 @@ impl<AC: AdditionalClaims, GC: GenderClaim> Payload for UserInfoClaims<AC, GC> {
 
     ghost write_of = { spec.user_info_members AC.write_of GC.write_of };
 
-    /// Reads the claims in one pass over the members. It refuses the first faulty member, be it `iss`, `aud`
-    /// or a standard claim; then a missing `sub`; then as the additional claims do. A null stands for an
-    /// absent `iss` or `aud`.
+    /// Reads the claims. It refuses the first faulty member, be it `iss`, `aud` or a standard claim; then a
+    /// missing `sub`; then as the additional claims do. A null stands for an absent `iss` or `aud`.
     ///
     /// `iss` and `aud` are faulty where they repeat (`Duplicate`) or aren't of their kind: a URL (`WrongType`
     /// where it is no text, else `Url`); a text or an array of texts (`WrongType`). A standard claim is

@@ -12,8 +12,8 @@
 //!   [`BuildUrlError`] is why there is no such URL.
 //! - [`AdditionalProviderMetadata`] is what a provider may say of itself beside its own metadata.
 //!
-//! What it promises. Claims are read in one pass, each member judged against all that stand before it, as
-//! `user_info_claims_of` says; what is written in range is read back. A request hands over exactly the one
+//! What it promises. Claims are read as `user_info_claims_of` says, each member judged against all that stand
+//! before it; what is written in range is read back. A request hands over exactly the one
 //! request of its definition, a GET of the endpoint's text as it was given, or nothing; its answer is that of
 //! the table `info_answer` for the response that came, and each refusal has its cause. The subject of the ID
 //! token that a site expects is compared for both kinds of answers (section 5.3.2). All of this holds for

@@ -5,7 +5,7 @@ ghost use Rattle.http_header.specs.FieldValue.{FieldValue, plain_value};
 ghost use Rattle.oidc_oauth2.specs.Exchanges.{known};
 ghost use Rattle.oidc_oauth2.specs.HttpUtils.{bearer_of};
 ghost use Rattle.oidc_tokens.specs.Signatures.{meanings};
-ghost use Rattle.oidc_user_info.specs.InfoAnswers.{reading};
+ghost use Rattle.oidc_user_info.specs.InfoAnswers.{readers};
 ghost use Rattle.oidc_user_info.specs.InfoRequests as spec;
 ghost use Rattle.oidc_user_info.specs.InfoRequests.{info_request};
 ghost use Rattle.oidc_user_info.specs.InfoRuns.{Exchanged, Ran, IsRequestBlamed};
@@ -227,7 +227,7 @@ impl<'a, JE: JweContentEncryptionAlgorithm, K: JsonWebKey> UserInfoRequest<'a, J
         ensures exchanged { let k = meanings K.JsonWebKey K.KeyUse.JsonWebKeyUse
             K.SigningAlgorithm.JwsSigningAlgorithm.own K.SigningAlgorithm.ClosedVocabulary
             K.SigningAlgorithm.KeyType.ClosedVocabulary in
-            let r = reading AC.read_of GC.read_of JE.from_str K.SigningAlgorithm.from_str k in
+            let r = readers AC.read_of GC.read_of JE.from_str K.SigningAlgorithm.from_str k in
             let before = known (C.log http.old) (C.script http.old) in
             let after = known (C.log http.new) (C.script http.new) in
             Exchanged r self.entry before after result }
@@ -259,7 +259,7 @@ impl<'a, JE: JweContentEncryptionAlgorithm, K: JsonWebKey> UserInfoRequest<'a, J
         ensures ran { let k = meanings K.JsonWebKey K.KeyUse.JsonWebKeyUse
             K.SigningAlgorithm.JwsSigningAlgorithm.own K.SigningAlgorithm.ClosedVocabulary
             K.SigningAlgorithm.KeyType.ClosedVocabulary in
-            let r = reading AC.read_of GC.read_of JE.from_str K.SigningAlgorithm.from_str k in
+            let r = readers AC.read_of GC.read_of JE.from_str K.SigningAlgorithm.from_str k in
             let before = known (C.log http.old) (C.script http.old) in
             let after = known (C.log http.new) (C.script http.new) in
             Ran r self.entry before after result }

@@ -3,6 +3,7 @@
 ghost use Rattle.std.specs.Prelude.{◌≡◌, Ok, IfOk, IfErr, false};
 ghost use Rattle.oidc_members.specs.Answers.{Answers};
 ghost use Rattle.oidc_members.specs.Write.{any_float};
+ghost use Rattle.oidc_tokens.specs.Header.{written_header};
 ghost use Rattle.oidc_tokens.specs.Tokens.{token_of};
 ghost use Rattle.oidc_tokens.specs.Issuing as issuing;
 ghost use Rattle.oidc_tokens.specs.Issuing.{Issues, IsRefusedBy, IsNamed};
@@ -90,6 +91,9 @@ impl<
         ensures header { let key_id = S.VerificationKey.key_id (S.verification_key key.now) in
             IfOk result (λ token. token.header ≡ issuing.signed_with alg key_id) }
         ensures claims { IfOk result (λ token. token.payload ≡ claims) }
+        ensures head { let key_id = S.VerificationKey.key_id (S.verification_key key.now) in
+            let header = written_header (JS.as_ref alg) key_id in
+            IfOk result (λ token. issuing.IsHeadedBy token.message header) }
         ensures signed { IfOk result (λ token.
             S.signs key.now alg token.message ≡ Ok token.signature) }
         ensures text { IfOk result (λ token.

@@ -3,6 +3,7 @@
 use crate::answers::ok_pair;
 use crate::case::{Case, CaseError};
 use crate::vocabularies::variant_name;
+use http::StatusCode;
 use oidc_claims::PlacedError;
 use oidc_keys::{HashError, SignatureVerificationError};
 use oidc_login::{BeginError, LoginError, NewLoginsError, TooLong};
@@ -13,7 +14,7 @@ use oidc_oauth2::{
 };
 use oidc_tokens::{ClaimsVerificationError, JsonWebTokenError};
 use oidc_types::{SigningError, UrlTextError};
-use oidc_user_info::BuildUrlError;
+use oidc_user_info::{BuildUrlError, InfoOther, PrepareInfoError, ResponseCause, UserInfoError};
 use std::alloc::Global;
 use std::fmt::{Debug, Display};
 
@@ -91,6 +92,16 @@ const REQUESTS: [PrepareError; 2] = [PrepareError::Uri, PrepareError::Memory];
 
 const TYPES: [UnexpectedType; 1] = [UnexpectedType];
 
+const RESPONSES: [ResponseCause; 2] = [ResponseCause::Status, ResponseCause::MediaType];
+
+const INFO_CAUSES: [InfoOther; 3] = [InfoOther::Bearer, InfoOther::Uri, InfoOther::Utf8];
+
+const INFO_REQUESTS: [PrepareInfoError; 3] = [
+    PrepareInfoError::Bearer,
+    PrepareInfoError::Uri,
+    PrepareInfoError::Memory,
+];
+
 /// `display`: what the value of a variant prints. A variant that holds something holds what stands in
 /// the lists above.
 pub(crate) fn display(alloc: Global, case: &Case) -> Result<String, CaseError> {
@@ -125,8 +136,33 @@ fn token_layer(alloc: Global, kind: &str, variant: &str) -> Result<String, CaseE
         "PrepareError" => one_of(alloc, &REQUESTS, variant),
         "RequestTokenError" => request_error(alloc, variant),
         "UnexpectedType" => one_of(alloc, &TYPES, variant),
+        kind => user_info(alloc, kind, variant),
+    }
+}
+
+// What the errors of user info print.
+fn user_info(alloc: Global, kind: &str, variant: &str) -> Result<String, CaseError> {
+    match kind {
+        "InfoOther" => one_of(alloc, &INFO_CAUSES, variant),
+        "PrepareInfoError" => one_of(alloc, &INFO_REQUESTS, variant),
+        "ResponseCause" => one_of(alloc, &RESPONSES, variant),
+        "UserInfoError" => user_info_error(alloc, variant),
         _ => Err(CaseError::NoCase),
     }
+}
+
+fn user_info_error(alloc: Global, variant: &str) -> Result<String, CaseError> {
+    let empty = Body::new(Vec::new(alloc));
+    let all: [UserInfoError<Fault>; 7] = [
+        UserInfoError::ClaimsVerification(ClaimsVerificationError::InvalidSubject),
+        UserInfoError::Parse(Refusal::of_text(alloc, ParseKind::Syntax)),
+        UserInfoError::Request(Fault),
+        UserInfoError::Response(StatusCode::UNAUTHORIZED, empty, ResponseCause::Status),
+        UserInfoError::Other(InfoOther::Utf8),
+        UserInfoError::TooLong(Body::new(Vec::new(alloc))),
+        UserInfoError::Memory,
+    ];
+    one_of(alloc, &all, variant)
 }
 
 fn request_error(alloc: Global, variant: &str) -> Result<String, CaseError> {

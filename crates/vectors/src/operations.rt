@@ -47,6 +47,7 @@ pub(crate) enum Operation {
     InfoClaims,
     InfoRequest,
     InfoAnswer,
+    InfoIssue,
     Authorize,
 }
 
@@ -89,6 +90,7 @@ pub(crate) fn operation_named(name: &str) -> Option<Operation>
         "info_claims" => Some(Operation::InfoClaims),
         "info_request" => Some(Operation::InfoRequest),
         "info_answer" => Some(Operation::InfoAnswer),
+        "info_issue" => Some(Operation::InfoIssue),
         "authorize" => Some(Operation::Authorize),
         _ => None,
     }
@@ -132,6 +134,7 @@ impl Operation {
             Operation::InfoClaims => user_info::info_claims(alloc, case),
             Operation::InfoRequest => user_info::info_request(alloc, case),
             Operation::InfoAnswer => user_info::info_answer(alloc, case),
+            Operation::InfoIssue => user_info::info_issue(alloc, case),
             Operation::Authorize => authorization::authorize(alloc, case),
         }
     }

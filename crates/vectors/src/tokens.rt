@@ -214,8 +214,8 @@ fn code_hash(
     }
 }
 
-// Why nothing was signed or hashed. No call of the product makes the last two.
-fn unsigned_line(alloc: Global, refusal: &SigningError) -> Result<String, CaseError> {
+/// Why nothing was signed or hashed. No call of the product makes the last two.
+pub(crate) fn unsigned_line(alloc: Global, refusal: &SigningError) -> Result<String, CaseError> {
     match refusal {
         SigningError::UnsupportedAlg(_) => refused_word(alloc, "unsupported_alg"),
         SigningError::Memory => Err(CaseError::Memory),

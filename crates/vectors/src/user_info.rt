@@ -1,28 +1,38 @@
-//! User info: its claims, the request for it, and what its answers are worth.
+//! User info: its claims, the request for it, what its answers are worth, and tokens of it that are issued.
 
 use crate::answers::{object, ok_form, ok_pair, refused_as, refused_word};
 use crate::case::{Case, CaseError};
 use crate::exchanges::{parse_line, request_line, response_in, url_of};
+use crate::keys::algorithm;
+use crate::tokens::unsigned_line;
 use crate::verifier_keys::VerifierKey;
 use crate::verifiers::keys_in;
 use crate::words::claims_word;
 use oidc_claims::{AdditionalClaims, AllOtherClaims};
-use oidc_keys::JsonWebKeySet;
+use oidc_keys::{CoreHmacKey, JsonWebKeySet};
 use oidc_oauth2::{Answer, Fault, Recorded};
 use oidc_pairs::FormText;
-use oidc_tokens::{ClaimsVerificationError, Payload, UserInfoVerifier};
+use oidc_tokens::{ClaimsVerificationError, JsonWebTokenError, Payload, UserInfoVerifier};
 use oidc_types::{
-    AccessToken, ClientId, CoreGenderClaim, CoreJweContentEncryptionAlgorithm, IssuerUrl,
-    SubjectIdentifier, UserInfoUrl,
+    AccessToken, ClientId, CoreGenderClaim, CoreJweContentEncryptionAlgorithm,
+    CoreJwsSigningAlgorithm, IssuerUrl, SubjectIdentifier, UserInfoUrl,
 };
 use oidc_user_info::{
-    InfoOther, PrepareInfoError, ResponseCause, UserInfoClaims, UserInfoError, UserInfoRequest,
-    UserInfoResponseType,
+    InfoOther, PrepareInfoError, ResponseCause, UserInfoClaims, UserInfoError,
+    UserInfoJsonWebToken, UserInfoRequest, UserInfoResponseType,
 };
 use std::alloc::{AllocError, Global};
 
 /// The claims of user info, all additional ones among them.
 type Claims = UserInfoClaims<AllOtherClaims, CoreGenderClaim>;
+
+/// A token of such claims.
+type Token = UserInfoJsonWebToken<
+    AllOtherClaims,
+    CoreGenderClaim,
+    CoreJweContentEncryptionAlgorithm,
+    CoreJwsSigningAlgorithm,
+>;
 
 type Verifier<'a> = UserInfoVerifier<'a, CoreJweContentEncryptionAlgorithm, VerifierKey>;
 
@@ -154,4 +164,28 @@ fn refused_line(alloc: Global, refusal: &UserInfoError<Fault>) -> Result<String,
 fn claims_refused(alloc: Global, kind: ClaimsVerificationError) -> Result<String, CaseError> {
     let words = format!(in alloc; "claims {}", claims_word(kind))?;
     refused_word(alloc, words.as_str())
+}
+
+// ---- tokens that are issued
+
+/// `info_issue`: the token of these claims, signed by a secret.
+pub(crate) fn info_issue(alloc: Global, case: &Case) -> Result<String, CaseError> {
+    case.check(&["claims", "secret", "alg"])?;
+    let alg = algorithm(case.value("alg"))?;
+    let claims = claims_of(alloc, case.value("claims"))?;
+    let key = CoreHmacKey::new(Vec::from_slice(alloc, case.value("secret").as_bytes())?);
+    match Token::new(alloc, claims, &key, alg) {
+        Ok(token) => ok_pair(alloc, "token", token.as_str()),
+        Err(JsonWebTokenError::SigningError(refusal)) => unsigned_line(alloc, &refusal),
+        Err(JsonWebTokenError::Memory) => Err(CaseError::Memory),
+    }
+}
+
+// The claims of a text that has to hold them.
+fn claims_of(alloc: Global, text: &str) -> Result<Claims, CaseError> {
+    match Claims::from_json::<Fault>(alloc, text.as_bytes(), None) {
+        Ok(claims) => Ok(claims),
+        Err(UserInfoError::Memory) => Err(CaseError::Memory),
+        Err(_) => Err(CaseError::NoCase),
+    }
 }

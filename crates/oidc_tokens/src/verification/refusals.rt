@@ -1,4 +1,4 @@
-// Why an ID token isn't accepted.
+// Why an ID token, or a user info answer that is a token, isn't accepted.
 
 use oidc_keys::SignatureVerificationError;
 use thiserror::Error;

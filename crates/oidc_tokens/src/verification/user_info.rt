@@ -46,8 +46,11 @@ impl<'a, JE, K: JsonWebKey> Model for UserInfoVerifier<'a, JE, K> {
 }
 
 /// Whether a subject is the expected one. It is, where none is expected.
-pub fn is_expected(expected: Option<&SubjectIdentifier>, subject: &SubjectIdentifier) -> bool
-    ensures expected { result ≡ spec.is_expected (option_copied expected.entry) subject.now }
+pub fn is_expected_subject(
+    expected: Option<&SubjectIdentifier>,
+    subject: &SubjectIdentifier,
+) -> bool
+    ensures expected { result ≡ spec.is_expected_subject (option_copied expected.entry) subject.now }
 {
     match expected {
         None => true,
@@ -171,7 +174,7 @@ impl<'a, JE, K: JsonWebKey> UserInfoVerifier<'a, JE, K> {
         token: &JsonWebToken<JE, K::SigningAlgorithm, P>,
         subject: &SubjectIdentifier,
     ) -> Result<(), ClaimsVerificationError>
-        ensures { let k = meanings K.JsonWebKey K.KeyUse.JsonWebKeyUse
+        ensures judged { let k = meanings K.JsonWebKey K.KeyUse.JsonWebKeyUse
             K.SigningAlgorithm.JwsSigningAlgorithm.own K.SigningAlgorithm.ClosedVocabulary
             K.SigningAlgorithm.KeyType.ClosedVocabulary in
             let said = token.now.payload in
@@ -190,7 +193,7 @@ impl<'a, JE, K: JsonWebKey> UserInfoVerifier<'a, JE, K> {
         }
         let keys = IdTokenVerifier::new_public_client(self.client_id, self.issuer, self.keys);
         keys.check_signature(token)?;
-        if !is_expected(self.expected_subject(), subject) {
+        if !is_expected_subject(self.expected_subject(), subject) {
             return Err(ClaimsVerificationError::InvalidSubject);
         }
         Ok(())

@@ -1,8 +1,9 @@
 //! Tests of oidc_user_info that no line of text can say: bodies that are no text, bodies and addresses at
 //! their limits, transports that fail, and additional claims of a caller's own.
 
-ghost use Rattle.std.specs.Prelude.{◌≡◌, map, option_and_then, slice_get};
+ghost use Rattle.std.specs.Prelude.{◌≡◌, codes, find, map, option_and_then};
 ghost use Rattle.std.specs.Option.{option_copied};
+ghost use Rattle.std.specs.Str.{bytes_eq};
 ghost use Rattle.serde_json.specs.Find.{as_str};
 ghost use Rattle.oidc_claims.specs.Additional.{out_of};
 
@@ -149,23 +150,33 @@ fn user_info_over_a_transport_in_memory(rt: HostRuntime) -> Result<(), Fail> {
 
 // ---- additional claims that have to be there
 
-// How a user signed in: the first additional member, whatever its name.
+// How a user signed in: the member `tfa_method`, wherever it stands.
 #[derive(Debug, Drop)]
 struct Method {
     name: FieldName,
 }
 
-// The text that the first member has.
-fn first_text(members: &[Member]) -> Option<&str>
-    ensures { option_copied result
-        ≡ option_and_then (λ m. as_str m.value) (slice_get (map out_of members.now) 0) }
+// The text of the first member of that name.
+fn method_in(members: &[Member]) -> Option<&str>
+    ensures { option_copied result ≡ option_and_then (λ m. as_str m.value)
+        (find (λ m. bytes_eq m.name (codes "tfa_method")) (map out_of members.now)) }
 {
-    members.first()?.value().as_str()
+    match members {
+        [] => None,
+        [first, later @ ..] => {
+            if first.name() == "tfa_method" {
+                first.value().as_str()
+            } else {
+                method_in(later)
+            }
+        }
+    }
 }
 
 impl AdditionalClaims for Method {
-    ghost use Rattle.std.specs.Prelude.{[], ◌∷◌, codes, map, option_map, option_and_then, slice_get};
+    ghost use Rattle.std.specs.Prelude.{[], ◌∷◌, codes, find, map, option_map, option_and_then};
     ghost use Rattle.std.specs.Option.{ok_or};
+    ghost use Rattle.std.specs.Str.{bytes_eq};
     ghost use Rattle.std.proofs.Common.{ap, refl};
     ghost use Rattle.serde_json.specs.Data.{string};
     ghost use Rattle.serde_json.specs.Find.{as_str};
@@ -174,7 +185,8 @@ impl AdditionalClaims for Method {
 
     ghost read_of = { λ members. ok_or
         (option_map (λ text. record { name = text })
-        (option_and_then (λ m. as_str m.value) (slice_get (map out_of members) 0)))
+        (option_and_then (λ m. as_str m.value)
+        (find (λ m. bytes_eq m.name (codes "tfa_method")) (map out_of members))))
         (record { kind = Additional; field = codes "tfa_method" }) };
 
     ghost write_of = { λ method.
@@ -182,13 +194,14 @@ impl AdditionalClaims for Method {
 
     ghost reads_back = { λ method members is. ap (λ outs. ok_or
         (option_map (λ text. record { name = text })
-        (option_and_then (λ m. as_str m.value) (slice_get outs 0)))
+        (option_and_then (λ m. as_str m.value)
+        (find (λ m. bytes_eq m.name (codes "tfa_method")) outs)))
         (record { kind = Additional; field = codes "tfa_method" })) is };
 
     ghost stays_additional = { λ _. refl };
 
     fn read(alloc: Global, members: &[Member]) -> Result<Method, ParseError> {
-        match first_text(members) {
+        match method_in(members) {
             Some(text) => {
                 let name = FieldName::new(String::from_str(alloc, text)?);
                 Ok(Method { name })
@@ -236,6 +249,12 @@ fn additional_claims_of_user_info_may_have_to_be_there(rt: HostRuntime) -> Resul
             r#"{"sub":"24400320","tfa_method":"u2f"}"#,
             r#"{"sub":"24400320","tfa_method":"u2f"}"#,
         ),
+        (
+            r#"{"x":"y","sub":"a","tfa_method":"u2f"}"#,
+            r#"{"sub":"a","tfa_method":"u2f"}"#,
+        ),
+        (r#"{"sub":"a","x":"y"}"#, "Additional tfa_method"),
+        (r#"{"sub":"a","tfa_method":1}"#, "Additional tfa_method"),
     ] {
         let line = claims_line(rt.alloc(), text)?;
         assert_eq!(rt; line.as_str(), want, "{text}");

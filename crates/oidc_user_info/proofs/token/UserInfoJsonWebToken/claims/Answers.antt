@@ -16,7 +16,7 @@ returns-in-Ok-clause-accepted g c =
     let said = token.payload in
     let subject : c.subject-subject.result.now ≡ said.standard_claims.subject = c.subject-subject.ensures ∙ ap (λ p. p.standard_claims.subject) c.unverified_payload.ensures.payload in
     subst (λ t. AcceptsInfo k c.args.verifier.now t (parties_of t.payload)) whole
-    (info_accepts k c.args.verifier.now token (parties_of said) (subst (λ s. first_info_failure k c.args.verifier.now token (parties said.issuer said.audiences s) ≡ None) subject c.in-Ok.ensures))
+    (info_accepts k c.args.verifier.now token (parties_of said) (subst (λ s. first_info_failure k c.args.verifier.now token (parties said.issuer said.audiences s) ≡ None) subject c.in-Ok.ensures.judged))
 
 pub returns-in-Err-clause-refused : goal.returns-in-Err-clause-refused
 returns-in-Err-clause-refused g c = λ accepts.
@@ -26,7 +26,7 @@ returns-in-Err-clause-refused g c = λ accepts.
     let said = token.payload in
     let subject : c.subject-subject.result.now ≡ said.standard_claims.subject = c.subject-subject.ensures ∙ ap (λ p. p.standard_claims.subject) c.unverified_payload.ensures.payload in
     memory_alone (Unit {0}) (first_info_failure k c.args.verifier.now token (parties_of said)) c.in-Err.refusal
-    (subst (λ s. Judges {C = Unit {0}} (first_info_failure k c.args.verifier.now token (parties said.issuer said.audiences s)) (Err c.in-Err.refusal)) subject c.in-Err.ensures)
+    (subst (λ s. Judges {C = Unit {0}} (first_info_failure k c.args.verifier.now token (parties said.issuer said.audiences s)) (Err c.in-Err.refusal)) subject c.in-Err.ensures.judged)
     (info_accepted k c.args.verifier.now token (parties_of said) (subst (λ t. AcceptsInfo k c.args.verifier.now t (parties_of t.payload)) (sym whole) accepts))
 
 pub returns-in-Err-clause-cause : goal.returns-in-Err-clause-cause
@@ -38,5 +38,5 @@ returns-in-Err-clause-cause g c =
     let subject : c.subject-subject.result.now ≡ said.standard_claims.subject = c.subject-subject.ensures ∙ ap (λ p. p.standard_claims.subject) c.unverified_payload.ensures.payload in
     subst (λ t. InfoCause k c.args.verifier.now t (parties_of t.payload) c.in-Err.refusal) whole
     (of_failure (Unit {0}) (InfoCause k c.args.verifier.now token (parties_of said)) (first_info_failure k c.args.verifier.now token (parties_of said)) c.in-Err.refusal
-    (subst (λ s. Judges {C = Unit {0}} (first_info_failure k c.args.verifier.now token (parties said.issuer said.audiences s)) (Err c.in-Err.refusal)) subject c.in-Err.ensures)
+    (subst (λ s. Judges {C = Unit {0}} (first_info_failure k c.args.verifier.now token (parties said.issuer said.audiences s)) (Err c.in-Err.refusal)) subject c.in-Err.ensures.judged)
     (λ e is. info_failure_cause k c.args.verifier.now token (parties_of said) e is) tt)
