@@ -53,59 +53,64 @@ struct EndpointUrls {
 /// A client of one provider: a confidential one, which has a secret, or a public one. Contracts see its values
 /// and its endpoints.
 ///
-/// The first eleven parameters say of which types its requests and answers are: the additional claims `AC` of
-/// ID tokens and user info, the displays `AD`, the genders `GC`, the content encryption `JE`, the keys `K`, the
-/// prompts `P`, the error response `TE`, the token response `TR`, the introspection response `TIR`, the tokens
-/// `RT` that may be revoked, and the error response `TRE` of that. Each of the last six says whether an
-/// endpoint is set: what needs the endpoint stands on the clients that have it.
+/// The first eleven parameters say of which types its requests and answers are: additional claims of ID tokens and
+/// user info, displays, genders, content encryption, keys, prompts; the error response and the token response of
+/// the token endpoint, the introspection response, the tokens that may be revoked, and the error response where
+/// they can't be. Each of the last six says whether an endpoint is set: what needs the endpoint stands on the
+/// clients that have it.
 ///
 /// It has no `Debug`, since it holds a secret.
 #[derive(Drop)]
 pub struct Client<
-    AC,
-    AD,
-    GC,
-    JE,
+    Additional,
+    Display,
+    Gender,
+    Encryption,
     K: JsonWebKey,
-    P,
-    TE,
-    TR,
-    TIR,
-    RT,
-    TRE,
-    HasAuthUrl: EndpointState,
-    HasDeviceAuthUrl: EndpointState,
-    HasIntrospectionUrl: EndpointState,
-    HasRevocationUrl: EndpointState,
-    HasTokenUrl: EndpointState,
-    HasUserInfoUrl: EndpointState,
+    Prompt,
+    Refused,
+    Tokens,
+    Introspected,
+    Revocable,
+    Unrevoked,
+    Auth: EndpointState,
+    Device: EndpointState,
+    Introspection: EndpointState,
+    Revocation: EndpointState,
+    Token: EndpointState,
+    UserInfo: EndpointState,
 > {
     own: OwnValues<K>,
     endpoints: EndpointUrls,
-    answers: PhantomData<(AC, AD, GC, JE, P, TE, TR, TIR, RT, TRE)>,
-    states: PhantomData<
+    answers: PhantomData<
         (
-            HasAuthUrl,
-            HasDeviceAuthUrl,
-            HasIntrospectionUrl,
-            HasRevocationUrl,
-            HasTokenUrl,
-            HasUserInfoUrl,
+            Additional,
+            Display,
+            Gender,
+            Encryption,
+            Prompt,
+            Refused,
+            Tokens,
+            Introspected,
+            Revocable,
+            Unrevoked,
         ),
     >,
+    states: PhantomData<(Auth, Device, Introspection, Revocation, Token, UserInfo)>,
 }
 
 /// A client of the program's own keys and vocabularies, without additional claims.
 pub type CoreClient<
-    HasAuthUrl = EndpointNotSet,
-    HasDeviceAuthUrl = EndpointNotSet,
-    HasIntrospectionUrl = EndpointNotSet,
-    HasRevocationUrl = EndpointNotSet,
-    HasTokenUrl = EndpointNotSet,
-    HasUserInfoUrl = EndpointNotSet,
+    Auth = EndpointNotSet,
+    Device = EndpointNotSet,
+    Introspection = EndpointNotSet,
+    Revocation = EndpointNotSet,
+    Token = EndpointNotSet,
+    UserInfo = EndpointNotSet,
 > = Client<
     EmptyAdditionalClaims,
     CoreAuthDisplay,
+    // The genders, the content encryption and the keys are the program's own.
     CoreGenderClaim,
     CoreJweContentEncryptionAlgorithm,
     CoreJsonWebKey,
@@ -115,51 +120,51 @@ pub type CoreClient<
     CoreTokenIntrospectionResponse,
     CoreRevocableToken,
     CoreRevocationErrorResponse,
-    HasAuthUrl,
-    HasDeviceAuthUrl,
-    HasIntrospectionUrl,
-    HasRevocationUrl,
-    HasTokenUrl,
-    HasUserInfoUrl,
+    Auth,
+    Device,
+    Introspection,
+    Revocation,
+    Token,
+    UserInfo,
 >;
 
 impl<
-    AC,
-    AD,
-    GC,
-    JE,
+    Additional,
+    Display,
+    Gender,
+    Encryption,
     K: JsonWebKey,
-    P,
-    TE,
-    TR,
-    TIR,
-    RT,
-    TRE,
-    HasAuthUrl: EndpointState,
-    HasDeviceAuthUrl: EndpointState,
-    HasIntrospectionUrl: EndpointState,
-    HasRevocationUrl: EndpointState,
-    HasTokenUrl: EndpointState,
-    HasUserInfoUrl: EndpointState,
+    Prompt,
+    Refused,
+    Tokens,
+    Introspected,
+    Revocable,
+    Unrevoked,
+    Auth: EndpointState,
+    Device: EndpointState,
+    Introspection: EndpointState,
+    Revocation: EndpointState,
+    Token: EndpointState,
+    UserInfo: EndpointState,
 > Model
     for Client<
-        AC,
-        AD,
-        GC,
-        JE,
+        Additional,
+        Display,
+        Gender,
+        Encryption,
         K,
-        P,
-        TE,
-        TR,
-        TIR,
-        RT,
-        TRE,
-        HasAuthUrl,
-        HasDeviceAuthUrl,
-        HasIntrospectionUrl,
-        HasRevocationUrl,
-        HasTokenUrl,
-        HasUserInfoUrl,
+        Prompt,
+        Refused,
+        Tokens,
+        Introspected,
+        Revocable,
+        Unrevoked,
+        Auth,
+        Device,
+        Introspection,
+        Revocation,
+        Token,
+        UserInfo,
     > {
     ghost use Rattle.std.specs.Prelude.{IsTrue, option_map};
     ghost use Rattle.oidc_client.specs.Client.{SeenClient, fits};
@@ -184,26 +189,38 @@ impl<
     } };
 
     // Each endpoint is set as its state says.
-    ghost invariant = { λ c. IsTrue (fits HasAuthUrl.REQUIRED c.endpoints.auth_uri)
-        × IsTrue (fits HasDeviceAuthUrl.REQUIRED c.endpoints.device_authorization_url)
-        × IsTrue (fits HasIntrospectionUrl.REQUIRED c.endpoints.introspection_url)
-        × IsTrue (fits HasRevocationUrl.REQUIRED c.endpoints.revocation_url)
-        × IsTrue (fits HasTokenUrl.REQUIRED c.endpoints.token_uri)
-        × IsTrue (fits HasUserInfoUrl.REQUIRED c.endpoints.user_info_url) };
+    ghost invariant = { λ c. IsTrue (fits Auth.REQUIRED c.endpoints.auth_uri)
+        × IsTrue (fits Device.REQUIRED c.endpoints.device_authorization_url)
+        × IsTrue (fits Introspection.REQUIRED c.endpoints.introspection_url)
+        × IsTrue (fits Revocation.REQUIRED c.endpoints.revocation_url)
+        × IsTrue (fits Token.REQUIRED c.endpoints.token_uri)
+        × IsTrue (fits UserInfo.REQUIRED c.endpoints.user_info_url) };
 }
 
-impl<AC, AD, GC, JE, K: JsonWebKey, P, TE, TR, TIR, RT, TRE> Client<
-    AC,
-    AD,
-    GC,
-    JE,
+impl<
+    Additional,
+    Display,
+    Gender,
+    Encryption,
+    K: JsonWebKey,
+    Prompt,
+    Refused,
+    Tokens,
+    Introspected,
+    Revocable,
+    Unrevoked,
+> Client<
+    Additional,
+    Display,
+    Gender,
+    Encryption,
     K,
-    P,
-    TE,
-    TR,
-    TIR,
-    RT,
-    TRE,
+    Prompt,
+    Refused,
+    Tokens,
+    Introspected,
+    Revocable,
+    Unrevoked,
     EndpointNotSet,
     EndpointNotSet,
     EndpointNotSet,
@@ -242,18 +259,30 @@ impl<AC, AD, GC, JE, K: JsonWebKey, P, TE, TR, TIR, RT, TRE> Client<
     }
 }
 
-impl<AC, AD, GC, JE, K: JsonWebKey, P, TE, TR, TIR, RT, TRE> Client<
-    AC,
-    AD,
-    GC,
-    JE,
+impl<
+    Additional,
+    Display,
+    Gender,
+    Encryption,
+    K: JsonWebKey,
+    Prompt,
+    Refused,
+    Tokens,
+    Introspected,
+    Revocable,
+    Unrevoked,
+> Client<
+    Additional,
+    Display,
+    Gender,
+    Encryption,
     K,
-    P,
-    TE,
-    TR,
-    TIR,
-    RT,
-    TRE,
+    Prompt,
+    Refused,
+    Tokens,
+    Introspected,
+    Revocable,
+    Unrevoked,
     EndpointSet,
     EndpointNotSet,
     EndpointNotSet,
