@@ -110,14 +110,16 @@ pub type CoreClient<
 > = Client<
     EmptyAdditionalClaims,
     CoreAuthDisplay,
-    // The genders, the content encryption and the keys are the program's own.
+    // Any text is a gender.
     CoreGenderClaim,
     CoreJweContentEncryptionAlgorithm,
+    // Symmetric keys.
     CoreJsonWebKey,
     CoreAuthPrompt,
     StandardErrorResponse<CoreErrorResponseType>,
     CoreTokenResponse,
     CoreTokenIntrospectionResponse,
+    // Access and refresh tokens.
     CoreRevocableToken,
     CoreRevocationErrorResponse,
     Auth,
