@@ -1,5 +1,5 @@
 -- State, nonce and redirect stand in an authorization URL once each.
-use Rattle.std.proofs.Common.{◌≡◌, ℕ, List, [], ◌∷◌, ◌++◌, All, Option, None, Some, refl, sym, ap, ◌∙◌, append-nil, lit<}
+use Rattle.std.proofs.Common.{◌≡◌, ℕ, List, [], ◌∷◌, ◌++◌, All, Option, Some, refl, ap, ◌∙◌, append-nil, lit<}
 use Rattle.std.specs.Prelude.{codes, unwrap_or, option_map}
 use Rattle.oidc_pairs.specs.Pairs.{pairs, values, values_in, IsTextPair}
 use Rattle.oidc_pairs.specs.Form.{form}

@@ -1,6 +1,6 @@
 -- What contracts see of a client of one provider (RFC 6749 section 2.2, OpenID Connect Core 1.0 section 2),
 -- and when its type is right about its endpoints.
-use Rattle.std.specs.Prelude.{◌≡◌, ℕ, List, [], Bool, true, false, Option, None, Some, option_map, IsTrue, codes}
+use Rattle.std.specs.Prelude.{◌≡◌, ℕ, List, [], Bool, true, false, Option, None, Some, option_map}
 use Rattle.url.specs.Parts.{serialize}
 use Rattle.oidc_types.specs.{TextAndUrl}
 use Rattle.oidc_types.specs.declared.endpoint.Presence.{Presence}
