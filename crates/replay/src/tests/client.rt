@@ -166,7 +166,10 @@ fn metadata_line(alloc: Global, has_token: bool) -> Result<String, Fail> {
 
 static CLIENTS: [(bool, &str); 2] = [
     (true, "https://example/token, no user info endpoint is set"),
-    (false, "no token endpoint is set, no user info endpoint is set"),
+    (
+        false,
+        "no token endpoint is set, no user info endpoint is set",
+    ),
 ];
 
 #[test]
