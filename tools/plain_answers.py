@@ -1,239 +1,55 @@
 #!/usr/bin/env python3
-"""Judges the answers of a provider, and answers the cases of crates/vectors of that: `run`, and those of
-the token layer.
+"""Judges the answers of a provider, and answers the cases of crates/vectors of that: scripts (`run`), and
+the operations of oidc_oauth2 but `challenge`.
 
-    tools/plain_answers.py answers   reads cases from standard input, and answers each: a line each
+    tools/plain_answers.py answers   reads cases from standard input, and answers each: a line each; a line of
+                                     an operation that isn't in OPERATIONS comes back as it came
     tools/plain_answers.py judge     the same, and says on standard error which line each script ends with
 
-It is a second reader of scripts beside oidc_cli, oidc_login and oidc_oauth2, over Python's json, hmac,
-hashlib, base64 and urllib.parse: RFC 6749 sections 2.3.1 and 4.1.2 to 5.2, RFC 6750 section 2.1, RFC 7009
-section 2.2.1, RFC 7636 section 4.2, RFC 7662 section 2.2, RFC 8628 sections 3.2 and 3.5, RFC 7515 section
-7.1, OpenID Connect Core 1.0 sections 3.1.2.1, 3.1.3.3 and 3.1.3.7. It takes URLs as they are written, so
-it is right where these are written as the URL Standard writes them.
+It is a second reader of scripts beside oidc_cli, oidc_login and oidc_oauth2, over Python's json, hashlib,
+base64 and urllib.parse: RFC 6749 sections 2.3.1 and 4.1.2 to 5.2, RFC 6750 section 2.1, RFC 7009 section
+2.2.1, RFC 7636 section 4.2, RFC 7662 section 2.2, RFC 8628 sections 3.2 and 3.5, OpenID Connect Core 1.0
+sections 3.1.2.1 and 3.1.3.3. ID tokens are read and judged by plain_tokens.py. It takes URLs as they are
+written, so it is right where these are written as the URL Standard writes them, and it judges neither the URLs
+nor the algorithms of a script's client line.
 """
 import base64
 import hashlib
-import hmac
-import json
 import re
 import sys
-from urllib.parse import quote_plus, unquote_to_bytes
+
+import plain_tokens as tokens
+from plain_records import (
+    ERROR, NoCase, answer_by, answer_of, cut_scopes, escaped, flag_fault, form, has_essence, members_of,
+    moment_fault, ok, pairs, read_case, record, text_fault, text_or_texts_fault, there, token_type_of, tokens_in,
+    url_fault, values, whole_fault,
+)
 
 LONGEST_ADDRESS = 65_534
-LONGEST_BODY = 1_048_576
-MOMENTS = range(-377_705_023_201, 253_402_207_201)
 
-# ---- form texts
+# ---- sign-ins
 
 
-def pairs(text):
-    """The pairs of a form text (URL Standard section 5.1)."""
-    def read(part):
-        return unquote_to_bytes(part.replace(b"+", b" ")).decode("utf-8", "replace")
-    cut = [piece.partition(b"=") for piece in text.encode().split(b"&") if piece]
-    return [(read(name), read(value)) for name, _, value in cut]
+def verifier_of(client):
+    """The client of a script as a judge of tokens, whose issuer has no keys of its own."""
+    algs = client["algs"].split(" ") if client["algs"] else []
+    return {"id": client["id"], "issuer": client["issuer"], "secret": client.get("secret"), "algs": algs, "keys": []}
 
 
-def values(query, name):
-    return [value for key, value in query if key == name]
-
-
-def escaped(text):
-    return quote_plus(text, safe="*-._").replace("~", "%7E")
-
-
-def form(of):
-    return "&".join(escaped(name) + "=" + escaped(value) for name, value in of)
-
-
-# ---- JSON
-
-
-class Refused(Exception):
-    """A text that doesn't read: the kind of the refusal, and the field."""
-
-    def __init__(self, kind, field=""):
-        super().__init__(kind, field)
-        self.words = "parse " + form([("kind", kind), ("field", field)])
-
-
-def members(text):
-    """The members of an object, in their order."""
-    floats = []
-
-    def number(digits):
-        if digits == "-0" or not -(2**63) <= int(digits) < 2**64:
-            floats.append(digits)
-        return int(digits)
-
-    def constant(word):
-        raise ValueError(word)
-    try:
-        read = json.loads(text.decode("utf-8"), object_pairs_hook=lambda of: ("object", of),
-                          parse_float=floats.append, parse_int=number, parse_constant=constant)
-    except (ValueError, RecursionError):
-        raise Refused("syntax") from None
-    if not isinstance(read, tuple):
-        raise Refused("syntax")
-    if floats:
-        raise Refused("number")
-    return read[1]
-
-
-def is_text(value):
-    return isinstance(value, str)
-
-
-def is_number(value):
-    return isinstance(value, int) and not isinstance(value, bool)
-
-
-# What a value is refused for, where it isn't of a kind.
-
-
-def unless(is_kind):
-    return lambda value: None if is_kind(value) else "type"
-
-
-def url_fault(value):
-    if not is_text(value):
-        return "type"
-    return None if re.match("[A-Za-z][A-Za-z0-9+.-]*:", value) else "url"
-
-
-def moment_fault(value):
-    if not is_number(value):
-        return "type"
-    return None if value in MOMENTS else "moment"
-
-
-TEXT = unless(is_text)
-FLAG = unless(lambda value: isinstance(value, bool))
-WHOLE = unless(lambda value: is_number(value) and value >= 0)
-TEXT_OR_TEXTS = unless(lambda value: is_text(value) or isinstance(value, list) and all(map(is_text, value)))
-
-
-def record(of, fields, also=None):
-    """The fields of a record: the first faulty member refuses, then the first that is missing. `also` has
-    further names of fields."""
-    found = {}
-    kinds = {field: (fault, is_required) for field, fault, is_required in fields}
-    for name, value in of:
-        field = (also or {}).get(name, name)
-        if field not in kinds:
-            continue
-        fault, is_required = kinds[field]
-        if field in found:
-            raise Refused("duplicate", name)
-        if (value is not None or is_required) and fault(value):
-            raise Refused(fault(value), name)
-        found[field] = value
-    for field, _, is_required in fields:
-        if is_required and field not in found:
-            raise Refused("missing", field)
-    return found
-
-
-ERROR = [("error", TEXT, True), ("error_description", TEXT, False), ("error_uri", TEXT, False)]
-TOKENS = [("access_token", TEXT, True), ("token_type", TEXT, True), ("expires_in", WHOLE, False),
-          ("refresh_token", TEXT, False), ("scope", TEXT, False)]
-ID_TOKEN = [("id_token", TEXT, False)]
-DEVICE = [("device_code", TEXT, True), ("user_code", TEXT, True), ("verification_uri", url_fault, True),
-          ("expires_in", WHOLE, True), ("verification_uri_complete", TEXT, False), ("interval", WHOLE, False)]
-INTROSPECTION = [("active", FLAG, True), ("scope", TEXT, False), ("client_id", TEXT, False),
-                 ("username", TEXT, False), ("token_type", TEXT, False), ("sub", TEXT, False),
-                 ("iss", TEXT, False), ("jti", TEXT, False), ("exp", moment_fault, False),
-                 ("nbf", moment_fault, False), ("iat", moment_fault, False), ("aud", TEXT_OR_TEXTS, False)]
-
-# ---- the answer to a token request
-
-
-def has_essence(value, expected):
-    """Whether the bytes of a header's value have this essence of a media type."""
-    is_plain = all(byte == 9 or 32 <= byte <= 126 for byte in value)
-    return is_plain and value.partition(b";")[0].strip(b" \t").lower() == expected.encode().lower()
-
-
-def tokens_in(status, content_type, body, further=()):
-    """The tokens of an answer, or the words of its refusal."""
-    if len(body) > LONGEST_BODY:
-        return None, "too_long token_answer"
-    try:
-        if status != 200:
-            if not body:
-                return None, "token empty_body"
-            return None, "token server " + escaped(record(members(body), ERROR)["error"])
-        if content_type is not None and not has_essence(content_type.encode(), "application/json"):
-            return None, "token media_type"
-        if not body:
-            return None, "token empty_body"
-        of = members(body)
-        return {**record(of, TOKENS), **record(of, further)}, None
-    except Refused as refused:
-        return None, "token " + refused.words
-
-
-# ---- ID tokens
-
-HASHES = {"HS256": hashlib.sha256, "HS384": hashlib.sha384, "HS512": hashlib.sha512}
-CLAIMS = ["iss", "aud", "exp", "iat", "nonce", "sub"]
-
-
-def decoded(part):
-    """Strict base64url without padding."""
-    read = base64.urlsafe_b64decode(part + "=" * (-len(part) % 4))
-    if base64.urlsafe_b64encode(read).rstrip(b"=").decode() != part:
-        raise ValueError(part)
-    return read
-
-
-def plain_token(text):
-    """Claims, algorithm, message and signature of a token that is plain."""
-    try:
-        header, payload, signature = text.split(".")
-        alg = members(decoded(header))
-        claims = members(decoded(payload))
-        signed = decoded(signature)
-    except (ValueError, Refused):
-        return None
-    found = dict(claims)
-    plain = (len(alg) == 1 and alg[0][0] == "alg" and alg[0][1] in HASHES
-             and len(claims) == 6 and set(found) == set(CLAIMS)
-             and is_text(found["iss"]) and "://" in found["iss"]
-             and isinstance(found["aud"], list) and all(map(is_text, found["aud"]))
-             and all(type(found[name]) is int and found[name] in MOMENTS for name in ("exp", "iat"))
-             and (found["nonce"] is None or is_text(found["nonce"])) and is_text(found["sub"]))
-    return (found, alg[0][1], header + "." + payload, signed) if plain else None
-
-
-def first_failure(client, nonce, now, token):
-    claims, alg, message, signature = token
-    made = hmac.new(client["secret"].encode(), message.encode(), HASHES[alg]).digest()
-    checks = [("invalid_issuer", claims["iss"] == client["issuer"]),
-              ("invalid_audience", set(claims["aud"]) == {client["id"]}),
-              ("disallowed_alg", alg in client["algs"].split(" ")),
-              ("crypto_error", made == signature),
-              ("expired", now < claims["exp"]),
-              ("invalid_nonce", claims["nonce"] == nonce)]
-    return next((kind for kind, passes in checks if not passes), None)
-
-
-def signed_in(client, nonce, now, tokens):
-    """The verdict on tokens."""
-    if tokens.get("id_token") is None:
+def signed_in(client, nonce, now, found):
+    """The verdict on the fields of a token response."""
+    if found.get("id_token") is None:
         return "refused no_id_token"
-    token = plain_token(tokens["id_token"])
-    if token is None:
-        return "refused unbuilt"
-    failure = first_failure(client, nonce, now, token)
+    token = tokens.token_of(found["id_token"])
+    failure = tokens.first_failure(verifier_of(client), nonce, now, token)
     if failure:
         return "refused claims " + failure
-    claims = {name: token[0][name] for name in CLAIMS if token[0][name] is not None}
-    shown = [("access_token", tokens["access_token"])]
-    if tokens.get("refresh_token") is not None:
-        shown.append(("refresh_token", tokens["refresh_token"]))
-    shown.append(("claims", json.dumps(claims, separators=(",", ":"), ensure_ascii=False)))
-    return "ok " + form(shown)
+    if not tokens.fits_hash(token, found["access_token"]):
+        return "refused token_hash"
+    shown = [("access_token", found["access_token"])]
+    if found.get("refresh_token") is not None:
+        shown.append(("refresh_token", found["refresh_token"]))
+    return "ok " + form(shown + [("claims", tokens.written(token.members))])
 
 
 # ---- lines of a script
@@ -248,19 +64,6 @@ def fields(line, required, optional=frozenset()):
     if len(found) != len(of) or not required <= set(found) <= required | optional:
         return None
     return found
-
-
-def answer_of(line):
-    """What the provider answers: `ok` and a response, or a fault; None where the line can't be."""
-    if "token_status" not in line:
-        wrong = "token_type" in line or "token_body" in line or line.get("token_fault", "1") != "1"
-        return None if wrong else ("fault", None)
-    status, kind = line["token_status"], line.get("token_type")
-    if "token_fault" in line or not re.fullmatch("[1-9][0-9]{2}", status):
-        return None
-    if kind is not None and not all(byte == 9 or 32 <= byte <= 126 for byte in kind.encode()):
-        return None
-    return ("ok", (int(status), kind, line.get("token_body", "").encode()))
 
 
 def request_pairs(address, client, is_basic, own, later=()):
@@ -308,8 +111,8 @@ def callback_lines(client, logins, line, answer):
     sent = request_line(client, code[0], login["verifier"])
     if answer[0] == "fault":
         return [sent, "callback refused token request"]
-    tokens, refusal = tokens_in(*answer[1], ID_TOKEN)
-    verdict = "refused " + refusal if refusal else signed_in(client, login["nonce"], int(line["now"]), tokens)
+    found, refusal = tokens_in(*answer[1], tokens.ID_TOKEN)
+    verdict = "refused " + refusal if refusal else signed_in(client, login["nonce"], int(line["now"]), found)
     return [sent, "callback " + verdict]
 
 
@@ -332,7 +135,7 @@ def step_lines(client, logins, line):
         if callback is None or not re.fullmatch("-?[0-9]+", callback["now"]):
             return None
         answer = answer_of(callback)
-        if answer is None or int(callback["now"]) not in MOMENTS:
+        if answer is None or moment_fault(int(callback["now"])):
             return None
         return callback_lines(client, logins, callback, answer)
     return None
@@ -342,7 +145,7 @@ def report(script):
     """Status and report of a script whose URLs are written as the URL Standard writes them."""
     lines = script.split("\n")
     lines = lines[:-1] if lines[-1] == "" else lines
-    client = fields(lines[0], {"op", "id", "secret", "issuer", "auth", "token", "algs"}) if lines else None
+    client = fields(lines[0], {"op", "id", "issuer", "auth", "token", "algs"}, {"secret"}) if lines else None
     if client is None or not lines[0].startswith("op=client"):
         return 3, "script fault line 1\n"
     out, logins = ["client ok"], {}
@@ -356,54 +159,18 @@ def report(script):
 
 # ---- cases of the token layer
 
-
-class NoCase(Exception):
-    """A line that is no case."""
-
-
-def ok(of=()):
-    return "ok " + form(of) if of else "ok"
-
-
-def read_case(line, required, optional=frozenset(), repeated=None):
-    """The values of a case by their names, and the list of those of the name that may repeat."""
-    of = pairs(line)
-    once = [(name, value) for name, value in of[1:] if name != repeated]
-    found = dict(once)
-    if len(found) != len(once) or not required <= set(found) <= required | optional:
-        raise NoCase
-    return found, values(of[1:], repeated)
+DEVICE = [("device_code", text_fault, True), ("user_code", text_fault, True), ("verification_uri", url_fault, True),
+          ("expires_in", whole_fault, True), ("verification_uri_complete", text_fault, False),
+          ("interval", whole_fault, False)]
+INTROSPECTION = [("active", flag_fault, True), ("scope", text_fault, False), ("client_id", text_fault, False),
+                 ("username", text_fault, False), ("token_type", text_fault, False), ("sub", text_fault, False),
+                 ("iss", text_fault, False), ("jti", text_fault, False), ("exp", moment_fault, False),
+                 ("nbf", moment_fault, False), ("iat", moment_fault, False), ("aud", text_or_texts_fault, False)]
 
 
 def record_of(line, fields, also=None):
     found, _ = read_case(line, {"text"})
-    return record(members(found["text"].encode()), fields, also)
-
-
-def there(found, names):
-    """A pair for each of these fields that is there."""
-    return [(name, found[name]) for name in names if found.get(name) is not None]
-
-
-def cut_scopes(found):
-    return [("scopes", found["scope"].replace(" ", "\n"))] if found.get("scope") is not None else []
-
-
-def token_type_of(text):
-    """A type of tokens, whose letters count in either case, if they are of ASCII."""
-    return text.encode().lower().decode()
-
-
-def written_tokens(found):
-    found = {**found, "token_type": token_type_of(found["token_type"])}
-    shown = dict(there(found, [field for field, _, _ in TOKENS]))
-    return json.dumps(shown, separators=(",", ":"), ensure_ascii=False)
-
-
-def token_response(line):
-    found = record_of(line, TOKENS)
-    span = [("expires_in", str(value)) for _, value in there(found, ["expires_in"])]
-    return ok([("written", written_tokens(found))] + span + cut_scopes(found))
+    return record(members_of(found["text"].encode()), fields, also)
 
 
 CORE_ERRORS = ["invalid_client", "invalid_grant", "invalid_request", "invalid_scope", "unauthorized_client",
@@ -479,50 +246,27 @@ def code_request(line):
     return "ok " + request_pairs(found["endpoint"], found, found["auth"] == "basic", own, later)
 
 
-def token_answer(line):
-    found, _ = read_case(line, {"status", "body"}, {"type"})
-    answer = answer_of({"token_" + name: value for name, value in found.items()})
-    if answer is None:
-        raise NoCase
-    tokens, refusal = tokens_in(*answer[1])
-    if refusal:
-        return "refused " + refusal.removeprefix("token ").removesuffix(" token_answer")
-    return ok([("written", written_tokens(tokens))])
-
-
 def run(line):
-    status, text = report(values(pairs(line), "script")[0])
+    status, text = report(read_case(line, {"script"})[0]["script"])
     if sys.argv[1] == "judge":
         print(text.split("\n")[-3:-1], file=sys.stderr)
     return ok([("status", str(status)), ("report", text)])
 
 
-OPERATIONS = {"run": run, "token_response": token_response, "device_response": device_response,
+OPERATIONS = {"run": run, "token_response": tokens.token_response, "device_response": device_response,
               "error_response": error_answer(CORE_ERRORS, "Extension"),
               "device_error": error_answer(DEVICE_ERRORS, "Basic"),
               "revocation_error": error_answer(REVOCATION_ERRORS, "Basic"),
               "introspection": introspection, "token_type": token_type, "essence": essence, "bearer": bearer,
-              "code_request": code_request, "token_answer": token_answer}
-
-
-def answer_line(line):
-    """The answer of a case of one of these operations; any other line as it came."""
-    operation = OPERATIONS.get(re.split("[=&]", line + "=")[1]) if line.startswith("op=") else None
-    if operation is None:
-        return line
-    try:
-        return operation(line)
-    except NoCase:
-        return "no case"
-    except Refused as refused:
-        return "refused " + refused.words.removeprefix("parse ")
+              "code_request": code_request, "token_answer": tokens.token_answer}
 
 
 def main():
     if sys.argv[1:] not in (["answers"], ["judge"]):
         sys.exit(__doc__)
     for case in sys.stdin.read().split("\n")[:-1]:
-        print(answer_line(case))
+        print(answer_by(OPERATIONS, case))
 
 
-main()
+if __name__ == "__main__":
+    main()

@@ -31,6 +31,8 @@ there_was_memory login.Callback memory fact = fact
 there_was_memory (login.Token e) memory fact = fact
 there_was_memory login.NoIdToken memory fact = fact
 there_was_memory (login.Claims kind) memory fact = fact
+there_was_memory (login.Signing refusal) memory fact = fact
+there_was_memory login.TokenHash memory fact = fact
 there_was_memory (login.Memory spent) memory fact = absurd (memory spent refl)
 
 module _ {E : Type 0} (a : Attempt) (old new : Known) (result : Result SeenSignedIn (LoginError E)) (ran : Ran a old new result) (script : List SeenAnswer) where

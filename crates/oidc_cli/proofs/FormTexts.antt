@@ -7,7 +7,7 @@ use Rattle.oidc_members.specs.Write.{object_text}
 use Rattle.oidc_oauth2.specs.Messages.{SeenRequest}
 use Rattle.oidc_members.specs.declared.refusal.Refusal.{Refusal}
 use Rattle.oidc_login.specs.SignedIn.{SeenSignedIn}
-use Rattle.oidc_login.specs.Claims.{written}
+use Rattle.oidc_login.specs.IdTokens.{written}
 use Rattle.oidc_cli.specs.ReportLines.{behind}
 use Rattle.oidc_cli.specs.ReportLines.{header_pair, body_pair, request_line, refresh_pair, kind_word, parse_words, verdict_line}
 
@@ -58,14 +58,14 @@ chained w s r c l = simp append_assoc
 pub signed_text : (signed : SeenSignedIn) (t1 t2 t3 t4 : List ℕ)
     → t1 ≡ codes "callback ok " ++ serialize_pair (codes "access_token", signed.access_token)
     → t2 ≡ t1 ++ behind (refresh_pair signed.refresh_token)
-    → t3 ≡ t2 ++ behind ((codes "claims", object_text (written signed.id_token.claims)) ∷ [])
+    → t3 ≡ t2 ++ behind ((codes "claims", object_text (written signed.id_token.payload)) ∷ [])
     → t4 ≡ t3 ++ 10 ∷ []
     → t4 ≡ verdict_line (Ok signed)
 unfolding verdict_line
 signed_text signed t1 t2 t3 t4 e1 e2 e3 e4 =
     let a : List ℕ × List ℕ = (codes "access_token", signed.access_token) in
     let r = refresh_pair signed.refresh_token in
-    let c : List (List ℕ × List ℕ) = (codes "claims", object_text (written signed.id_token.claims)) ∷ [] in
+    let c : List (List ℕ × List ℕ) = (codes "claims", object_text (written signed.id_token.payload)) ∷ [] in
     rw (e4, e3, e2, e1)
     (chained (codes "callback ok ") (serialize_pair a) (behind r) (behind c) (10 ∷ [])
     ∙ ap (λ t. (codes "callback ok " ++ t) ++ 10 ∷ []) (sym (form_first a (r ++ c) ∙ ap (λ t. serialize_pair a ++ t) (behind-append r c))))

@@ -1,14 +1,14 @@
 -- What the lines of a script say.
-use Rattle.std.specs.Prelude.{ℕ, ℤ, List}
+use Rattle.std.specs.Prelude.{ℕ, ℤ, List, Option}
 use Rattle.oidc_oauth2.specs.Messages.{SeenAnswer}
 use Rattle.oidc_types.specs.{TextAndUrl}
 use Rattle.oidc_types.specs.declared.core_algorithms.CoreJwsSigningAlgorithm.{CoreJwsSigningAlgorithm}
 
--- a client line: the client's ID and secret, its provider's issuer and two endpoints, and the signing
--- algorithms that it allows
+-- a client line: the client's ID, and its secret where it has one; its provider's issuer and two endpoints,
+-- and the signing algorithms that it allows
 pub record SeenClientLine : Type 0 where
   pub id : List ℕ
-  pub secret : List ℕ
+  pub secret : Option (List ℕ)
   pub issuer : TextAndUrl
   pub auth : TextAndUrl
   pub token : TextAndUrl

@@ -19,12 +19,13 @@ use Rattle.oidc_cli.specs.declared.report.Ending.TheVariants as ending
 
 -- ---- events
 
--- the client of a client line
+-- the client of a client line; nothing is known of its provider's keys
 abbrev pub client_of : SeenClientLine → SeenClient
 client_of line = record {
   client_id = line.id;
   client_secret = line.secret;
   issuer = line.issuer;
+  keys = [];
   auth_uri = line.auth;
   token_endpoint = Some line.token;
   algorithms = line.algorithms;

@@ -12,8 +12,8 @@ use Rattle.oidc_members.specs.declared.refusal.ParseKind.TheVariants as parse_ki
 use Rattle.oidc_members.specs.Write.{object_text}
 use Rattle.oidc_keys.specs.declared.refusals.SignatureVerificationError.{SignatureVerificationError}
 use Rattle.oidc_keys.specs.declared.refusals.SignatureVerificationError.TheVariants as signature
-use Rattle.oidc_login.specs.declared.tokens.verification.ClaimsVerificationError.{ClaimsVerificationError}
-use Rattle.oidc_login.specs.declared.tokens.verification.ClaimsVerificationError.TheVariants.{InvalidIssuer, InvalidAudience, SignatureVerification, Expired, InvalidNonce}
+use Rattle.oidc_tokens.specs.declared.verification.refusals.ClaimsVerificationError.{ClaimsVerificationError}
+use Rattle.oidc_tokens.specs.declared.verification.refusals.ClaimsVerificationError.TheVariants as check
 use Rattle.oidc_login.specs.declared.errors.BeginError.{BeginError}
 use Rattle.oidc_login.specs.declared.errors.BeginError.TheVariants as begin
 use Rattle.oidc_login.specs.declared.errors.TooLong.TheVariants as place
@@ -26,7 +26,7 @@ use Rattle.oidc_login.specs.TokenResponse.{TokenError}
 use Rattle.oidc_login.specs.Errors.{Error}
 use Rattle.oidc_login.specs.Logins.{Pending}
 use Rattle.oidc_login.specs.SignedIn.{SeenSignedIn}
-use Rattle.oidc_login.specs.Claims.{written}
+use Rattle.oidc_login.specs.IdTokens.{written}
 use Rattle.oidc_login.specs.Rows.{Run}
 
 -- each line ends in a line feed
@@ -79,11 +79,11 @@ abbrev pub signed_list : SeenSignedIn → List (List ℕ × List ℕ)
 signed_list signed =
     (codes "access_token", signed.access_token)
     ∷ refresh_pair signed.refresh_token
-    ++ (codes "claims", object_text (written signed.id_token.claims))
+    ++ (codes "claims", object_text (written signed.id_token.payload))
     ∷ []
 
 -- No key's verdict on a signature is want of memory: that is a law of keys. So `Memory` never stands in a
--- verdict, and has no word here.
+-- refusal, neither here nor below, and has no word.
 abbrev pub signature_word : SignatureVerificationError → List ℕ
 signature_word signature.AmbiguousKeyId = codes "ambiguous_key"
 signature_word signature.CryptoError = codes "crypto_error"
@@ -95,11 +95,14 @@ signature_word signature.UnsupportedAlg = codes "unsupported_alg"
 signature_word signature.Memory = []
 
 abbrev pub claims_word : ClaimsVerificationError → List ℕ
-claims_word InvalidIssuer = codes "invalid_issuer"
-claims_word InvalidAudience = codes "invalid_audience"
-claims_word (SignatureVerification kind) = signature_word kind
-claims_word Expired = codes "expired"
-claims_word InvalidNonce = codes "invalid_nonce"
+claims_word check.Unsupported = codes "unsupported"
+claims_word check.InvalidIssuer = codes "invalid_issuer"
+claims_word check.InvalidAudience = codes "invalid_audience"
+claims_word (check.SignatureVerification kind) = signature_word kind
+claims_word check.Expired = codes "expired"
+claims_word check.InvalidNonce = codes "invalid_nonce"
+claims_word check.InvalidSubject = codes "invalid_subject"
+claims_word check.Memory = []
 
 abbrev pub kind_word : ParseKind → List ℕ
 kind_word parse_kind.Syntax = codes "syntax"
@@ -129,7 +132,8 @@ token_words (token_error.Other other.MediaType) = codes "media_type"
 token_words (token_error.TooLong body) = []
 token_words token_error.Memory = []
 
--- No callback means want of memory, and so it has no line here.
+-- No callback means want of memory, and so it has no line here. A hash is refused for one cause alone: that
+-- none goes with the algorithm.
 unfoldable pub verdict_line : Result SeenSignedIn Error → List ℕ
 verdict_line (Ok signed) = line_of (codes "callback ok " ++ form (signed_list signed))
 verdict_line (Err (login.TooLong place.TokenAnswer)) = line_of (codes "callback refused too_long token_answer")
@@ -139,6 +143,8 @@ verdict_line (Err login.Unbuilt) = line_of (codes "callback refused unbuilt")
 verdict_line (Err (login.Token e)) = line_of (codes "callback refused token " ++ token_words e)
 verdict_line (Err login.NoIdToken) = line_of (codes "callback refused no_id_token")
 verdict_line (Err (login.Claims kind)) = line_of (codes "callback refused claims " ++ claims_word kind)
+verdict_line (Err (login.Signing refusal)) = line_of (codes "callback refused signing unsupported_alg")
+verdict_line (Err login.TokenHash) = line_of (codes "callback refused token_hash")
 verdict_line (Err (login.Memory spent)) = []
 
 -- the requests that a callback sends, in their order, and its verdict

@@ -28,13 +28,14 @@ lines script = lines_of_parts (slice_split (λ b. b == 10) script)
 
 -- ---- events
 
--- A client line and a begin line have their names beside `op`. As many pairs as names, and exactly one pair of each name:
--- so each stands once, in any order, and there is no other name and no second `op`.
+-- A client line and a begin line have their names beside `op`; a client line may lack `secret`. As many pairs as
+-- names, and exactly one pair of each name: so each stands once, in any order, and there is no other name and
+-- no second `op`.
 
 abbrev pub client_values : List (List ℕ × List ℕ) → Option SeenClientLine
 client_values line = do
   id ← pair_text line (codes "id")
-  secret ← pair_text line (codes "secret")
+  secret ← optional_value Some line (codes "secret")
   issuer ← pair_value url_of_text line (codes "issuer")
   auth ← pair_value url_of_text line (codes "auth")
   token ← pair_value url_of_text line (codes "token")
@@ -55,8 +56,12 @@ begin_values line = do
   verifier ← pair_text line (codes "verifier")
   Some (record { state = state; nonce = nonce; verifier = verifier })
 
+-- how many pairs a client line has: `op`, six others, and one less where `secret` isn't there
+abbrev pub client_pairs : List (List ℕ × List ℕ) → ℕ
+client_pairs line = if lacks line (codes "secret") then 6 else 7
+
 unfoldable pub client_event_of : List (List ℕ × List ℕ) → Option SeenClientLine
-client_event_of line = if length line == 7 then client_values line else None
+client_event_of line = if length line == client_pairs line then client_values line else None
 
 unfoldable pub begin_event_of : List (List ℕ × List ℕ) → Option SeenBeginLine
 begin_event_of line = if length line == 4 then begin_values line else None

@@ -12,7 +12,7 @@ use std::marker::Model;
 #[derive(Drop)]
 pub struct ClientLine {
     pub id: ClientId,
-    pub secret: ClientSecret,
+    pub secret: Option<ClientSecret>,
     pub issuer: IssuerUrl,
     pub auth: AuthUrl,
     pub token: TokenUrl,

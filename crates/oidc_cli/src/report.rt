@@ -16,6 +16,7 @@ use crate::reading::LIMIT;
 use crate::report_lines::{begin_line, fault_line, pending_line, request_line, verdict_line};
 use crate::script::{first_line, read_line};
 use crate::{Failed, Sink};
+use oidc_keys::CoreJsonWebKeySet;
 use oidc_login::client::Client;
 use oidc_login::client::authorization::AuthorizationRequest;
 use oidc_login::errors::{BeginError, LoginError};
@@ -79,7 +80,7 @@ fn client_line_of(event: Option<Event>) -> Option<ClientLine>
 }
 
 // The client of a client line.
-fn client_of(line: ClientLine) -> Client
+fn client_of(alloc: Global, line: ClientLine) -> Client
     ensures { result ≡ client_seen line }
 {
     let ClientLine {
@@ -90,7 +91,8 @@ fn client_of(line: ClientLine) -> Client
         token,
         algorithms,
     } = line;
-    Client::new(id, secret, issuer, auth, algorithms).set_token_uri(token)
+    let keys = CoreJsonWebKeySet::new(Vec::new(alloc));
+    Client::new(id, secret, issuer, keys, auth, algorithms).set_token_uri(token)
 }
 
 // ---- begins
@@ -246,9 +248,9 @@ fn put_callback<O: Sink>(
     ensures blamed { IsErrOf result Halt.Sink → HasRisen (O.faults sink.old) (O.faults sink.new) }
     ensures counts { O.faults sink.old ≤ O.faults sink.new }
 {
+    // What came is large: it is let go once, and not on each way out.
     let replied = call_back(alloc, logins, line)?;
-    put_replied(alloc, &replied, sink)?;
-    Ok(())
+    put_replied(alloc, &replied, sink)
 }
 
 // ---- the report
@@ -388,7 +390,7 @@ pub fn put_report<O: Sink>(alloc: Global, script: &[u8], sink: &mut O) -> Result
     let Some(client) = client_line_of(read_line(alloc, line)?) else {
         return put_fault(alloc, 1, sink);
     };
-    let client = client_of(client);
+    let client = client_of(alloc, client);
     put_line("client ok\n", sink)?;
     put_steps(alloc, &client, rest, sink)
 }

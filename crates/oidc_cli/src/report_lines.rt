@@ -15,12 +15,12 @@ use http_header::HeaderValue;
 use oidc_keys::SignatureVerificationError;
 use oidc_login::errors::{BeginError, LoginError, TooLong};
 use oidc_login::signed_in::SignedIn;
-use oidc_login::tokens::verification::ClaimsVerificationError;
 use oidc_members::{ParseKind, Refusal, write_object};
 use oidc_oauth2::{
     CoreErrorResponseType, CoreRequestTokenError, Fault, HttpRequest, OtherCause,
     RequestTokenError, StandardErrorResponse,
 };
+use oidc_tokens::{ClaimsVerificationError, Payload};
 use oidc_types::{RefreshToken, Vocabulary};
 use std::alloc::{AllocError, Global};
 use url::Url;
@@ -145,6 +145,10 @@ pub fn verdict_line(
         Err(LoginError::Token(error)) => token_line(alloc, error),
         Err(LoginError::NoIdToken) => String::from_str(alloc, "callback refused no_id_token\n"),
         Err(LoginError::Claims(kind)) => claims_line(alloc, *kind),
+        Err(LoginError::Signing(_)) => {
+            String::from_str(alloc, "callback refused signing unsupported_alg\n")
+        }
+        Err(LoginError::TokenHash) => String::from_str(alloc, "callback refused token_hash\n"),
         Err(LoginError::Memory { .. }) => Err(AllocError),
     }
 }
@@ -263,11 +267,14 @@ fn claims_word(kind: ClaimsVerificationError) -> &'static str
     ensures { result.now ≡ word_of_claims kind }
 {
     match kind {
+        ClaimsVerificationError::Unsupported => "unsupported",
         ClaimsVerificationError::InvalidIssuer => "invalid_issuer",
         ClaimsVerificationError::InvalidAudience => "invalid_audience",
         ClaimsVerificationError::SignatureVerification(kind) => signature_word(kind),
         ClaimsVerificationError::Expired => "expired",
         ClaimsVerificationError::InvalidNonce => "invalid_nonce",
+        ClaimsVerificationError::InvalidSubject => "invalid_subject",
+        ClaimsVerificationError::Memory => "",
     }
 }
 

@@ -1,7 +1,7 @@
 //! The lines of a script, and what they say.
-ghost use Rattle.std.specs.Prelude.{◌≡◌, ◌==◌, ◌∷◌, ◌<◌, [], length, position, IfOk, IfSome, IsNone, ◌↔◌};
+ghost use Rattle.std.specs.Prelude.{◌≡◌, ◌==◌, ◌∷◌, ◌<◌, [], length, position, codes, IfOk, IfSome, IsNone, Some, ◌↔◌};
 ghost use Rattle.std.specs.Option.{option_copied};
-ghost use Rattle.oidc_cli.specs.Values.{Reads};
+ghost use Rattle.oidc_cli.specs.Values.{Reads, optional_value};
 ghost use Rattle.std.specs.List.{list_all};
 ghost use Rattle.oidc_cli.specs.Script as spec;
 ghost use Rattle.oidc_cli.specs.Script.{lines, kind_of as kind_in, client_event_of, begin_event_of, callback_event_of, event_of_pairs, event_of};
@@ -11,7 +11,9 @@ mod values;
 
 use crate::events::{BeginLine, CallbackLine, ClientLine, Event, LineError};
 use crate::script::answers::read_answers;
-use crate::script::values::{only_text, pair_algorithms, pair_moment, pair_text, pair_url};
+use crate::script::values::{
+    lacks, only_text, optional_text, pair_algorithms, pair_moment, pair_text, pair_url,
+};
 use oidc_pairs::Pairs;
 use oidc_types::{ClientId, ClientSecret, CsrfToken, Nonce, PkceCodeVerifier};
 use std::alloc::{AllocError, Global};
@@ -74,22 +76,39 @@ fn read_event(alloc: Global, line: &Pairs) -> Result<Event, LineError>
     }
 }
 
+// How many pairs a client line has.
+fn client_pairs(line: &Pairs) -> usize
+    ensures { result ≡ spec.client_pairs line.now }
+{
+    if lacks(line, "secret") { 6 } else { 7 }
+}
+
+// The secret on a client line, where it has one.
+fn read_secret(alloc: Global, line: &Pairs) -> Result<Option<ClientSecret>, LineError>
+    ensures { Reads (λ secret. secret) result (optional_value Some line.now (codes "secret")) }
+{
+    match optional_text(alloc, line, "secret")? {
+        Some(secret) => Ok(Some(ClientSecret::new(secret))),
+        None => Ok(None),
+    }
+}
+
 #[tactic(auto, unfolding(crate::specs::Script::client_event_of))]
 fn read_client(alloc: Global, line: &Pairs) -> Result<ClientLine, LineError>
     ensures { Reads (λ read. read) result (client_event_of line.now) }
 {
-    if line.len() != 7 {
+    if line.len() != client_pairs(line) {
         return Err(LineError::NoEvent);
     }
     let id = pair_text(alloc, line, "id")?;
-    let secret = pair_text(alloc, line, "secret")?;
+    let secret = read_secret(alloc, line)?;
     let issuer = pair_url(alloc, line, "issuer")?;
     let auth = pair_url(alloc, line, "auth")?;
     let token = pair_url(alloc, line, "token")?;
     let algorithms = pair_algorithms(alloc, line, "algs")?;
     Ok(ClientLine {
         id: ClientId::new(id),
-        secret: ClientSecret::new(secret),
+        secret,
         issuer,
         auth,
         token,

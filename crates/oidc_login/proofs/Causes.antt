@@ -1,21 +1,29 @@
 -- Each cause has its row: the facts of a cause compute the reply.
-use Rattle.std.proofs.Common.{◌≡◌, ◌≢◌, ℕ, List, [], ◌∷◌, true, Some, Ok, Err, refl, sym, ap, ◌∙◌, ⊎_elim}
+use Rattle.std.proofs.Common.{◌≡◌, ◌≢◌, ℕ, List, [], ◌∷◌, true, Option, None, Some, Ok, Err, refl, sym, ap, ◌∙◌}
 use Rattle.std.specs.Prelude.{is_some, codes}
+use Rattle.std.specs.Option.{ok_or}
+use Rattle.oidc_types.specs.{signing_text}
+use Rattle.oidc_types.specs.declared.signing_error.SigningError.TheVariants.{UnsupportedAlg}
 use Rattle.oidc_pairs.specs.Pairs.{pairs, values, first_of as first_value}
 use Rattle.oidc_oauth2.specs.Messages.{SeenRequest, SeenResponse, SeenAnswer}
 use Rattle.oidc_oauth2.specs.Transport.{first_of}
+use Rattle.oidc_tokens.specs.declared.verification.refusals.ClaimsVerificationError.{ClaimsVerificationError}
+use Rattle.oidc_oauth2.specs.TokenAnswers.{◌>>=◌, ◌>>◌}
 use Rattle.oidc_oauth2.specs.declared.token_answers.OtherCause.TheVariants as other
 use Rattle.oidc_oauth2.specs.declared.token_answers.RequestTokenError.TheVariants as token_error
 use Rattle.oidc_login.specs.Logins.{SeenLogin}
 use Rattle.oidc_login.specs.TokenResponse.{Tokens, TokenError}
-use Rattle.oidc_login.specs.SignedIn.{SeenSignedIn}
+use Rattle.oidc_login.specs.IdTokens.{verifier_of, failure_for}
+use Rattle.oidc_login.specs.TokenHash.{claimed_hash, hash_beside}
+use Rattle.oidc_login.specs.SignedIn.{SeenSignedIn, signed_by}
 use Rattle.oidc_login.specs.Errors.{Error}
-use Rattle.oidc_login.specs.Rows.{Attempt, Meant, opening, tokens_in, signing_in, after_token, with_token, outcome}
-use Rattle.oidc_login.specs.Causes.{Asks, Reads, IsSignedIn, HasError, HasOtherText, HasNoTokens, TooLongCause, TokenCause, Cause}
+use Rattle.oidc_login.specs.Rows.{Attempt, Meant, ◌or◌, ◌for◌, opening, tokens_in, hash_rows, accepting, signing_in, after_token, with_token, outcome}
+use Rattle.oidc_login.specs.Causes.{Asks, Reads, Held, Holds, Accepted, own_hash, IsSignedIn, HasError, HasNoTokens, TooLongCause, TokenCause, Cause}
 use Rattle.oidc_login.specs.declared.errors.TooLong.{TooLong}
 use Rattle.oidc_login.specs.declared.errors.TooLong.TheVariants as place
 use Rattle.oidc_login.specs.declared.errors.LoginError.TheVariants as login
 use Rattle.oidc_login.proofs.Verification.{accepted}
+use Rattle.oidc_login.proofs.TokenHash.{beside, other_claim, own_claim}
 
 found : (values : List (List ℕ)) → values ≢ [] → is_some (first_value values) ≡ true
 found [] some = absurd (some refl)
@@ -83,30 +91,64 @@ module _ (a : Attempt) (answers : List SeenAnswer) where
   unfolding opening
   error_row c = unopened _ (rw (c.names.login_named, found (values a.query (codes "error")) c.some_error) refl)
 
-  text_row : HasOtherText a answers → reply ≡ Err login.Unbuilt
+  -- ---- the rows on the ID token
+
+  -- the reply, once the ID token is there
+  behind_id_token : (h : Held) (m : Meant (Unit {0})) → Holds a answers h → accepting a.client a.now h.login h.token h.tokens.access_token ≡ m
+      → reply ≡ (m >> Ok (signed_by h.token h.tokens))
   unfolding signing_in
-  text_row c = behind_tokens c.login c.tokens c.has_text.reads ∙ rw (c.has_text.own_text, c.not_plain) refl
+  behind_id_token h m holds is =
+      behind_tokens h.login h.tokens holds.reads
+      ∙ ap (λ o. (o or login.NoIdToken) >>= λ token. accepting a.client a.now h.login token h.tokens.access_token >> Ok (signed_by token h.tokens)) holds.own_id_token
+      ∙ ap (λ m. m >> Ok (signed_by h.token h.tokens)) is
+
+  -- by the first check that fails
+  checked : (h : Held) (failure : Option ClaimsVerificationError) → failure_for a.client h.login.nonce a.now h.token ≡ failure
+      → accepting a.client a.now h.login h.token h.tokens.access_token
+      ≡ ((login.Claims for failure) >> hash_rows (claimed_hash h.token) (hash_beside (verifier_of a.client) h.token h.tokens.access_token))
+  unfolding accepting
+  checked h failure is = ap (λ o. (login.Claims for o) >> hash_rows (claimed_hash h.token) (hash_beside (verifier_of a.client) h.token h.tokens.access_token)) is
+
+  -- by its claim, once it is accepted
+  claimed : (h : Held) (x : Accepted a answers h) (claim own : Option (List ℕ)) → claimed_hash h.token ≡ claim → own_hash a answers h x ≡ own
+      → accepting a.client a.now h.login h.token h.tokens.access_token ≡ hash_rows claim (ok_or own (UnsupportedAlg (signing_text x.accepts.alg)))
+  claimed h x claim own is_claim is_own =
+      let none_fails = accepted a.client h.login.nonce a.now h.token x.accepts in
+      let hash = beside (verifier_of a.client) h.token x.accepts.alg x.accepts.key x.accepts.signed x.accepts.chosen h.tokens.access_token in
+      checked h None none_fails
+      ∙ ap (hash_rows (claimed_hash h.token)) hash
+      ∙ ap (λ c. hash_rows c (ok_or (own_hash a answers h x) (UnsupportedAlg (signing_text x.accepts.alg)))) is_claim
+      ∙ ap (λ o. hash_rows claim (ok_or o (UnsupportedAlg (signing_text x.accepts.alg)))) is_own
 
   -- a cause has its refusal
   pub refused : (e : Error) → Cause a answers e → reply ≡ Err e
   unfolding opening signing_in
   refused (login.TooLong at) c = long_row at c
   refused login.State none = unopened _ (rw none refl)
-  refused login.Unbuilt c = ⊎_elim error_row text_row c
+  refused login.Unbuilt c = error_row c
   refused login.Callback c = unopened _ (rw (c.names.login_named, c.no_error, c.not_one_code) refl)
   refused (login.Token e) c = token_row e c
-  refused login.NoIdToken c = behind_tokens c.login c.tokens c.reads ∙ rw c.no_text refl
-  refused (login.Claims kind) c =
-      let t = c.holds.has_text in
-      behind_tokens c.held.login c.held.tokens t.reads ∙ rw (t.own_text, c.holds.own_id_token, c.check_failed) refl
+  refused login.NoIdToken c = behind_tokens c.login c.tokens c.reads ∙ rw c.no_id_token refl
+  refused (login.Claims kind) c = behind_id_token c.held (Err (login.Claims kind)) c.holds (checked c.held (Some kind) c.check_failed)
+  refused (login.Signing refusal) c =
+      let x = c.claims.accepted in
+      behind_id_token c.held _ x.holds (claimed c.held x (Some c.claim) None c.claims.own_claim c.no_hash)
+      ∙ ap (λ e. Err (login.Signing e)) (sym c.names_algorithm)
+  refused login.TokenHash c =
+      let x = c.claims.accepted in
+      behind_id_token c.held (Err login.TokenHash) x.holds
+      (claimed c.held x (Some c.claim) (Some c.hash) c.claims.own_claim c.has_hash ∙ other_claim c.claim c.hash c.other)
   refused (login.Memory spent) c = absurd c
+
+  -- the hash that is claimed, where one is, is the own one
+  fitting : (h : Held) (x : Accepted a answers h) → ((claim : List ℕ) → claimed_hash h.token ≡ Some claim → own_hash a answers h x ≡ Some claim)
+      → (claim : Option (List ℕ)) → claimed_hash h.token ≡ claim → accepting a.client a.now h.login h.token h.tokens.access_token ≡ Ok tt
+  fitting h x fits None is = claimed h x None _ is refl
+  fitting h x fits (Some claim) is = claimed h x (Some claim) (Some claim) is (fits claim is) ∙ own_claim claim
 
   -- what signs in is an Ok
   pub signs_in : (signed : SeenSignedIn) → IsSignedIn a answers signed → reply ≡ Ok signed
-  unfolding signing_in
   signs_in signed is =
-      let t = is.holds.has_text in
-      let none_fails = accepted a.client is.held.login.nonce a.now is.held.token is.accepted in
-      behind_tokens is.held.login is.held.tokens t.reads
-      ∙ rw (t.own_text, is.holds.own_id_token, none_fails) refl
+      let x : Accepted a answers is.held = record { holds = is.holds; accepts = is.accepted } in
+      behind_id_token is.held (Ok tt) is.holds (fitting is.held x is.fits_hash _ refl)
       ∙ ap Ok (λ i. record { id_token = sym is.own_id_token i; access_token = sym is.own_access_token i; refresh_token = sym is.own_refresh_token i })

@@ -1,31 +1,44 @@
--- The claims of an ID token are written without floats.
-use Rattle.std.proofs.Common.{◌≡◌, ℕ, ℤ, pos, negsuc, codes, Bool, false, ◌||◌, List, [], ◌∷◌, ◌++◌, Option, None, Some, refl}
-use Rattle.serde_json.specs.Data.{string, number}
-use Rattle.serde_json.specs.Find.{of_integer}
-use Rattle.serde_json.specs.Written.{has_float}
+-- The additional claims among tokens that were read hold no float.
+use Rattle.std.proofs.Common.{◌≡◌, List, [], false, Option, None, Some, Result, Ok, Err, refl, ap, ◌∙◌}
+use Rattle.std.specs.Option.{option_map_or}
+use Rattle.oidc_members.specs.Seen.{SeenMember}
 use Rattle.oidc_members.specs.Write.{any_float}
-use Rattle.oidc_readers.specs.Moments.{seconds_of}
-use Rattle.oidc_readers.specs.Writing.{one_member, text_member}
-use Rattle.oidc_login.specs.Claims.{SeenIdTokenClaims, written, texts_data}
+use Rattle.oidc_members.specs.declared.refusal.Refusal.{Refusal}
+use Rattle.oidc_readers.specs.Kinds.{text_kind}
+use Rattle.oidc_readers.specs.Records.{◌>>=◌, faultless, required}
+use Rattle.oidc_types.specs.{find_word, signing_text, signing_algorithms}
+use Rattle.oidc_types.specs.CoreAlgorithms.{encryption_text, encryption_algorithms}
+use Rattle.oidc_claims.specs.Others.{list_of}
+use Rattle.oidc_oauth2.specs.Words.{token_type_of}
+use Rattle.oidc_oauth2.specs.TokenResponse.{token_rule, access_token, token_type, tokens_of}
+use Rattle.oidc_tokens.proofs.Theorems.{response_free}
+use Rattle.oidc_login.specs.IdTokens.{SeenIdToken}
+use Rattle.oidc_login.specs.TokenResponse.{Fields, Tokens, no_others, fields_of}
+use Rattle.oidc_login.specs.SignedIn.{additional_in}
 
-no_float_in_texts : (texts : List (List ℕ)) → has_float (texts_data texts) ≡ false
-no_float_in_texts [] = refl
-no_float_in_texts (text ∷ texts) = no_float_in_texts texts
+-- a step that gave a value stands on one
+first_step : {A B : Type 0} (o : Result A Refusal) (f : A → Result B Refusal) (y : B) → (o >>= f) ≡ Ok y → (x : A) × (o ≡ Ok x) × (f x ≡ Ok y)
+first_step (Ok x) f y h = (x, refl, h)
+first_step (Err refusal) f y h = absurd cc
 
-no_float_in_number : (n : ℤ) → has_float (number (of_integer n)) ≡ false
-no_float_in_number (pos n) = refl
-no_float_in_number (negsuc n) = refl
+same_ok : {A : Type 0} (x y : A) → ◌≡◌ {A = Result A Refusal} (Ok x) (Ok y) → x ≡ y
+same_ok x y h = cc
 
-four : (a b c d : Bool) → a ≡ false → b ≡ false → c ≡ false → d ≡ false → (a || (b || (c || d))) ≡ false
-four a b c d p q r s = rw (p, q, r, s) refl
+fields_read : (members : List SeenMember) (tokens : Tokens) → tokens_of token_type_of fields_of members ≡ Ok tokens → fields_of members ≡ Ok tokens.extra_fields
+unfolding tokens_of
+fields_read members tokens h =
+    let first = first_step (faultless token_rule members) _ tokens h in
+    let access = first_step (required access_token members) _ tokens first.2 in
+    let kind = first_step (required token_type members) _ tokens access.2 in
+    let extra = first_step (fields_of members) _ tokens kind.2 in
+    extra.1 ∙ ap Ok (ap (λ t. t.extra_fields) (same_ok _ tokens extra.2))
 
-no_float_behind : (nonce : Option (List ℕ)) (subject : List ℕ) → any_float (text_member (codes "nonce") nonce ++ one_member (codes "sub") (string subject)) ≡ false
-no_float_behind None subject = refl
-no_float_behind (Some nonce) subject = refl
+each_free : (o : Option SeenIdToken) → ((token : SeenIdToken) → o ≡ Some token → any_float (list_of token.payload.additional_claims) ≡ false)
+    → any_float (option_map_or (λ token. list_of token.payload.additional_claims) o []) ≡ false
+each_free None free = refl
+each_free (Some token) free = free token refl
 
-pub no_float : (claims : SeenIdTokenClaims) → any_float (written claims) ≡ false
-no_float claims =
-    four _ _ _ _ (no_float_in_texts claims.audiences)
-    (no_float_in_number (seconds_of claims.expiration))
-    (no_float_in_number (seconds_of claims.issue_time))
-    (no_float_behind claims.nonce claims.subject)
+pub read_free : (members : List SeenMember) (tokens : Tokens) → tokens_of token_type_of fields_of members ≡ Ok tokens → any_float (additional_in tokens) ≡ false
+read_free members tokens h =
+    each_free tokens.extra_fields.id_token (λ token is.
+    response_free (find_word encryption_text encryption_algorithms) (find_word signing_text signing_algorithms) text_kind no_others members tokens.extra_fields token (fields_read members tokens h) is)

@@ -1,6 +1,10 @@
 -- Each row of the table has its cause: one line for each row, in the order of the table.
-use Rattle.std.proofs.Common.{◌≡◌, ◌≢◌, ℕ, List, [], ◌∷◌, true, false, Some, Ok, Err, refl, subst, inl, inr}
-use Rattle.std.specs.Prelude.{is_some, codes}
+use Rattle.std.proofs.Common.{◌≡◌, ◌≢◌, ℕ, List, [], ◌∷◌, true, false, Option, None, Some, Ok, Err, refl, sym, ap, subst, ◌∙◌}
+use Rattle.std.specs.Prelude.{is_some, not, codes}
+use Rattle.std.specs.Option.{ok_or}
+use Rattle.std.specs.Str.{bytes_eq}
+use Rattle.oidc_types.specs.{signing_text}
+use Rattle.oidc_types.specs.declared.signing_error.SigningError.TheVariants.{UnsupportedAlg}
 use Rattle.oidc_pairs.specs.Pairs.{pairs, values, first_of as first_value}
 use Rattle.oidc_oauth2.specs.Messages.{SeenRequest, SeenResponse, SeenAnswer}
 use Rattle.oidc_oauth2.specs.Transport.{first_of}
@@ -10,17 +14,19 @@ use Rattle.oidc_oauth2.specs.declared.token_answers.RequestTokenError.TheVariant
 use Rattle.oidc_login.specs.Logins.{SeenLogin}
 use Rattle.oidc_login.specs.TokenRequest.{token_request}
 use Rattle.oidc_login.specs.TokenResponse.{Tokens, TokenError, tokens_or_refusal}
-use Rattle.oidc_login.specs.IdToken.{token_of}
-use Rattle.oidc_login.specs.Verification.{first_failure}
+use Rattle.oidc_login.specs.IdTokens.{SeenIdToken, core_keys, verifier_of, is_nonce, IsAcceptedBy, failure_for}
+use Rattle.oidc_tokens.proofs.Theorems.{failure_cause}
+use Rattle.oidc_login.specs.TokenHash.{claimed_hash, hash_under, hash_beside, FitsHash}
 use Rattle.oidc_login.specs.Errors.{Error}
-use Rattle.oidc_login.specs.Rows.{Attempt, Meant, SeenOpened, login_named_by, error_in, code_in, opening, tokens_in, signing_in, after_token, with_token, outcome}
-use Rattle.oidc_login.specs.Causes.{Names, HasCode, Asks, Held, Answered, Reads, HasText, Holds, IsSignedIn, TokenCause, Cause}
-use Rattle.oidc_login.proofs.Walks.{Walk, at_or, at_meant, at_last, at_when, at_for, walked_err, walked_ok}
+use Rattle.oidc_login.specs.Rows.{Attempt, Meant, SeenOpened, login_named_by, error_in, code_in, opening, tokens_in, hash_rows, accepting, signing_in, after_token, with_token, outcome}
+use Rattle.oidc_login.specs.Causes.{Names, HasCode, Asks, Held, Answered, Reads, Holds, Accepted, own_hash, IsSignedIn, TokenCause, Cause}
+use Rattle.oidc_login.proofs.Walks.{Walk, at_or, at_meant, at_last, at_when, at_for, at_then, at_end, walked_err, walked_ok}
 use Rattle.oidc_oauth2.specs.ErrorResponse.{SeenError}
 use Rattle.oidc_oauth2.specs.declared.error_types.CoreErrorResponseType.{CoreErrorResponseType}
 use Rattle.oidc_oauth2.proofs.Theorems.{IsJudged}
 use Rattle.oidc_login.proofs.Answers.{judged}
 use Rattle.oidc_login.proofs.Verification.{accepts}
+use Rattle.oidc_login.proofs.TokenHash.{beside, differ_back, same_back}
 
 some_value : (values : List (List ℕ)) → is_some (first_value values) ≡ true → values ≢ []
 some_value [] is none = cc
@@ -45,7 +51,7 @@ module _ (a : Attempt) (answers : List SeenAnswer) where
       at_or _ _ (login_named_by a.pending (pairs a.query)) _ _ (λ none. none) (λ l is_named.
       let names : Names a l = record { login_named = is_named } in
       at_when _ _ (is_some (error_in (pairs a.query))) _ _
-      (λ some. inl (record { login = l; names = names; some_error = some_value (values a.query (codes "error")) some })) (λ none.
+      (λ some. record { login = l; names = names; some_error = some_value (values a.query (codes "error")) some }) (λ none.
       let no_error : values a.query (codes "error") ≡ [] = no_value (values a.query (codes "error")) none in
       at_or _ _ (code_in (pairs a.query)) _ _
       (λ not_one. record { login = l; names = names; no_error = no_error; not_one_code = not_one }) (λ code one_code.
@@ -76,23 +82,65 @@ module _ (a : Attempt) (answers : List SeenAnswer) where
       at_last _ _ (tokens_or_refusal r) _ (λ e is. token_row l r e answered is) (λ ts is.
       record { response = r; answered = answered; tokens_in_response = is }))
 
+  -- the hash of the access token fits an accepted ID token
+  abbrev Fits : Held → Type 0
+  Fits h = (accepted : IsAcceptedBy a.client h.login.nonce a.now h.token) × FitsHash h.token accepted.key accepted.alg h.tokens.access_token
+
+  -- by the claim in the ID token, and by the hash of the access token, where there is one
+  claim-walk : (h : Held) (accepted : Accepted a answers h) (claim own : Option (List ℕ)) → claimed_hash h.token ≡ claim → own_hash a answers h accepted ≡ own
+      → Walk (λ u. Fits h) Q (hash_rows claim (ok_or own (UnsupportedAlg (signing_text accepted.accepts.alg))))
+  claim-walk h accepted None own is_claim is_own = (accepted.accepts, λ claim is. let none = sym is_claim ∙ is in cc)
+  claim-walk h accepted (Some claim) None is_claim is_own = record {
+    held = h;
+    claim = claim;
+    claims = record { accepted = accepted; own_claim = is_claim };
+    no_hash = is_own;
+    names_algorithm = refl;
+  }
+  claim-walk h accepted (Some claim) (Some hash) is_claim is_own =
+      at_end (λ u. Fits h) Q (not (bytes_eq hash claim)) _
+      (λ other. record {
+        held = h;
+        claim = claim;
+        claims = record { accepted = accepted; own_claim = is_claim };
+        hash = hash;
+        has_hash = is_own;
+        other = differ_back hash claim other;
+      }) (λ same. (
+        accepted.accepts,
+        λ c is. is_own ∙ ap Some (same_back hash claim same) ∙ sym is_claim ∙ is,
+      ))
+
+  accepting-walk : (h : Held) → Holds a answers h → Walk (λ u. Fits h) Q (accepting a.client a.now h.login h.token h.tokens.access_token)
+  unfolding accepting
+  accepting-walk h holds =
+      at_for _ _ (failure_for a.client h.login.nonce a.now h.token) _ _ (λ kind is. record {
+        held = h;
+        holds = holds;
+        check_failed = is;
+        cause = failure_cause core_keys (verifier_of a.client) (is_nonce h.login.nonce) a.now h.token kind is;
+      }) (λ none_fails.
+      let accepted : Accepted a answers h = record { holds = holds; accepts = accepts a.client h.login.nonce a.now h.token none_fails } in
+      let x = accepted.accepts in
+      subst (λ r. Walk (λ u. Fits h) Q (hash_rows (claimed_hash h.token) r)) (sym (beside (verifier_of a.client) h.token x.alg x.key x.signed x.chosen h.tokens.access_token))
+      (claim-walk h accepted _ _ refl refl))
+
   signing_in-walk : (l : SeenLogin) (ts : Tokens) → Reads a answers l ts → Walk (IsSignedIn a answers) Q (signing_in a.client a.now l ts)
   unfolding signing_in
   signing_in-walk l ts reads =
-      at_or _ _ ts.extra_fields.id_token _ _ (λ none. record { login = l; tokens = ts; reads = reads; no_text = none }) (λ text own_text.
-      let has_text : HasText a answers l ts text = record { reads = reads; own_text = own_text } in
-      at_or _ _ (token_of text) _ _ (λ none. inr (record { login = l; tokens = ts; text = text; has_text = has_text; not_plain = none })) (λ token is_token.
+      at_or _ _ ts.extra_fields.id_token _ _ (λ none. record { login = l; tokens = ts; reads = reads; no_id_token = none }) (λ token own.
       let held : Held = record { login = l; tokens = ts; token = token } in
-      let holds : Holds a answers held = record { text = text; has_text = has_text; own_id_token = is_token } in
-      at_for _ _ (first_failure a.client l.nonce a.now token) _ _ (λ kind is. record { held = held; holds = holds; check_failed = is }) (λ none_fails.
+      let holds : Holds a answers held = record { reads = reads; own_id_token = own } in
+      at_then _ _ (accepting a.client a.now l token ts.access_token) _ (accepting-walk held holds) (λ fits.
       record {
         held = held;
         holds = holds;
-        accepted = accepts a.client l.nonce a.now token none_fails;
+        accepted = fits.0;
+        fits_hash = fits.1;
         own_id_token = refl;
         own_access_token = refl;
         own_refresh_token = refl;
-      })))
+      }))
 
   pub after_token-walk : (l : SeenLogin) (request : SeenRequest) → Asks a l request
       → Walk (IsSignedIn a answers) Q (after_token a.client a.now l (first_of answers))

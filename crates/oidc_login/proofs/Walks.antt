@@ -35,6 +35,17 @@ module _ {B : Type 0} (P : B → Type 0) (Q : Error → Type 0) where
   at_for (Some x) row next row_holds goes_on = row_holds x refl
   at_for None row next row_holds goes_on = goes_on refl
 
+  -- what gives no value, and then the rest
+  pub at_then : {F : Type 0} (m : Meant (Unit {0})) (next : Meant B)
+      → Walk (λ u. F) Q m → (F → Walk P Q next) → Walk P Q (m >> next)
+  at_then (Err e) next row_holds goes_on = row_holds
+  at_then (Ok u) next row_holds goes_on = goes_on row_holds
+
+-- the last test, behind which nothing is given
+pub at_end : (P : Unit {0} → Type 0) (Q : Error → Type 0) (b : Bool) (e : Error) → (b ≡ true → Q e) → (b ≡ false → P tt) → Walk P Q (e when b)
+at_end P Q true e row_holds goes_on = row_holds refl
+at_end P Q false e row_holds goes_on = goes_on refl
+
 -- what a walk says of a reply
 pub walked_err : {A : Type 0} (P : A → Type 0) (Q : Error → Type 0) (m : Meant A) (e : Error) → Walk P Q m → m ≡ Err e → Q e
 walked_err P Q m e walk is = subst (Walk P Q) is walk

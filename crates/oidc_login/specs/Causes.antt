@@ -1,6 +1,9 @@
 -- What each reply to a callback rests on, said without the table.
-use Rattle.std.specs.Prelude.{◌≡◌, ◌≢◌, ◌⊎◌, ℕ, List, [], None, Some, false, true, Ok, Err, codes}
+use Rattle.std.specs.Prelude.{◌≡◌, ◌≢◌, ℕ, List, [], Option, None, Some, false, true, Ok, Err, codes}
 use Rattle.oidc_pairs.specs.Pairs.{pairs, values, only_of}
+use Rattle.oidc_types.specs.{signing_text}
+use Rattle.oidc_types.specs.declared.signing_error.SigningError.{SigningError}
+use Rattle.oidc_types.specs.declared.signing_error.SigningError.TheVariants.{UnsupportedAlg}
 use Rattle.oidc_oauth2.specs.Messages.{SeenRequest, SeenResponse, SeenAnswer}
 use Rattle.oidc_oauth2.specs.Transport.{first_of}
 use Rattle.oidc_oauth2.specs.TokenAnswers.{is_over_long}
@@ -9,15 +12,15 @@ use Rattle.oidc_oauth2.specs.declared.token_answers.RequestTokenError.TheVariant
 use Rattle.oidc_login.specs.Logins.{SeenLogin}
 use Rattle.oidc_login.specs.TokenRequest.{token_request}
 use Rattle.oidc_login.specs.TokenResponse.{Tokens, TokenError, tokens_or_refusal}
-use Rattle.oidc_login.specs.IdToken.{SeenIdToken, token_of}
-use Rattle.oidc_login.specs.Verification.{Accepts, first_failure}
+use Rattle.oidc_login.specs.IdTokens.{SeenIdToken, IsAcceptedBy, failure_for, FailsFor}
+use Rattle.oidc_login.specs.TokenHash.{claimed_hash, hash_under, FitsHash}
 use Rattle.oidc_login.specs.SignedIn.{SeenSignedIn}
 use Rattle.oidc_login.specs.Errors.{Error}
 use Rattle.oidc_login.specs.Rows.{Attempt, login_named_by}
 use Rattle.oidc_login.specs.declared.errors.TooLong.{TooLong}
 use Rattle.oidc_login.specs.declared.errors.TooLong.TheVariants as place
 use Rattle.oidc_login.specs.declared.errors.LoginError.TheVariants as login
-use Rattle.oidc_login.specs.declared.tokens.verification.ClaimsVerificationError.{ClaimsVerificationError}
+use Rattle.oidc_tokens.specs.declared.verification.refusals.ClaimsVerificationError.{ClaimsVerificationError}
 
 -- ---- how far a callback came: each record rests on the one before
 
@@ -84,25 +87,36 @@ module _ (a : Attempt) (answers : List SeenAnswer) where
     pub answered : Answered login response
     pub tokens_in_response : tokens_or_refusal response ≡ Ok tokens
 
-  -- with the text of an ID token
-  pub record HasText (login : SeenLogin) (tokens : Tokens) (text : List ℕ) : Type 0 where
-    pub reads : Reads login tokens
-    pub own_text : tokens.extra_fields.id_token ≡ Some text
-
-  -- which is this ID token
+  -- with this ID token among them
   pub record Holds (h : Held) : Type 0 where
-    pub text : List ℕ
-    pub has_text : HasText h.login h.tokens text
-    pub own_id_token : token_of text ≡ Some h.token
+    pub reads : Reads h.login h.tokens
+    pub own_id_token : h.tokens.extra_fields.id_token ≡ Some h.token
+
+  -- which is accepted with the login's nonce at this moment
+  pub record Accepted (h : Held) : Type 0 where
+    pub holds : Holds h
+    pub accepts : IsAcceptedBy a.client h.login.nonce a.now h.token
+
+  -- and has this `at_hash`
+  pub record Claims (h : Held) (claim : List ℕ) : Type 0 where
+    pub accepted : Accepted h
+    pub own_claim : claimed_hash h.token ≡ Some claim
+
+  -- the hash of the access token by the algorithm and under the key by which the ID token was accepted
+  abbrev pub own_hash : (h : Held) → Accepted h → Option (List ℕ)
+  own_hash h accepted =
+      hash_under accepted.accepts.key accepted.accepts.alg h.tokens.access_token
 
   -- ---- an Ok
 
   -- A user who is signed in: the ID token came in the answer to the token request of the named
-  -- login, and is accepted with that login's nonce at this moment.
+  -- login, and is accepted with that login's nonce at this moment; its `at_hash`, where it has one, is
+  -- the hash of the access token that came beside it.
   pub record IsSignedIn (signed : SeenSignedIn) : Type 0 where
     pub held : Held
     pub holds : Holds held
-    pub accepted : Accepts a.client held.login.nonce a.now held.token
+    pub accepted : IsAcceptedBy a.client held.login.nonce a.now held.token
+    pub fits_hash : FitsHash held.token accepted.key accepted.alg held.tokens.access_token
     pub own_id_token : signed.id_token ≡ held.token
     pub own_access_token : signed.access_token ≡ held.tokens.access_token
     pub own_refresh_token : signed.refresh_token ≡ held.tokens.refresh_token
@@ -137,21 +151,32 @@ module _ (a : Attempt) (answers : List SeenAnswer) where
     pub login : SeenLogin
     pub tokens : Tokens
     pub reads : Reads login tokens
-    pub no_text : tokens.extra_fields.id_token ≡ None
-
-  -- the text of the ID token isn't plain
-  pub record HasOtherText : Type 0 where
-    pub login : SeenLogin
-    pub tokens : Tokens
-    pub text : List ℕ
-    pub has_text : HasText login tokens text
-    pub not_plain : token_of text ≡ None
+    pub no_id_token : tokens.extra_fields.id_token ≡ None
 
   -- this check of the ID token is the first that fails
   pub record FailsCheck (kind : ClaimsVerificationError) : Type 0 where
     pub held : Held
     pub holds : Holds held
-    pub check_failed : first_failure a.client held.login.nonce a.now held.token ≡ Some kind
+    pub check_failed : failure_for a.client held.login.nonce a.now held.token ≡ Some kind
+    -- and this is why, said by itself
+    pub cause : FailsFor a.client held.login.nonce a.now held.token kind
+
+  -- the accepted ID token has an `at_hash`, and no hash goes with its algorithm, which the refusal names
+  pub record LacksHash (refusal : SigningError) : Type 0 where
+    pub held : Held
+    pub claim : List ℕ
+    pub claims : Claims held claim
+    pub no_hash : own_hash held claims.accepted ≡ None
+    pub names_algorithm : refusal ≡ UnsupportedAlg (signing_text claims.accepted.accepts.alg)
+
+  -- its `at_hash` isn't the hash of the access token
+  pub record HasOtherHash : Type 0 where
+    pub held : Held
+    pub claim : List ℕ
+    pub claims : Claims held claim
+    pub hash : List ℕ
+    pub has_hash : own_hash held claims.accepted ≡ Some hash
+    pub other : hash ≢ claim
 
   -- ---- the cause of each refusal
 
@@ -168,9 +193,11 @@ module _ (a : Attempt) (answers : List SeenAnswer) where
   abbrev pub Cause : Error → Type 0
   Cause (login.TooLong at) = TooLongCause at
   Cause login.State = login_named_by a.pending (pairs a.query) ≡ None
-  Cause login.Unbuilt = HasError a ⊎ HasOtherText
+  Cause login.Unbuilt = HasError a
   Cause login.Callback = LacksCode a
   Cause (login.Token e) = TokenCause e
   Cause login.NoIdToken = LacksIdToken
   Cause (login.Claims kind) = FailsCheck kind
+  Cause (login.Signing refusal) = LacksHash refusal
+  Cause login.TokenHash = HasOtherHash
   Cause (login.Memory spent) = ⊥

@@ -19,6 +19,8 @@ seen login.Callback = login.Callback
 seen (login.Token e) = login.Token (seen_refusal e)
 seen login.NoIdToken = login.NoIdToken
 seen (login.Claims kind) = login.Claims kind
+seen (login.Signing e) = login.Signing e
+seen login.TokenHash = login.TokenHash
 seen (login.Memory spent) = login.Memory spent
 
 -- ---- tests of a refusal

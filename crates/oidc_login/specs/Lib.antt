@@ -1,17 +1,15 @@
--- In reading order: the client and its authorization URL; ID tokens and their checks; pending logins
--- and what a begin leaves; the token request and its answer; the table of a callback, what each
--- reply rests on, and what a callback leaves of a transport and of the store.
+-- In reading order: the client and its authorization URL; the ID tokens that it accepts; pending logins
+-- and what a begin leaves; the token request and its answer, and the hash of its access token; the table
+-- of a callback, what each reply rests on, and what a callback leaves of a transport and of the store.
 pub mod Client
 pub mod Authorization
-pub mod Header
-pub mod Claims
-pub mod IdToken
-pub mod Verification
-pub mod SignedIn
+pub mod IdTokens
 pub mod Logins
 pub mod Begins
 pub mod TokenRequest
 pub mod TokenResponse
+pub mod TokenHash
+pub mod SignedIn
 pub mod Errors
 pub mod Rows
 pub mod Causes
@@ -21,10 +19,6 @@ pub use Rattle.oidc_pairs.specs.Pairs
 pub use Rattle.oidc_pairs.specs.Form
 pub use Rattle.oidc_members.specs.Seen
 pub use Rattle.oidc_types.specs.{TextAndUrl}
-pub use Rattle.oidc_readers.specs.Moments
-pub use Rattle.oidc_readers.specs.Writing
 -- what no public clause cites
-pub mod Reading
-pub mod Fields
 pub mod Steps
 pub mod Store

@@ -3,6 +3,7 @@
 use Rattle.std.specs.Prelude.{ℕ, ℤ, List, [], ◌∷◌, Option, None, Some, is_some, option_and_then, Result, Ok, Err, codes}
 use Rattle.std.specs.FinMap as finite
 use Rattle.oidc_pairs.specs.Pairs.{pairs, values_in, only_of, first_of as first_value}
+use Rattle.oidc_types.specs.declared.signing_error.SigningError.{SigningError}
 use Rattle.oidc_oauth2.specs.Messages.{SeenRequest, SeenResponse, SeenAnswer}
 use Rattle.oidc_oauth2.specs.Transport.{first_of}
 use Rattle.oidc_oauth2.specs.TokenAnswers.{◌>>=◌, ◌>>◌, ◌when◌, ◌or_as◌, is_over_long}
@@ -12,12 +13,12 @@ use Rattle.oidc_login.specs.Client.{SeenClient}
 use Rattle.oidc_login.specs.Logins.{SeenLogin, Pending}
 use Rattle.oidc_login.specs.TokenRequest.{token_request}
 use Rattle.oidc_login.specs.TokenResponse.{Tokens, tokens_or_refusal}
-use Rattle.oidc_login.specs.IdToken.{SeenIdToken, token_of}
-use Rattle.oidc_login.specs.Verification.{first_failure}
-use Rattle.oidc_login.specs.SignedIn.{SeenSignedIn}
+use Rattle.oidc_login.specs.IdTokens.{SeenIdToken, verifier_of, failure_for}
+use Rattle.oidc_login.specs.TokenHash.{claimed_hash, hash_beside, refusal_of_claim, claims_another}
+use Rattle.oidc_login.specs.SignedIn.{SeenSignedIn, signed_by}
 use Rattle.oidc_login.specs.Errors.{Error}
 use Rattle.oidc_login.specs.declared.errors.TooLong.TheVariants as place
-use Rattle.oidc_login.specs.declared.errors.LoginError.TheVariants.{TooLong, State, Unbuilt, Callback, Token, NoIdToken, Claims}
+use Rattle.oidc_login.specs.declared.errors.LoginError.TheVariants.{TooLong, State, Unbuilt, Callback, Token, NoIdToken, Claims, Signing, TokenHash}
 
 -- ---- words for rows: a value, or the refusal of the first row that holds
 
@@ -82,20 +83,23 @@ tokens_in response = do
   TooLong place.TokenAnswer when is_over_long response.body
   tokens_or_refusal response or_as Token
 
--- a user with these tokens
-abbrev pub signed_by : SeenIdToken → Tokens → SeenSignedIn
-signed_by token tokens = record {
-  id_token = token;
-  access_token = tokens.access_token;
-  refresh_token = tokens.refresh_token;
-}
+-- those on the hash that an ID token claims of the access token beside it
+abbrev pub hash_rows : Option (List ℕ) → Result (List ℕ) SigningError → Meant (Unit {0})
+hash_rows claim hash = do
+  Signing for refusal_of_claim claim hash
+  TokenHash when claims_another claim hash
 
--- those on the ID token
+-- those on the ID token, which came beside this access token
+unfoldable pub accepting : SeenClient → ℤ → SeenLogin → SeenIdToken → List ℕ → Meant (Unit {0})
+accepting client now login token access_token = do
+  Claims for failure_for client login.nonce now token
+  hash_rows (claimed_hash token) (hash_beside (verifier_of client) token access_token)
+
+-- those on the tokens
 unfoldable pub signing_in : SeenClient → ℤ → SeenLogin → Tokens → Meant SeenSignedIn
 signing_in client now login tokens = do
-  text ← tokens.extra_fields.id_token or NoIdToken
-  token ← token_of text or Unbuilt
-  Claims for first_failure client login.nonce now token
+  token ← tokens.extra_fields.id_token or NoIdToken
+  accepting client now login token tokens.access_token
   Ok (signed_by token tokens)
 
 -- those after the token request

@@ -16,7 +16,7 @@ request_to endpoint client login code = record {
   address = serialize endpoint.url;
   client = record {
     client_id = client.client_id;
-    client_secret = Some client.client_secret;
+    client_secret = client.client_secret;
     auth_type = BasicAuth;
   };
   code = code;

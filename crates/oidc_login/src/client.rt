@@ -1,19 +1,25 @@
 //! A client of one provider, and its authorization requests.
 
-ghost use Rattle.std.specs.Prelude.{◌≡◌, None, Some};
+ghost use Rattle.std.specs.Prelude.{◌≡◌, None, Some, IfOk};
 ghost use Rattle.std.specs.Option.{option_copied};
+ghost use Rattle.oidc_login.specs.IdTokens.{verifier_of};
 
+use oidc_keys::CoreJsonWebKeySet;
+use oidc_tokens::{CoreIdTokenVerifier, IdTokenVerifier};
 use oidc_types::{AuthUrl, ClientId, ClientSecret, CoreJwsSigningAlgorithm, IssuerUrl, TokenUrl};
+use std::alloc::{AllocError, Global};
 use std::marker::Model;
 
 pub mod authorization;
 
-/// A confidential client of one provider. Contracts see its parts.
+/// A client of one provider: a confidential one, which has a secret, or a public one. Contracts see
+/// its parts.
 #[derive(Drop)]
 pub struct Client {
     client_id: ClientId,
-    client_secret: ClientSecret,
+    client_secret: Option<ClientSecret>,
     issuer: IssuerUrl,
+    keys: CoreJsonWebKeySet,
     auth_uri: AuthUrl,
     token_endpoint: Option<TokenUrl>,
     algorithms: Vec<CoreJwsSigningAlgorithm>,
@@ -28,6 +34,7 @@ impl Model for Client {
       client_id = c.client_id;
       client_secret = c.client_secret;
       issuer = c.issuer;
+      keys = c.keys;
       auth_uri = c.auth_uri;
       token_endpoint = c.token_endpoint;
       algorithms = c.algorithms.items;
@@ -35,13 +42,14 @@ impl Model for Client {
 }
 
 impl Client {
-    /// A client with its ID and secret (RFC 6749 section 2.3.1), the provider's issuer and
-    /// authorization endpoint, and the signing algorithms that it allows for ID tokens. It has no
-    /// token endpoint.
+    /// A client with its ID and, where it is confidential, its secret (RFC 6749 sections 2.1 and
+    /// 2.3.1), the provider's issuer, keys and authorization endpoint, and the signing algorithms
+    /// that it allows for ID tokens. It has no token endpoint.
     pub fn new(
         client_id: ClientId,
-        client_secret: ClientSecret,
+        client_secret: Option<ClientSecret>,
         issuer: IssuerUrl,
+        keys: CoreJsonWebKeySet,
         auth_uri: AuthUrl,
         algorithms: Vec<CoreJwsSigningAlgorithm>,
     ) -> Self
@@ -49,6 +57,7 @@ impl Client {
           client_id = client_id;
           client_secret = client_secret;
           issuer = issuer;
+          keys = keys;
           auth_uri = auth_uri;
           token_endpoint = None;
           algorithms = algorithms.items;
@@ -58,6 +67,7 @@ impl Client {
             client_id,
             client_secret,
             issuer,
+            keys,
             auth_uri,
             token_endpoint: None,
             algorithms,
@@ -80,18 +90,11 @@ impl Client {
         &self.client_id
     }
 
-    // The client's secret.
-    pub(crate) fn client_secret(&self) -> &ClientSecret
-        ensures { result.now ≡ self.now.client_secret }
+    // The client's secret, where it has one.
+    pub(crate) fn client_secret(&self) -> Option<&ClientSecret>
+        ensures { option_copied result ≡ self.now.client_secret }
     {
-        &self.client_secret
-    }
-
-    // The provider's issuer.
-    pub(crate) fn issuer(&self) -> &IssuerUrl
-        ensures { result.now ≡ self.now.issuer }
-    {
-        &self.issuer
+        self.client_secret.as_ref()
     }
 
     /// The authorization endpoint.
@@ -108,10 +111,23 @@ impl Client {
         self.token_endpoint.as_ref()
     }
 
-    // The signing algorithms that are allowed for ID tokens.
-    pub(crate) fn algorithms(&self) -> &[CoreJwsSigningAlgorithm]
-        ensures { result.now ≡ self.now.algorithms }
+    /// What this client expects of an ID token (OpenID Connect Core 1.0 section 3.1.3.7): itself as
+    /// the one audience, the issuer, and a signature by an algorithm that it allows, under its own
+    /// secret or a key of the issuer. `AllocError` is want of memory, the one error.
+    pub fn id_token_verifier(&self, alloc: Global) -> Result<CoreIdTokenVerifier<'_>, AllocError>
+        ensures { IfOk result (λ verifier. verifier ≡ verifier_of self.now) }
     {
-        self.algorithms.as_slice()
+        let algorithms = Vec::from_slice(alloc, self.algorithms.as_slice())?;
+        let verifier = match &self.client_secret {
+            Some(secret) => IdTokenVerifier::new_confidential_client(
+                alloc,
+                &self.client_id,
+                secret,
+                &self.issuer,
+                &self.keys,
+            )?,
+            None => IdTokenVerifier::new_public_client(&self.client_id, &self.issuer, &self.keys),
+        };
+        Ok(verifier.set_allowed_algs(algorithms))
     }
 }

@@ -2,10 +2,11 @@
 
 ghost use Rattle.std.specs.Prelude.{◌≡◌};
 ghost use Rattle.oidc_login.specs.Errors.{spent_of};
-ghost use Rattle.oidc_login.specs.Steps.{of_token};
+ghost use Rattle.oidc_login.specs.Steps.{of_token, of_check};
 
-use crate::tokens::verification::ClaimsVerificationError;
 use oidc_oauth2::{CoreRequestTokenError, RequestTokenError};
+use oidc_tokens::ClaimsVerificationError;
+use oidc_types::SigningError;
 use std::alloc::AllocError;
 use thiserror::Error;
 
@@ -60,22 +61,29 @@ pub enum LoginError<E> {
     /// The query hasn't one `state`, or it names no pending login.
     #[error("the query names no pending login")]
     State,
-    /// The query has an `error`, or the text of the ID token isn't plain.
+    /// The query has an `error`.
     #[error("not built yet")]
     Unbuilt,
     /// The query hasn't one `code`.
     #[error("the query hasn't one code")]
     Callback,
-    /// The token request has no answer that holds tokens. `TooLong` and `Memory` never stand inside
-    /// it.
+    /// The token request has no answer that holds tokens: an ID token that doesn't read is a
+    /// refusal of the whole answer. `TooLong` and `Memory` never stand inside it.
     #[error("no tokens: {0}")]
     Token(CoreRequestTokenError<E>),
     /// The answer has no ID token.
     #[error("no ID token")]
     NoIdToken,
-    /// The ID token isn't accepted.
+    /// The ID token isn't accepted. `Memory` never stands inside it.
     #[error("the ID token isn't accepted: {0}")]
     Claims(ClaimsVerificationError),
+    /// The ID token has the hash of an access token, and no hash goes with its algorithm. `Memory`
+    /// never stands inside it.
+    #[error("no hash of the access token: {0}")]
+    Signing(SigningError),
+    /// The hash in the ID token isn't that of the access token beside it.
+    #[error("another access token than the ID token's")]
+    TokenHash,
     /// There was no memory.
     #[error("out of memory")]
     Memory {
@@ -104,6 +112,16 @@ impl<E> LoginError<E> {
             RequestTokenError::TooLong(_) => LoginError::TooLong(TooLong::TokenAnswer),
             RequestTokenError::Memory => LoginError::Memory { spent: true },
             error => LoginError::Token(error),
+        }
+    }
+
+    // The refusal of a login by that of the checks of its ID token.
+    pub(crate) fn of_check(error: ClaimsVerificationError) -> Self
+        ensures { result ≡ of_check error }
+    {
+        match error {
+            ClaimsVerificationError::Memory => LoginError::Memory { spent: true },
+            error => LoginError::Claims(error),
         }
     }
 }

@@ -10,10 +10,11 @@
 //! `oidc_oauth2::Adapter` over a closure or `oidc_oauth2::Recorded`, which plays a list of answers.
 //!
 //! What is promised: a callback signs in only with the claims of the ID token in the answer to its
-//! own token request, accepted at the given moment with the named login's nonce. It sends at most
-//! that one request, and where it sends one the named login is gone afterwards. A callback leaves
-//! every other login as it was. Every refusal but want of memory has its cause. The contracts of
-//! `begin` and `callback` say so by the definitions in `specs/`: the table of a callback in
+//! own token request, accepted at the given moment with the named login's nonce, and whose
+//! `at_hash`, where it has one, is the hash of the access token that came beside it. It sends at
+//! most that one request, and where it sends one the named login is gone afterwards. A callback
+//! leaves every other login as it was. Every refusal but want of memory has its cause. The contracts
+//! of `begin` and `callback` say so by the definitions in `specs/`: the table of a callback in
 //! `specs/Rows.antt`, what each reply rests on in `specs/Causes.antt`, and both together as `Ran` in
 //! `specs/Runs.antt`.
 //!
@@ -26,23 +27,20 @@
 //! then.
 //!
 //! The standards: RFC 6749 (section 4.1), RFC 7636, RFC 7515 section 7.1, and OpenID Connect Core
-//! 1.0 (sections 2, 3.1.2.1, 3.1.3.3 and 3.1.3.7). The modules `client` and `tokens` hold what this
-//! path needs of the layers that will stand below it.
+//! 1.0 (sections 2, 3.1.2.1, 3.1.3.3, 3.1.3.6 and 3.1.3.7). The module `client` holds what this
+//! path needs of a layer that will stand below it.
 #![tactic(auto)]
 
 pub mod client;
 pub mod errors;
+pub mod laws;
 pub mod logins;
 pub mod signed_in;
 mod steps;
 mod store;
-pub mod tokens;
 
 pub use client::Client;
 pub use client::authorization::AuthorizationRequest;
 pub use errors::{BeginError, LoginError, NewLoginsError, TooLong};
 pub use logins::Logins;
-pub use signed_in::SignedIn;
-pub use tokens::claims::IdTokenClaims;
-pub use tokens::id_token::IdToken;
-pub use tokens::verification::ClaimsVerificationError;
+pub use signed_in::{LoginClaims, LoginIdToken, SignedIn};

@@ -12,7 +12,8 @@ ghost use Rattle.oidc_login.specs.Rows.{login_named_by, callback_store};
 ghost use Rattle.oidc_login.specs.Causes.{AsksNothing};
 ghost use Rattle.oidc_login.specs.Runs.{Ran, IsBlamed, Leaves, attempt};
 ghost use Rattle.oidc_keys.specs.declared.refusals.SignatureVerificationError.TheVariants as signature;
-ghost use Rattle.oidc_login.specs.declared.tokens.verification.ClaimsVerificationError.TheVariants.{SignatureVerification};
+ghost use Rattle.oidc_tokens.specs.declared.verification.refusals.ClaimsVerificationError.TheVariants as check;
+ghost use Rattle.oidc_types.specs.declared.signing_error.SigningError.TheVariants as signing;
 
 use crate::client::Client;
 use crate::client::authorization::{AuthorizationRequest, authorize_url};
@@ -125,10 +126,11 @@ impl<'c> Logins<'c> {
     /// `Unbuilt`, where it has an `error`; `Callback`, where it hasn't one `code`;
     /// `Token(Other(Uri))`, where the address isn't one that is sent to; `Token(Request)`, where the
     /// transport fails; `TooLong`, where the answer has more than 1,048,576 bytes; the other `Token`,
-    /// where it holds no tokens; `NoIdToken`, where these have no ID token among them; `Unbuilt`,
-    /// where its text isn't plain (the page of `tokens` says what that is); `Claims`, where a check
-    /// of it fails; `Memory` may come at any point (RFC 6749 sections 4.1.2 to 4.1.4, OpenID Connect
-    /// Core 1.0 section 3.1.3).
+    /// where it holds no tokens, or an ID token that doesn't read; `NoIdToken`, where these have no ID
+    /// token among them; `Claims`, where a check of it fails; `Signing`, where it has an `at_hash` and
+    /// no hash goes with its algorithm; `TokenHash`, where the `at_hash` isn't the hash of the access
+    /// token; `Memory` may come at any point (RFC 6749 sections 4.1.2 to 4.1.4, OpenID Connect Core
+    /// 1.0 section 3.1.3).
     pub fn callback<H: SyncHttpClient>(
         &mut self,
         query: &[u8],
@@ -172,9 +174,11 @@ impl<'c> Logins<'c> {
         ensures blamed { IsBlamed (H.faults http.old) (H.faults http.new) result }
         ensures never_falls { H.faults http.old ≤ H.faults http.new }
 
-        // Want of memory is `Memory`, and never a failed check of a signature.
-        ensures no_inner_memory { let wanting = SignatureVerification signature.Memory in
+        // Want of memory is `Memory`, and never stands inside another refusal.
+        ensures no_inner_memory { let wanting = check.SignatureVerification signature.Memory in
             result ≢ Err (LoginError.Claims wanting) }
+        ensures no_wanting_check { result ≢ Err (LoginError.Claims check.Memory) }
+        ensures no_wanting_hash { result ≢ Err (LoginError.Signing signing.Memory) }
     {
         drive(self.alloc, self.client, &mut self.pending, query, http, now)
     }

@@ -1,39 +1,41 @@
 // The steps of a callback. Those that judge have no transport inside.
 
-ghost use Rattle.std.specs.Prelude.{◌≡◌, ◌≤◌, IfErr, IfNone, IfSome, IsSome, IsTrue, MatchResult, false, true, None, Some, if◌then◌else◌};
-ghost use Rattle.std.specs.String.{string_bytes};
+ghost use Rattle.std.specs.Prelude.{◌≡◌, ◌≤◌, [], is_some, Err, IfErr, IfNone, IfOk, IfSome, IsSome, IsTrue, MatchResult, false, true, None, Some, if◌then◌else◌};
 ghost use Rattle.oidc_pairs.specs.Pairs.{pairs};
 ghost use Rattle.oidc_oauth2.specs.Pkce.{is_verifier};
+ghost use Rattle.oidc_members.specs.Write.{any_float};
 ghost use Rattle.oidc_oauth2.specs.Messages.{seen_response};
 ghost use Rattle.oidc_oauth2.specs.Transport.{HasRisen};
 ghost use Rattle.oidc_oauth2.specs.Requests.{Prepares};
 ghost use Rattle.oidc_oauth2.specs.Exchanges.{known};
-ghost use Rattle.oidc_login.specs.Errors.{faulted, is_spent_by, Gives, OrMemory};
+ghost use Rattle.oidc_types.specs.declared.signing_error.SigningError.TheVariants.{UnsupportedAlg};
+ghost use Rattle.oidc_tokens.specs.Hashes.{GivesHash};
+ghost use Rattle.oidc_login.specs.Errors.{faulted, is_spent_by, memory_of, seen, Gives, OrMemory, Unless};
 ghost use Rattle.oidc_login.specs.Logins.{HasVerifiers};
-ghost use Rattle.oidc_login.specs.Reading.{Reads};
-ghost use Rattle.oidc_login.specs.IdToken.{token_of};
 ghost use Rattle.oidc_login.specs.TokenRequest as request;
+ghost use Rattle.oidc_login.specs.TokenHash as hashes;
+ghost use Rattle.oidc_login.specs.TokenHash.{claimed_hash};
+ghost use Rattle.oidc_login.specs.SignedIn.{additional_in};
 ghost use Rattle.oidc_login.specs.Rows as rows;
 ghost use Rattle.oidc_login.specs.Rows.{login_named_by, callback_store};
 ghost use Rattle.oidc_login.specs.Causes.{AsksNothing};
 ghost use Rattle.oidc_login.specs.Runs.{Ran, IsBlamed, Leaves, start};
-ghost use Rattle.oidc_login.specs.Steps.{answer_of, Exchanged, Untouched, Faults};
+ghost use Rattle.oidc_login.specs.Steps.{answer_of, Exchanged, Untouched, Faults, IsPassed};
 
 use crate::client::Client;
 use crate::errors::LoginError;
-use crate::signed_in::{SignedIn, TokenResponse};
+use crate::signed_in::{LoginIdToken, SignedIn, TokenResponse};
 use crate::store::{Login, Store};
-use crate::tokens::id_token::IdToken;
-use crate::tokens::reading::Unread;
-use crate::tokens::verification::first_failure;
 use jiff::Timestamp;
+use oidc_members::FieldName;
 use oidc_oauth2::{
     AuthType, CallError, ClientAuth, CodeTokenRequest, CoreErrorResponseType, HttpRequest,
     HttpResponse, OAuth2TokenResponse, OtherCause, PrepareError, RequestTokenError,
     StandardErrorResponse, SyncHttpClient, token_answer,
 };
 use oidc_pairs::Pairs;
-use oidc_types::AuthorizationCode;
+use oidc_tokens::{CoreIdTokenVerifier, from_token};
+use oidc_types::{AccessToken, AccessTokenHash, AuthorizationCode, SigningError};
 use std::alloc::{AllocError, Global};
 use std::marker::Model;
 
@@ -82,7 +84,7 @@ fn token_request(
     };
     let auth = ClientAuth {
         client_id: client.client_id(),
-        client_secret: Some(client.client_secret()),
+        client_secret: client.client_secret(),
         auth_type: AuthType::BasicAuth,
     };
     let code = AuthorizationCode::new(String::from_str(alloc, code)?);
@@ -150,6 +152,7 @@ fn opening<E>(
 #[tactic(auto, unfolding(crate::specs::TokenResponse::tokens_or_refusal))]
 fn tokens_in<E>(alloc: Global, response: HttpResponse) -> Result<TokenResponse, LoginError<E>>
     ensures gives { Gives result (rows.tokens_in (seen_response response)) }
+    ensures no_float { IfOk result (λ tokens. any_float (additional_in tokens) ≡ false) }
     ensures no_fault { IfErr result (λ e. faulted e ≡ false) }
     ensures spent { is_spent_by result ≡ true }
 {
@@ -159,15 +162,106 @@ fn tokens_in<E>(alloc: Global, response: HttpResponse) -> Result<TokenResponse, 
     }
 }
 
-// The ID token that a text is.
-fn token_in(alloc: Global, text: &str) -> Result<IdToken, Unread>
-    ensures { Reads (token_of text.now) result }
+// The refusal of a token that no key checks. None that is accepted is one.
+fn no_hash(alloc: Global) -> SigningError
+    ensures { result ≡ UnsupportedAlg [] }
 {
-    IdToken::read(alloc, String::from_str(alloc, text)?)
+    SigningError::UnsupportedAlg(FieldName::new(String::new(alloc)))
 }
 
-// The rows on the ID token.
-#[tactic(auto, unfolding(crate::specs::Rows::signing_in))]
+// The hash of an access token beside an ID token.
+#[tactic(auto, unfolding(crate::specs::TokenHash::hash_beside))]
+fn hash_beside(
+    alloc: Global,
+    verifier: &CoreIdTokenVerifier<'_>,
+    token: &LoginIdToken,
+    access_token: &AccessToken,
+) -> Result<AccessTokenHash, SigningError>
+    ensures { GivesHash (hashes.hash_beside verifier.now token.now access_token.now) result }
+{
+    let Ok(alg) = token.signing_alg() else {
+        return Err(no_hash(alloc));
+    };
+    let Ok(key) = token.signing_key(verifier) else {
+        return Err(no_hash(alloc));
+    };
+    from_token(alloc, access_token, alg, key)
+}
+
+// The rows on the hash that an ID token may claim of the access token beside it.
+fn check_hash<E>(
+    alloc: Global,
+    verifier: &CoreIdTokenVerifier<'_>,
+    token: &LoginIdToken,
+    access_token: &AccessToken,
+) -> Result<(), LoginError<E>>
+    ensures gives { let hash = hashes.hash_beside verifier.now token.now access_token.now in
+        Gives result (rows.hash_rows (claimed_hash token.now) hash) }
+    ensures no_fault { IfErr result (λ e. faulted e ≡ false) }
+    ensures spent { is_spent_by result ≡ true }
+{
+    let Some(claim) = token.token().unverified_payload().access_token_hash() else {
+        return Ok(());
+    };
+    match hash_beside(alloc, verifier, token, access_token) {
+        Ok(hash) => {
+            if hash.as_str() == claim.as_str() {
+                Ok(())
+            } else {
+                Err(LoginError::TokenHash)
+            }
+        }
+        Err(SigningError::Memory) => Err(LoginError::Memory { spent: true }),
+        Err(refusal) => Err(LoginError::Signing(refusal)),
+    }
+}
+
+// The rows on the ID token, which came beside this access token.
+fn accepting<E>(
+    alloc: Global,
+    client: &Client,
+    now: Timestamp,
+    login: &Login,
+    token: &LoginIdToken,
+    access_token: &AccessToken,
+) -> Result<(), LoginError<E>>
+    ensures gives { let meant = rows.accepting client.now now.nanosecond login.now in
+        Gives result (meant token.now access_token.now) }
+    ensures no_fault { IfErr result (λ e. faulted e ≡ false) }
+    ensures spent { is_spent_by result ≡ true }
+{
+    let Ok(verifier) = client.id_token_verifier(alloc) else {
+        return Err(LoginError::Memory { spent: true });
+    };
+    match token.claims(alloc, &verifier, &login.nonce, now) {
+        Ok(_) => check_hash(alloc, &verifier, token, access_token),
+        Err(error) => Err(LoginError::of_check(error)),
+    }
+}
+
+// The rows on tokens that somebody else keeps.
+fn checking<E>(
+    alloc: Global,
+    client: &Client,
+    now: Timestamp,
+    login: &Login,
+    tokens: &TokenResponse,
+) -> Result<(), LoginError<E>>
+    ensures there { IfOk result (λ u. is_some tokens.now.extra_fields.id_token ≡ true) }
+    ensures passed { IfOk result (λ u.
+        IsPassed client.now now.nanosecond login.now tokens.now) }
+    ensures refused { let meant = rows.signing_in client.now now.nanosecond login.now tokens.now in
+        IfErr result (λ e. Unless (memory_of e) (meant ≡ Err (seen e))) }
+    ensures no_fault { IfErr result (λ e. faulted e ≡ false) }
+    ensures spent { is_spent_by result ≡ true }
+{
+    let Some(token) = tokens.extra_fields().id_token() else {
+        return Err(LoginError::NoIdToken);
+    };
+    accepting(alloc, client, now, login, token, tokens.access_token())
+}
+
+// The rows on the tokens.
 fn signing_in<E>(
     alloc: Global,
     client: &Client,
@@ -175,22 +269,14 @@ fn signing_in<E>(
     login: &Login,
     tokens: TokenResponse,
 ) -> Result<SignedIn, LoginError<E>>
+    requires no_float { any_float (additional_in tokens) ≡ false }
     ensures gives { Gives result (rows.signing_in client.now now.nanosecond login.now tokens) }
     ensures no_fault { IfErr result (λ e. faulted e ≡ false) }
     ensures spent { is_spent_by result ≡ true }
 {
-    let Some(text) = tokens.extra_fields().text() else {
-        return Err(LoginError::NoIdToken);
-    };
-    let token = match token_in(alloc, text) {
-        Ok(token) => token,
-        Err(Unread::Form) => return Err(LoginError::Unbuilt),
-        Err(Unread::Memory) => return Err(LoginError::Memory { spent: true }),
-    };
-    match first_failure(alloc, client, &login.nonce, now, &token) {
-        Ok(None) => Ok(SignedIn::new(token, tokens)),
-        Ok(Some(kind)) => Err(LoginError::Claims(kind)),
-        Err(_) => Err(LoginError::Memory { spent: true }),
+    match checking(alloc, client, now, login, &tokens) {
+        Ok(()) => Ok(SignedIn::new(tokens)),
+        Err(error) => Err(error),
     }
 }
 

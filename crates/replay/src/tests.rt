@@ -7,4 +7,6 @@ mod login;
 mod low;
 mod oauth2;
 mod readers;
+mod tokens;
 mod types;
+mod user_info;

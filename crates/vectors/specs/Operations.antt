@@ -2,7 +2,7 @@
 use Rattle.std.specs.Prelude.{ℕ, List, [], ◌∷◌, Option, codes, find}
 use Rattle.std.specs.Str.{bytes_eq}
 use Rattle.vectors.specs.declared.operations.Operation.{Operation}
-use Rattle.vectors.specs.declared.operations.Operation.TheVariants.{Pairs, Members, Standard, Url, Join, Word, Localized, Random, Hmac, Verdict, Digest, Challenge, Display, Run, TokenResponse, ErrorResponse, DeviceError, RevocationError, DeviceResponse, Introspection, TokenType, Essence, Bearer, CodeRequest, TokenAnswer}
+use Rattle.vectors.specs.declared.operations.Operation.TheVariants.{Pairs, Members, Standard, Url, Join, Word, Localized, Random, Hmac, Verdict, Digest, Challenge, Display, Run, TokenResponse, ErrorResponse, DeviceError, RevocationError, DeviceResponse, Introspection, TokenType, Essence, Bearer, CodeRequest, TokenAnswer, Header, IdClaims, IdToken, Verify, Hash, Issue, InfoClaims, InfoRequest, InfoAnswer, InfoIssue}
 
 -- the name of an operation, the value of `op`
 abbrev pub operation_name : Operation → List ℕ
@@ -31,11 +31,22 @@ operation_name Essence = codes "essence"
 operation_name Bearer = codes "bearer"
 operation_name CodeRequest = codes "code_request"
 operation_name TokenAnswer = codes "token_answer"
+operation_name Header = codes "header"
+operation_name IdClaims = codes "id_claims"
+operation_name IdToken = codes "token"
+operation_name Verify = codes "verify"
+operation_name Hash = codes "hash"
+operation_name Issue = codes "issue"
+operation_name InfoClaims = codes "info_claims"
+operation_name InfoRequest = codes "info_request"
+operation_name InfoAnswer = codes "info_answer"
+operation_name InfoIssue = codes "info_issue"
 
 -- all operations
 abbrev pub operations : List Operation
 operations = Pairs ∷ Members ∷ Standard ∷ Url ∷ Join ∷ Word ∷ Localized ∷ Random ∷ Hmac ∷ Verdict ∷ Digest ∷ Challenge ∷ Display ∷ Run
-    ∷ TokenResponse ∷ ErrorResponse ∷ DeviceError ∷ RevocationError ∷ DeviceResponse ∷ Introspection ∷ TokenType ∷ Essence ∷ Bearer ∷ CodeRequest ∷ TokenAnswer ∷ []
+    ∷ TokenResponse ∷ ErrorResponse ∷ DeviceError ∷ RevocationError ∷ DeviceResponse ∷ Introspection ∷ TokenType ∷ Essence ∷ Bearer ∷ CodeRequest ∷ TokenAnswer
+    ∷ Header ∷ IdClaims ∷ IdToken ∷ Verify ∷ Hash ∷ Issue ∷ InfoClaims ∷ InfoRequest ∷ InfoAnswer ∷ InfoIssue ∷ []
 
 -- the operation of that name
 abbrev pub operation_of : List ℕ → Option Operation

@@ -2,7 +2,7 @@
 
 use hex::FromHexError;
 use oidc_pairs::{Pair, Pairs};
-use std::alloc::{AllocError, Global};
+use std::alloc::{AllocError, AllocFailed, Global};
 
 /// Why a case has no answer.
 #[derive(Clone, Copy, Debug, PartialEq, Eq)]
@@ -15,6 +15,12 @@ pub(crate) enum CaseError {
 
 impl From<AllocError> for CaseError {
     fn from(_refused: AllocError) -> CaseError {
+        CaseError::Memory
+    }
+}
+
+impl<T: Drop> From<AllocFailed<T>> for CaseError {
+    fn from(_refused: AllocFailed<T>) -> CaseError {
         CaseError::Memory
     }
 }

@@ -4,14 +4,15 @@ use crate::answers::{ok_form, ok_pair, refused_word};
 use crate::case::{Case, CaseError};
 use crate::headers::{content_type, text_in};
 use crate::records::{Tokens, written};
+use crate::tokens::TokenFields;
 use crate::words::kind_word;
 use http::{Response, StatusCode};
 use http_header::{CONTENT_TYPE, HeaderMap};
 use oidc_members::Refusal;
 use oidc_oauth2::{
     AuthType, Body, ClientAuth, CodeTokenRequest, CoreErrorResponseType, CoreRequestTokenError,
-    Fault, HttpRequest, HttpResponse, OtherCause, PrepareError, RequestTokenError,
-    StandardErrorResponse,
+    EmptyExtraTokenFields, ExtraTokenFields, Fault, HttpRequest, HttpResponse, OtherCause,
+    PrepareError, RequestTokenError, StandardErrorResponse,
 };
 use oidc_pairs::{FormText, Pairs, escaped_text};
 use oidc_types::{
@@ -24,7 +25,7 @@ use std::alloc::{AllocError, Global};
 type Refused = StandardErrorResponse<CoreErrorResponseType>;
 
 /// The request that exchanges a code.
-type Request<'a> = CodeTokenRequest<'a, Refused, Tokens>;
+type Request<'a> = CodeTokenRequest<'a, Refused, Tokens<EmptyExtraTokenFields>>;
 
 // ---- the request
 
@@ -54,7 +55,8 @@ pub(crate) fn code_request(alloc: Global, case: &Case) -> Result<String, CaseErr
     }
 }
 
-fn url_of<M: Marker>(alloc: Global, text: &str) -> Result<UrlText<M>, CaseError> {
+/// The URL of a text that has to be one.
+pub(crate) fn url_of<M: Marker>(alloc: Global, text: &str) -> Result<UrlText<M>, CaseError> {
     match UrlText::new(alloc, String::from_str(alloc, text)?) {
         Ok(url) => Ok(url),
         Err(UrlTextError::Refused(_)) => Err(CaseError::NoCase),
@@ -133,8 +135,8 @@ fn extra_in(alloc: Global, text: &str) -> Result<(String, String), CaseError> {
     }
 }
 
-// The pairs that a report has of a request.
-fn request_line(alloc: Global, request: &HttpRequest) -> Result<String, CaseError> {
+/// The pairs that a report has of a request. Only a POST shows its body.
+pub(crate) fn request_line(alloc: Global, request: &HttpRequest) -> Result<String, CaseError> {
     let body = str::from_utf8(request.body().as_slice()).map_err(|_| CaseError::NoCase)?;
     let headers = request.headers();
     let mut form = FormText::new(alloc);
@@ -143,7 +145,9 @@ fn request_line(alloc: Global, request: &HttpRequest) -> Result<String, CaseErro
     push_header(&mut form, "accept", headers, "accept")?;
     push_header(&mut form, "content_type", headers, "content-type")?;
     push_header(&mut form, "authorization", headers, "authorization")?;
-    form.push("body", body)?;
+    if request.method().as_str() == "POST" {
+        form.push("body", body)?;
+    }
     ok_form(alloc, form)
 }
 
@@ -163,15 +167,28 @@ fn push_header(
 
 /// `token_answer`: what an answer to that request is worth.
 pub(crate) fn token_answer(alloc: Global, case: &Case) -> Result<String, CaseError> {
-    case.check_with(&["status", "body"], &["type"])?;
+    case.check_with(&["status", "body"], &["type", "extra"])?;
     let response = response_in(alloc, case)?;
-    match oidc_oauth2::token_answer::<Fault, Refused, Tokens>(alloc, response) {
+    match case.optional("extra") {
+        None => answer_line::<EmptyExtraTokenFields>(alloc, response),
+        Some("id_token") => answer_line::<TokenFields>(alloc, response),
+        Some(_) => Err(CaseError::NoCase),
+    }
+}
+
+// What it is worth where these extra fields are read.
+fn answer_line<EF: ExtraTokenFields>(
+    alloc: Global,
+    response: HttpResponse,
+) -> Result<String, CaseError> {
+    match oidc_oauth2::token_answer::<Fault, Refused, Tokens<EF>>(alloc, response) {
         Ok(tokens) => ok_pair(alloc, "written", written(alloc, &tokens)?.as_str()),
         Err(refusal) => refused_line(alloc, &refusal),
     }
 }
 
-fn response_in(alloc: Global, case: &Case) -> Result<HttpResponse, CaseError> {
+/// The response that a line gives by `status`, `type` and `body`.
+pub(crate) fn response_in(alloc: Global, case: &Case) -> Result<HttpResponse, CaseError> {
     let status = status(case.value("status"))?;
     let body = Body::new(Vec::from_slice(alloc, case.value("body").as_bytes())?);
     let mut response = Response::new(alloc, body);
@@ -212,7 +229,8 @@ fn server_line(alloc: Global, error: &Refused) -> Result<String, CaseError> {
     refused_word(alloc, words.as_str())
 }
 
-fn parse_line(alloc: Global, refusal: &Refusal) -> Result<String, CaseError> {
+/// `refused parse`, and the kind and the field.
+pub(crate) fn parse_line(alloc: Global, refusal: &Refusal) -> Result<String, CaseError> {
     let mut form = FormText::new(alloc);
     form.push("kind", kind_word(refusal.kind))?;
     form.push("field", refusal.field.as_str())?;

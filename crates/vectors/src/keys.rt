@@ -7,7 +7,8 @@ use oidc_keys::{CoreJsonWebKey, HashError, HmacAlgorithm, JsonWebKey};
 use oidc_types::{ClosedVocabulary, CoreJwsSigningAlgorithm};
 use std::alloc::Global;
 
-fn algorithm(text: &str) -> Result<CoreJwsSigningAlgorithm, CaseError> {
+/// The signing algorithm of a text.
+pub(crate) fn algorithm(text: &str) -> Result<CoreJwsSigningAlgorithm, CaseError> {
     CoreJwsSigningAlgorithm::from_str(text).ok_or(CaseError::NoCase)
 }
 

@@ -20,7 +20,11 @@ mod operations;
 mod pkce;
 mod records;
 mod scripts;
+mod tokens;
 mod types;
+mod user_info;
+mod verifier_keys;
+mod verifiers;
 mod vocabularies;
 mod words;
 

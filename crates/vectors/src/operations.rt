@@ -5,8 +5,8 @@ ghost use Rattle.vectors.specs.Operations.{operation_of};
 
 use crate::case::{Case, CaseError};
 use crate::{
-    claims, displays, exchanges, headers, keys, members, pkce, records, scripts, types,
-    vocabularies,
+    claims, displays, exchanges, headers, keys, members, pkce, records, scripts, tokens, types,
+    user_info, verifiers, vocabularies,
 };
 use std::alloc::Global;
 
@@ -38,6 +38,16 @@ pub(crate) enum Operation {
     Bearer,
     CodeRequest,
     TokenAnswer,
+    Header,
+    IdClaims,
+    IdToken,
+    Verify,
+    Hash,
+    Issue,
+    InfoClaims,
+    InfoRequest,
+    InfoAnswer,
+    InfoIssue,
 }
 
 /// The operation of that name.
@@ -70,6 +80,16 @@ pub(crate) fn operation_named(name: &str) -> Option<Operation>
         "bearer" => Some(Operation::Bearer),
         "code_request" => Some(Operation::CodeRequest),
         "token_answer" => Some(Operation::TokenAnswer),
+        "header" => Some(Operation::Header),
+        "id_claims" => Some(Operation::IdClaims),
+        "token" => Some(Operation::IdToken),
+        "verify" => Some(Operation::Verify),
+        "hash" => Some(Operation::Hash),
+        "issue" => Some(Operation::Issue),
+        "info_claims" => Some(Operation::InfoClaims),
+        "info_request" => Some(Operation::InfoRequest),
+        "info_answer" => Some(Operation::InfoAnswer),
+        "info_issue" => Some(Operation::InfoIssue),
         _ => None,
     }
 }
@@ -103,6 +123,16 @@ impl Operation {
             Operation::Bearer => headers::bearer(alloc, case),
             Operation::CodeRequest => exchanges::code_request(alloc, case),
             Operation::TokenAnswer => exchanges::token_answer(alloc, case),
+            Operation::Header => tokens::header(alloc, case),
+            Operation::IdClaims => tokens::id_claims(alloc, case),
+            Operation::IdToken => tokens::token(alloc, case),
+            Operation::Verify => verifiers::verify(alloc, case),
+            Operation::Hash => tokens::hash(alloc, case),
+            Operation::Issue => tokens::issue(alloc, case),
+            Operation::InfoClaims => user_info::info_claims(alloc, case),
+            Operation::InfoRequest => user_info::info_request(alloc, case),
+            Operation::InfoAnswer => user_info::info_answer(alloc, case),
+            Operation::InfoIssue => user_info::info_issue(alloc, case),
         }
     }
 }

@@ -2,45 +2,61 @@
 
 use crate::answers::{ok_form, push_some, refused_reading, text_of};
 use crate::case::{Case, CaseError};
+use crate::tokens::TokenFields;
 use crate::vocabularies::variant_name;
 use jiff::Timestamp;
 use oidc_members::{FieldName, Members, ParseError};
 use oidc_oauth2::{
     CoreDeviceAuthorizationResponse, CoreErrorResponseType, CoreTokenIntrospectionResponse,
     CoreTokenType, DeviceCodeErrorResponseType, EmptyExtraTokenFields, ErrorResponse,
-    OAuth2TokenResponse, RevocationErrorResponseType, StandardErrorResponse, StandardTokenResponse,
-    TokenIntrospectionResponse, TokenType,
+    ExtraTokenFields, OAuth2TokenResponse, RevocationErrorResponseType, StandardErrorResponse,
+    StandardTokenResponse, TokenIntrospectionResponse, TokenType,
 };
 use oidc_pairs::FormText;
 use oidc_types::{ErrorResponseType, Scope};
 use std::alloc::{AllocError, Global};
 use std::fmt;
 
-/// A token response without extra fields.
-pub(crate) type Tokens = StandardTokenResponse<EmptyExtraTokenFields, CoreTokenType>;
+/// A token response with these extra fields.
+pub(crate) type Tokens<EF> = StandardTokenResponse<EF, CoreTokenType>;
 
 // ---- token responses
 
 /// `token_response`: a token response, written again.
 pub(crate) fn token_response(alloc: Global, case: &Case) -> Result<String, CaseError> {
-    case.check(&["text"])?;
-    match tokens_in(alloc, case.value("text")) {
+    case.check_with(&["text"], &["extra"])?;
+    match case.optional("extra") {
+        None => response_line::<EmptyExtraTokenFields>(alloc, case.value("text")),
+        Some("id_token") => response_line::<TokenFields>(alloc, case.value("text")),
+        Some(_) => Err(CaseError::NoCase),
+    }
+}
+
+// A token response with these extra fields, written again.
+fn response_line<EF: ExtraTokenFields>(alloc: Global, text: &str) -> Result<String, CaseError> {
+    match tokens_in::<EF>(alloc, text) {
         Ok(tokens) => tokens_line(alloc, &tokens),
         Err(error) => refused_reading(alloc, &error),
     }
 }
 
-fn tokens_in(alloc: Global, text: &str) -> Result<Tokens, ParseError> {
+fn tokens_in<EF: ExtraTokenFields>(alloc: Global, text: &str) -> Result<Tokens<EF>, ParseError> {
     let members = Members::split(alloc, text.as_bytes())?;
-    Tokens::read(alloc, &members)
+    Tokens::<EF>::read(alloc, &members)
 }
 
 /// The text that a token response is written as.
-pub(crate) fn written(alloc: Global, tokens: &Tokens) -> Result<String, CaseError> {
+pub(crate) fn written<EF: ExtraTokenFields>(
+    alloc: Global,
+    tokens: &Tokens<EF>,
+) -> Result<String, CaseError> {
     text_of(tokens.write(alloc)?)
 }
 
-fn tokens_line(alloc: Global, tokens: &Tokens) -> Result<String, CaseError> {
+fn tokens_line<EF: ExtraTokenFields>(
+    alloc: Global,
+    tokens: &Tokens<EF>,
+) -> Result<String, CaseError> {
     let written = written(alloc, tokens)?;
     let mut form = FormText::new(alloc);
     form.push("written", written.as_str())?;

@@ -55,8 +55,8 @@ pub(crate) fn random(alloc: Global, case: &Case) -> Result<String, CaseError> {
     ok_pair(alloc, "text", nonce.secret())
 }
 
-// Decimal digits.
-fn number<N: FromStr>(text: &str) -> Result<N, CaseError>
+/// The number that decimal digits are.
+pub(crate) fn number<N: FromStr>(text: &str) -> Result<N, CaseError>
 where
     N::Err: Drop,
 {

@@ -2,6 +2,7 @@
 
 use oidc_keys::SignatureVerificationError;
 use oidc_members::ParseKind;
+use oidc_tokens::ClaimsVerificationError;
 
 /// The word of what a text was refused for.
 pub(crate) fn kind_word(kind: ParseKind) -> &'static str {
@@ -31,5 +32,19 @@ pub(crate) fn signature_word(kind: SignatureVerificationError) -> &'static str {
         SignatureVerificationError::NoSignature => "no_signature",
         SignatureVerificationError::UnsupportedAlg => "unsupported_alg",
         SignatureVerificationError::Memory => "memory",
+    }
+}
+
+/// The word of why claims aren't accepted.
+pub(crate) fn claims_word(kind: ClaimsVerificationError) -> &'static str {
+    match kind {
+        ClaimsVerificationError::Unsupported => "unsupported",
+        ClaimsVerificationError::InvalidIssuer => "invalid_issuer",
+        ClaimsVerificationError::InvalidAudience => "invalid_audience",
+        ClaimsVerificationError::SignatureVerification(kind) => signature_word(kind),
+        ClaimsVerificationError::Expired => "expired",
+        ClaimsVerificationError::InvalidNonce => "invalid_nonce",
+        ClaimsVerificationError::InvalidSubject => "invalid_subject",
+        ClaimsVerificationError::Memory => "memory",
     }
 }

@@ -4,7 +4,7 @@ ghost use Rattle.std.specs.Prelude.{◌≡◌, IfOk, IsTrue};
 ghost use Rattle.oidc_claims.specs.Additional.{are_additional};
 ghost use Rattle.oidc_claims.specs.Home.{is_additional};
 
-mod own_types;
+pub(crate) mod own_types;
 
 use jiff::Timestamp;
 use oidc_claims::{
@@ -25,14 +25,18 @@ fn object_text(alloc: Global, members: &[OutMember]) -> Result<String, Fail> {
     Ok(String::from_utf8(text).map_err(|_| Fail::from("not a text"))?)
 }
 
+fn written<GC: GenderClaim>(alloc: Global, claims: &StandardClaims<GC>) -> Result<String, Fail> {
+    let members = write_standard(alloc, claims)?;
+    object_text(alloc, members.as_slice())
+}
+
 // A copy of the claims, written.
 fn written_copy<GC: GenderClaim>(
     alloc: Global,
     claims: &StandardClaims<GC>,
 ) -> Result<String, Fail> {
     let copy = claims.clone_in(alloc)?;
-    let members = write_standard(alloc, &copy)?;
-    object_text(alloc, members.as_slice())
+    written(alloc, &copy)
 }
 
 // The claims of an object, copied and written, or the place, the kind and the field of a refusal.
@@ -340,35 +344,45 @@ fn updated_line(alloc: Global, nanosecond: i128) -> Result<String, Fail> {
     written_copy(alloc, &claims.set_updated_at(Some(moment)))
 }
 
+// Nanoseconds, and what is written of that moment.
+static MOMENTS: [(i128, &str); 5] = [
+    (-1, r#"{"sub":"a","updated_at":-1}"#),
+    (-1_500_000_000, r#"{"sub":"a","updated_at":-2}"#),
+    (-1_000_000_000, r#"{"sub":"a","updated_at":-1}"#),
+    (0, r#"{"sub":"a","updated_at":0}"#),
+    (1_999_999_999, r#"{"sub":"a","updated_at":1}"#),
+];
+
 #[test]
 fn seconds_are_rounded_down(rt: HostRuntime) -> Result<(), Fail> {
-    for (nanosecond, want) in [
-        (-1, r#"{"sub":"a","updated_at":-1}"#),
-        (-1_500_000_000, r#"{"sub":"a","updated_at":-2}"#),
-        (-1_000_000_000, r#"{"sub":"a","updated_at":-1}"#),
-        (0, r#"{"sub":"a","updated_at":0}"#),
-        (1_999_999_999, r#"{"sub":"a","updated_at":1}"#),
-    ] {
-        assert_eq!(rt; updated_line(rt.alloc(), nanosecond)?.as_str(), want);
+    for (nanosecond, want) in &MOMENTS {
+        assert_eq!(rt; updated_line(rt.alloc(), *nanosecond)?.as_str(), *want);
     }
     Ok(())
 }
 
 // ---- the fields of an ID token
 
+// Names of members, and where they belong.
+static HOMES: [(&str, Home); 5] = [
+    ("sub", Home::Standard),
+    ("name#", Home::Standard),
+    ("name#de#x", Home::Standard),
+    ("exp#de", Home::Additional),
+    ("", Home::Additional),
+];
+
 #[test]
 fn id_token_has_fields_of_its_own(rt: HostRuntime) {
-    for field in ID_TOKEN_FIELDS {
+    for field in &ID_TOKEN_FIELDS {
         assert_eq!(rt; belongs(field, &ID_TOKEN_FIELDS), Home::TokenField);
     }
-    for (name, want) in [
-        ("sub", Home::Standard),
-        ("name#", Home::Standard),
-        ("name#de#x", Home::Standard),
-        ("exp#de", Home::Additional),
-        ("", Home::Additional),
-    ] {
-        assert_eq!(rt; belongs(name, &ID_TOKEN_FIELDS), want, "{name}");
+}
+
+#[test]
+fn id_token_has_other_members(rt: HostRuntime) {
+    for (name, want) in &HOMES {
+        assert_eq!(rt; belongs(name, &ID_TOKEN_FIELDS), *want, "{name}");
     }
 }
 

@@ -287,10 +287,12 @@ fn is_reported(alloc: Global, path: &str, wanted: &str) -> Result<bool, AllocErr
 }
 
 // An address has at most 65,534 bytes. Nothing is sent to a longer one.
+static ADDRESSES: [(usize, bool); 2] = [(65_519, false), (65_518, true)];
+
 #[test]
 fn address_limit(rt: HostRuntime) -> Result<(), Fail> {
-    for (letters, is_sent) in [(65_519, false), (65_518, true)] {
-        assert!(rt; is_answered(rt.alloc(), letters, is_sent)?, "{letters}");
+    for (letters, is_sent) in &ADDRESSES {
+        assert!(rt; is_answered(rt.alloc(), *letters, *is_sent)?, "{letters}");
     }
     Ok(())
 }
@@ -512,14 +514,16 @@ fn taken_of(alloc: Global, over: Over) -> Result<Vec<u8>, AllocError> {
     }
 }
 
+static TAKEN: [(Over, &str); 3] = [
+    (Over::Memory, "abc.!de.!."),
+    (Over::Std, "abc.d.."),
+    (Over::Failing, "x.!."),
+];
+
 #[test]
 fn sources(rt: HostRuntime) -> Result<(), Fail> {
-    for (over, want) in [
-        (Over::Memory, "abc.!de.!."),
-        (Over::Std, "abc.d.."),
-        (Over::Failing, "x.!."),
-    ] {
-        let taken = taken_of(rt.alloc(), over)?;
+    for (over, want) in &TAKEN {
+        let taken = taken_of(rt.alloc(), *over)?;
         assert_eq!(rt; taken.as_slice(), want.as_bytes(), "{over:?}");
     }
     Ok(())
@@ -553,14 +557,16 @@ fn put_of(alloc: Global, over: Over) -> Result<Vec<u8>, AllocError> {
     }
 }
 
+static PUT: [(Over, &str); 3] = [
+    (Over::Memory, "!.!..!abcde"),
+    (Over::Std, "...abcde"),
+    (Over::Failing, ".!."),
+];
+
 #[test]
 fn sinks(rt: HostRuntime) -> Result<(), Fail> {
-    for (over, want) in [
-        (Over::Memory, "!.!..!abcde"),
-        (Over::Std, "...abcde"),
-        (Over::Failing, ".!."),
-    ] {
-        let marks = put_of(rt.alloc(), over)?;
+    for (over, want) in &PUT {
+        let marks = put_of(rt.alloc(), *over)?;
         assert_eq!(rt; marks.as_slice(), want.as_bytes(), "{over:?}");
     }
     Ok(())

@@ -5,6 +5,7 @@ use crate::tests::oauth2::transports::{Down, Fleeting, TOKEN, echo};
 use http::StatusCode;
 use http_header::{CONTENT_TYPE, HeaderValue};
 use jiff::Timestamp;
+use oidc_keys::CoreJsonWebKeySet;
 use oidc_login::{AuthorizationRequest, Client, LoginError, Logins, NewLoginsError, SignedIn};
 use oidc_oauth2::{
     Adapter, Answer, Body, Fault, HttpRequest, HttpResponse, Recorded, SyncHttpClient,
@@ -38,16 +39,22 @@ fn client(alloc: Global) -> Result<Client, Fail> {
     let (id, secret) = names(alloc)?;
     let algorithms = [CoreJwsSigningAlgorithm::HmacSha256].to_vec(alloc)?;
     let (issuer, endpoint) = urls(alloc)?;
-    Ok(Client::new(id, secret, issuer, endpoint, algorithms))
+    let keys = CoreJsonWebKeySet::new(Vec::new(alloc));
+    Ok(Client::new(id, Some(secret), issuer, keys, endpoint, algorithms))
 }
 
-// The same client, with a token endpoint of so many bytes behind `https://example/`.
+// A token endpoint of so many bytes behind `https://example/`.
+fn token_endpoint(alloc: Global, len: usize) -> Result<TokenUrl, Fail> {
+    let path = "a".repeat(alloc, len)?;
+    let address = format!(in alloc; "https://example/{path}")?;
+    Ok(TokenUrl::new(alloc, address)?)
+}
+
+// The same client, with such a token endpoint.
 fn client_with(alloc: Global, len: usize) -> Result<Client, Fail> {
-    let mut address = text(alloc, "https://example/")?;
-    for _ in 0..len {
-        address.push_str("a")?;
-    }
-    Ok(client(alloc)?.set_token_uri(TokenUrl::new(alloc, address)?))
+    let endpoint = token_endpoint(alloc, len)?;
+    let client = client(alloc)?;
+    Ok(client.set_token_uri(endpoint))
 }
 
 // Begins a login.
@@ -68,23 +75,23 @@ fn filled(alloc: Global, text: &str, len: usize) -> Result<Body, AllocError> {
     Ok(Body::new(bytes))
 }
 
+// An answer of this status with this text, and white space behind it up to so many bytes.
+fn response(alloc: Global, status: u16, text: &str, len: usize) -> Result<HttpResponse, Fail> {
+    let status = StatusCode::from_u16(status)?;
+    let mut response = http::Response::new(alloc, filled(alloc, text, len)?);
+    *response.status_mut() = status;
+    Ok(response)
+}
+
 // The plain answer with the token, in a body of so many bytes.
 fn plain(alloc: Global, status: u16, len: usize) -> Result<HttpResponse, Fail> {
     let text = format!(in alloc;
         "{{\"access_token\":\"abc\",\"token_type\":\"Bearer\",\"id_token\":\"{TOKEN}\"}}"
     )?;
-    let mut response = http::Response::new(alloc, filled(alloc, text.as_str(), len)?);
-    *response.status_mut() = StatusCode::from_u16(status)?;
+    let mut response = response(alloc, status, text.as_str(), len)?;
     response
         .headers_mut()
         .insert(CONTENT_TYPE, HeaderValue::from_static("application/json"))?;
-    Ok(response)
-}
-
-// An answer of this status, whose body is so many bytes of white space.
-fn blank(alloc: Global, status: u16, len: usize) -> Result<HttpResponse, Fail> {
-    let mut response = http::Response::new(alloc, filled(alloc, "", len)?);
-    *response.status_mut() = StatusCode::from_u16(status)?;
     Ok(response)
 }
 
@@ -101,7 +108,9 @@ fn answers(alloc: Global, given: Given) -> Result<Vec<Answer>, Fail> {
     let mut answers = Vec::new(alloc);
     match given {
         Given::Plain(status, len) => answers.push(Answer::Response(plain(alloc, status, len)?))?,
-        Given::Blank(status, len) => answers.push(Answer::Response(blank(alloc, status, len)?))?,
+        Given::Blank(status, len) => {
+            answers.push(Answer::Response(response(alloc, status, "", len)?))?;
+        }
         Given::Fault => answers.push(Answer::Fault)?,
         Given::Nothing => {}
     }
@@ -122,7 +131,7 @@ fn answer<E: Drop>(
     match reply {
         Ok(signed) => {
             let subject = signed.claims().subject().as_str();
-            let own = signed.id_token().as_str() == TOKEN;
+            let own = signed.id_token().token().as_str() == TOKEN;
             let access = signed.access_token().secret();
             format!(in alloc; "{subject} {access} {own}")
         }
@@ -144,8 +153,24 @@ fn called_back<E: Drop, H: SyncHttpClient<Error = E>>(
     Ok(answer(alloc, logins.callback(query, http, now))?)
 }
 
-// A login at this client over any transport, in one line: whether its state alone is pending before its
+// A login in this store over any transport, in one line: whether its state alone is pending before its
 // callback, whether it is pending after it, and what the callback answers.
+fn login_in<E: Drop, H: SyncHttpClient<Error = E>>(
+    alloc: Global,
+    logins: &mut Logins<'_>,
+    http: &mut H,
+) -> Result<String, Fail>
+    requires { H.ready http.old }
+    ensures { H.ready http.new }
+{
+    begin(alloc, logins)?;
+    let before = logins.is_pending("CSRF123") && !logins.is_pending("CSRF12");
+    let answered = called_back(alloc, logins, http)?;
+    let after = logins.is_pending("CSRF123");
+    Ok(format!(in alloc; "{before} {after} {answered}")?)
+}
+
+// A login at this client.
 fn login<E: Drop, H: SyncHttpClient<Error = E>>(
     alloc: Global,
     client: &Client,
@@ -155,21 +180,21 @@ fn login<E: Drop, H: SyncHttpClient<Error = E>>(
     ensures { H.ready http.new }
 {
     let mut logins = Logins::new(alloc, client)?;
-    begin(alloc, &mut logins)?;
-    let before = logins.is_pending("CSRF123") && !logins.is_pending("CSRF12");
-    let answered = called_back(alloc, &mut logins, http)?;
-    let after = logins.is_pending("CSRF123");
-    Ok(format!(in alloc; "{before} {after} {answered}")?)
+    login_in(alloc, &mut logins, http)
 }
 
 // ---- in memory
 
-// How many requests are handed over at a login, and its line.
+// How many requests are handed over at a login at this client, and its line.
+fn login_over(alloc: Global, client: &Client, given: Given) -> Result<String, Fail> {
+    let mut http = Recorded::new(alloc, answers(alloc, given)?);
+    let line = login(alloc, client, &mut http)?;
+    Ok(format!(in alloc; "{} {line}", http.requests().len())?)
+}
+
 fn login_in_memory(alloc: Global, len: usize, given: Given) -> Result<String, Fail> {
     let client = client_with(alloc, len)?;
-    let mut http = Recorded::new(alloc, answers(alloc, given)?);
-    let line = login(alloc, &client, &mut http)?;
-    Ok(format!(in alloc; "{} {line}", http.requests().len())?)
+    login_over(alloc, &client, given)
 }
 
 // A fault, no answer at all, the longest address that is sent to, of 65,534 bytes, and the longest body
@@ -256,24 +281,31 @@ fn login_over_closure(alloc: Global, is_up: bool) -> Result<String, Fail> {
     Ok(format!(in alloc; "{line} {}", http.faults())?)
 }
 
+// Whether the closure answers, and the line.
+static CLOSURES: [(bool, &str); 2] = [
+    (true, "true false u1 POST https://example/aaaaa true 0"),
+    (false, "true false no tokens: the request failed; true 1"),
+];
+
 #[test]
 fn callbacks_over_closures(rt: HostRuntime) -> Result<(), Fail> {
-    for (is_up, want) in [
-        (true, "true false u1 POST https://example/aaaaa true 0"),
-        (false, "true false no tokens: the request failed; true 1"),
-    ] {
-        assert_eq!(rt; login_over_closure(rt.alloc(), is_up)?.as_str(), want);
+    for (is_up, want) in &CLOSURES {
+        assert_eq!(rt; login_over_closure(rt.alloc(), *is_up)?.as_str(), *want);
     }
     Ok(())
 }
 
-// Two logins over a transport that answers one request alone, and its counts.
+// Two logins at this client over a transport that answers one request alone, and its counts.
+fn two_logins(alloc: Global, client: &Client) -> Result<String, Fail> {
+    let mut http = Fleeting::new();
+    let first = login(alloc, client, &mut http)?;
+    let second = login(alloc, client, &mut http)?;
+    Ok(format!(in alloc; "{first}, {second}, {:?}", http.counts())?)
+}
+
 fn logins_over_own(alloc: Global) -> Result<String, Fail> {
     let client = client_with(alloc, 5)?;
-    let mut http = Fleeting::new();
-    let first = login(alloc, &client, &mut http)?;
-    let second = login(alloc, &client, &mut http)?;
-    Ok(format!(in alloc; "{first}, {second}, {:?}", http.counts())?)
+    two_logins(alloc, &client)
 }
 
 #[test]
@@ -295,14 +327,16 @@ fn refusal_line(alloc: Global, memory: Option<bool>) -> Result<String, AllocErro
     refusal(alloc, &error)
 }
 
+static REFUSALS: [(Option<bool>, &str); 3] = [
+    (None, "the query names no pending login; false"),
+    (Some(false), "out of memory; false"),
+    (Some(true), "out of memory; true"),
+];
+
 #[test]
 fn refusals_say_whether_the_login_is_gone(rt: HostRuntime) -> Result<(), Fail> {
-    for (memory, want) in [
-        (None, "the query names no pending login; false"),
-        (Some(false), "out of memory; false"),
-        (Some(true), "out of memory; true"),
-    ] {
-        assert_eq!(rt; refusal_line(rt.alloc(), memory)?.as_str(), want);
+    for (memory, want) in &REFUSALS {
+        assert_eq!(rt; refusal_line(rt.alloc(), *memory)?.as_str(), *want);
     }
     Ok(())
 }

@@ -1,27 +1,30 @@
 //! Tests of oidc_pairs, oidc_members and oidc_keys that no line of text can say: bytes that are no
 //! text, hundreds of thousands of members, calls that no operation makes, a key of the test's own.
 
-mod keys;
+pub(crate) mod keys;
 
 use oidc_members::{FieldName, Members, OutMember, ParseError, ParseKind, Refusal, write_object};
 use oidc_pairs::{Pairs, escaped_text};
 use serde_json::Value;
-use std::alloc::Global;
+use std::alloc::{AllocError, Global};
 use std::test::Fail;
 
-// Of the pairs of a text: each name as a form writes it, with its first value, then every value.
-fn looked_up(alloc: Global, text: &[u8], names: &[&str]) -> Result<String, Fail> {
+// A name as a form writes it, with its first value.
+fn found(alloc: Global, read: &Pairs, name: &str) -> Result<String, AllocError> {
+    let value = read.first(name).unwrap_or("nothing");
+    format!(in alloc; "{}={value}|", escaped_text(alloc, name)?)
+}
+
+fn all_found(alloc: Global, read: &Pairs, names: &[&str]) -> Result<String, AllocError> {
     let mut list = String::new(alloc);
-    let read = Pairs::parse(alloc, text)?;
-    if read.is_empty() || read.len() < names.len() {
-        return Err(Fail::from("as many pairs as names"));
-    }
     for name in names {
-        list.push_str(escaped_text(alloc, name)?.as_str())?;
-        list.push('=')?;
-        list.push_str(read.first(name).unwrap_or("nothing"))?;
-        list.push('|')?;
+        list.push_str(found(alloc, read, name)?.as_str())?;
     }
+    Ok(list)
+}
+
+fn values_of(alloc: Global, read: Pairs) -> Result<String, AllocError> {
+    let mut list = String::new(alloc);
     for pair in read.into_vec() {
         list.push_str(pair.into_value().as_str())?;
         list.push(';')?;
@@ -29,12 +32,21 @@ fn looked_up(alloc: Global, text: &[u8], names: &[&str]) -> Result<String, Fail>
     Ok(list)
 }
 
+// Of the pairs of a text: whether there are as many as names, each name with its first value, then every
+// value.
+fn looked_up(alloc: Global, text: &[u8], names: &[&str]) -> Result<String, AllocError> {
+    let read = Pairs::parse(alloc, text)?;
+    let are_enough = !read.is_empty() && read.len() >= names.len();
+    let found = all_found(alloc, &read, names)?;
+    format!(in alloc; "{are_enough} {found}{}", values_of(alloc, read)?)
+}
+
 // Each maximal part that isn't UTF-8 is one U+FFFD (Encoding Standard).
 #[test]
 fn pairs_of_any_bytes_are_looked_up(rt: HostRuntime) -> Result<(), Fail> {
     let text = b"a=\xe2\x82&b+c=1&a=2&%ff=%41";
     let list = looked_up(rt.alloc(), text, &["a", "b c", "b", "\u{fffd}"])?;
-    let want = "a=\u{fffd}|b+c=1|b=nothing|%EF%BF%BD=A|\u{fffd};1;2;A;";
+    let want = "true a=\u{fffd}|b+c=1|b=nothing|%EF%BF%BD=A|\u{fffd};1;2;A;";
     assert_eq!(rt; list.as_str(), want);
     Ok(())
 }
@@ -141,41 +153,77 @@ fn written(alloc: Global, members: &[(&str, &str)]) -> Result<Vec<u8>, Fail> {
 
 // No members, a name that stands twice, and floats, of whose digits no clause speaks: as Python's
 // `json.dumps` with `separators=(',', ':')` writes them.
+static WRITTEN: [(&[(&str, &str)], &str); 3] = [
+    (&[], "{}"),
+    (&[("a", "2"), ("a", " 1 ")], "{\"a\":2,\"a\":1}"),
+    (
+        &[("a", "1.5"), ("b", "[-0.25]")],
+        "{\"a\":1.5,\"b\":[-0.25]}",
+    ),
+];
+
 #[test]
 fn members_are_written_in_order(rt: HostRuntime) -> Result<(), Fail> {
-    for (members, want) in [
-        ([].as_slice(), "{}"),
-        (&[("a", "2"), ("a", " 1 ")], "{\"a\":2,\"a\":1}"),
-        (
-            &[("a", "1.5"), ("b", "[-0.25]")],
-            "{\"a\":1.5,\"b\":[-0.25]}",
-        ),
-    ] {
+    for (members, want) in &WRITTEN {
         assert_eq!(rt; written(rt.alloc(), members)?.as_slice(), want.as_bytes());
     }
     Ok(())
 }
 
-// What a refusal prints, and whether it equals itself and not one of another kind or field.
-fn printed(alloc: Global, kind: ParseKind, field: &str) -> Result<String, Fail> {
-    let refusal = Refusal::of_field(alloc, kind, field)?;
-    let is_itself = refusal == Refusal::of_field(alloc, kind, field)?;
-    let is_another = refusal == Refusal::of_field(alloc, kind, "another")?
-        || refusal == Refusal::of_field(alloc, ParseKind::Duplicate, field)?;
-    if !is_itself || is_another || refusal.field.as_str() != field {
-        return Err(Fail::from("an equality that isn't the fields'"));
-    }
-    let error = ParseError::from(refusal);
-    Ok(format!(in alloc; "{error}")?)
+fn is_of(
+    alloc: Global,
+    refusal: &Refusal,
+    kind: ParseKind,
+    field: &str,
+) -> Result<bool, AllocError> {
+    Ok(*refusal == Refusal::of_field(alloc, kind, field)?)
 }
+
+// Whether a refusal has this field, and equals one of this kind and field.
+fn is_itself(
+    alloc: Global,
+    refusal: &Refusal,
+    kind: ParseKind,
+    field: &str,
+) -> Result<bool, AllocError> {
+    Ok(refusal.field.as_str() == field && is_of(alloc, refusal, kind, field)?)
+}
+
+// Whether it equals one of another field or kind.
+fn is_another(
+    alloc: Global,
+    refusal: &Refusal,
+    kind: ParseKind,
+    field: &str,
+) -> Result<bool, AllocError> {
+    Ok(
+        is_of(alloc, refusal, kind, "another")?
+            || is_of(alloc, refusal, ParseKind::Duplicate, field)?,
+    )
+}
+
+// What a refusal prints, and whether it equals itself and one of another kind or field.
+fn printed(alloc: Global, kind: ParseKind, field: &str) -> Result<String, AllocError> {
+    let refusal = Refusal::of_field(alloc, kind, field)?;
+    let is_itself = is_itself(alloc, &refusal, kind, field)?;
+    let is_another = is_another(alloc, &refusal, kind, field)?;
+    let error = ParseError::from(refusal);
+    format!(in alloc; "{error} {is_itself} {is_another}")
+}
+
+static REFUSALS: [(ParseKind, &str, &str); 2] = [
+    (
+        ParseKind::Missing,
+        "sub",
+        "a missing member: `sub` true false",
+    ),
+    (ParseKind::Syntax, "", "no JSON object true false"),
+];
 
 #[test]
 fn refusals_name_their_field(rt: HostRuntime) -> Result<(), Fail> {
-    for (kind, field, want) in [
-        (ParseKind::Missing, "sub", "a missing member: `sub`"),
-        (ParseKind::Syntax, "", "no JSON object"),
-    ] {
-        assert_eq!(rt; printed(rt.alloc(), kind, field)?.as_str(), want);
+    for (kind, field, want) in &REFUSALS {
+        assert_eq!(rt; printed(rt.alloc(), *kind, field)?.as_str(), *want);
     }
     Ok(())
 }

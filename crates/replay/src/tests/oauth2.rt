@@ -49,27 +49,29 @@ fn drawn_line(alloc: Global, num_bytes: Option<u32>) -> Result<String, AllocErro
 
 // Python's PCG32 at the state 42 and the stream 54: `base64.urlsafe_b64encode` of the low bytes of its
 // words, the same of `hashlib.sha256` of that text, and the word behind them.
+static DRAWN: [(Option<u32>, &str); 7] = [
+    (Some(0), "Length 2707161783"),
+    (Some(31), "Length 2707161783"),
+    (
+        Some(32),
+        "twkwk0turW1akP75Jh3Xi2rjkgYwF5GZu0X2hKQt1U8 bR-lgLaWbFmgahAAmFTsmF4ZA8YUON1zm0vnWgT0tBA S256 1838127612",
+    ),
+    (
+        None,
+        "twkwk0turW1akP75Jh3Xi2rjkgYwF5GZu0X2hKQt1U8 bR-lgLaWbFmgahAAmFTsmF4ZA8YUON1zm0vnWgT0tBA S256 1838127612",
+    ),
+    (
+        Some(96),
+        "twkwk0turW1akP75Jh3Xi2rjkgYwF5GZu0X2hKQt1U_8CcbT8Lc-sjdqlFaH4wOL4ZHyqNosX3N2mpSgvvMkUnTiZDZKBzKMzzhUu8n6Eftecz-cSt6LRLwefmgOrTDK n8Geyd72IarBOd5ny1SOWE1fgzz-IvZi0VfSwTXBIek S256 2117479073",
+    ),
+    (Some(97), "Length 2707161783"),
+    (Some(u32::MAX), "Length 2707161783"),
+];
+
 #[test]
 fn verifiers_are_of_32_to_96_random_bytes(rt: HostRuntime) -> Result<(), Fail> {
-    for (num_bytes, want) in [
-        (Some(0), "Length 2707161783"),
-        (Some(31), "Length 2707161783"),
-        (
-            Some(32),
-            "twkwk0turW1akP75Jh3Xi2rjkgYwF5GZu0X2hKQt1U8 bR-lgLaWbFmgahAAmFTsmF4ZA8YUON1zm0vnWgT0tBA S256 1838127612",
-        ),
-        (
-            None,
-            "twkwk0turW1akP75Jh3Xi2rjkgYwF5GZu0X2hKQt1U8 bR-lgLaWbFmgahAAmFTsmF4ZA8YUON1zm0vnWgT0tBA S256 1838127612",
-        ),
-        (
-            Some(96),
-            "twkwk0turW1akP75Jh3Xi2rjkgYwF5GZu0X2hKQt1U_8CcbT8Lc-sjdqlFaH4wOL4ZHyqNosX3N2mpSgvvMkUnTiZDZKBzKMzzhUu8n6Eftecz-cSt6LRLwefmgOrTDK n8Geyd72IarBOd5ny1SOWE1fgzz-IvZi0VfSwTXBIek S256 2117479073",
-        ),
-        (Some(97), "Length 2707161783"),
-        (Some(u32::MAX), "Length 2707161783"),
-    ] {
-        assert_eq!(rt; drawn_line(rt.alloc(), num_bytes)?.as_str(), want);
+    for (num_bytes, want) in &DRAWN {
+        assert_eq!(rt; drawn_line(rt.alloc(), *num_bytes)?.as_str(), *want);
     }
     Ok(())
 }

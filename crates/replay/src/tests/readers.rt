@@ -6,12 +6,12 @@ ghost use Rattle.std.specs.Str.{bytes_eq};
 ghost use Rattle.oidc_members.specs.declared.refusal.ParseKind.TheVariants.{Duplicate};
 
 use jiff::Timestamp;
-use oidc_members::{FieldName, Member, Members, ParseError, ParseKind, write_object};
+use oidc_members::{FieldName, Member, Members, OutMember, ParseError, ParseKind, write_object};
 use oidc_readers::{
     MemberReader, Once, PlacedError, put_optional_moment, put_optional_text, put_optional_whole,
     put_text, read_members, refused,
 };
-use std::alloc::Global;
+use std::alloc::{AllocError, Global};
 use std::test::Fail;
 
 // Refuses each member named `x`.
@@ -45,18 +45,20 @@ fn passed(alloc: Global, text: &str) -> Result<String, Fail> {
     }
 }
 
+static PASSED: [(&str, &str); 4] = [
+    ("{}", "read"),
+    (r#"{"a":1,"a":2}"#, "read"),
+    (
+        r#"{"a":1,"x":2,"b":3,"x":4}"#,
+        "member 1: a member that stands twice: `x`",
+    ),
+    (r#"{"x":1}"#, "member 0: a member that stands twice: `x`"),
+];
+
 #[test]
 fn first_faulty_place_is_answered(rt: HostRuntime) -> Result<(), Fail> {
-    for (text, want) in [
-        ("{}", "read"),
-        (r#"{"a":1,"a":2}"#, "read"),
-        (
-            r#"{"a":1,"x":2,"b":3,"x":4}"#,
-            "member 1: a member that stands twice: `x`",
-        ),
-        (r#"{"x":1}"#, "member 0: a member that stands twice: `x`"),
-    ] {
-        assert_eq!(rt; passed(rt.alloc(), text)?.as_str(), want, "{text}");
+    for (text, want) in &PASSED {
+        assert_eq!(rt; passed(rt.alloc(), text)?.as_str(), *want, "{text}");
     }
     Ok(())
 }
@@ -88,41 +90,48 @@ fn page_line(alloc: Global, text: &str) -> Result<String, Fail> {
     }
 }
 
+static PAGES: [(&str, &str); 10] = [
+    (r#"{"number":7}"#, "7"),
+    (r#"{"number":7,"title":"A","other":[1]}"#, "7 A"),
+    (r#"{"name":"A","number":7}"#, "7 A"),
+    (r#"{"number":7,"title":null}"#, "7"),
+    (r#"{"title":"A"}"#, "a missing member: `number`"),
+    (
+        r#"{"number":7,"number":7}"#,
+        "a member that stands twice: `number`",
+    ),
+    (
+        r#"{"title":null,"number":7,"name":"A"}"#,
+        "a member that stands twice: `name`",
+    ),
+    (r#"{"number":null}"#, "a value of the wrong type: `number`"),
+    (r#"{"number":-1}"#, "a value of the wrong type: `number`"),
+    (
+        r#"{"number":7,"title":5}"#,
+        "a value of the wrong type: `title`",
+    ),
+];
+
 #[test]
 fn record_is_read_by_its_slots(rt: HostRuntime) -> Result<(), Fail> {
-    for (text, want) in [
-        (r#"{"number":7}"#, "7"),
-        (r#"{"number":7,"title":"A","other":[1]}"#, "7 A"),
-        (r#"{"name":"A","number":7}"#, "7 A"),
-        (r#"{"number":7,"title":null}"#, "7"),
-        (r#"{"title":"A"}"#, "a missing member: `number`"),
-        (
-            r#"{"number":7,"number":7}"#,
-            "a member that stands twice: `number`",
-        ),
-        (
-            r#"{"title":null,"number":7,"name":"A"}"#,
-            "a member that stands twice: `name`",
-        ),
-        (r#"{"number":null}"#, "a value of the wrong type: `number`"),
-        (r#"{"number":-1}"#, "a value of the wrong type: `number`"),
-        (
-            r#"{"number":7,"title":5}"#,
-            "a value of the wrong type: `title`",
-        ),
-    ] {
-        assert_eq!(rt; page_line(rt.alloc(), text)?.as_str(), want, "{text}");
+    for (text, want) in &PAGES {
+        assert_eq!(rt; page_line(rt.alloc(), text)?.as_str(), *want, "{text}");
     }
     Ok(())
 }
 
-fn written(alloc: Global, moment: Option<Timestamp>) -> Result<Vec<u8>, Fail> {
+// Adds a text, one that is absent, and a whole number.
+fn put_others(alloc: Global, out: &mut Vec<OutMember>) -> Result<(), AllocError> {
+    put_text(alloc, out, "text", "A")?;
+    put_optional_text(alloc, out, "absent", None)?;
+    put_optional_whole(alloc, out, "whole", Some(5))
+}
+
+fn written(alloc: Global, moment: Option<Timestamp>) -> Result<Vec<u8>, AllocError> {
     let mut out = Vec::new(alloc);
-    put_text(alloc, &mut out, "text", "A")?;
-    put_optional_text(alloc, &mut out, "absent", None)?;
-    put_optional_whole(alloc, &mut out, "whole", Some(5))?;
+    put_others(alloc, &mut out)?;
     put_optional_moment(alloc, &mut out, "moment", moment)?;
-    Ok(write_object(alloc, &out)?)
+    write_object(alloc, &out)
 }
 
 // A nanosecond before 1970 is within the second before it.

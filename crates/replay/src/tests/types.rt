@@ -43,15 +43,17 @@ fn ids_compare_so(alloc: Global, a: &str, b: &str, want: Ordering) -> Result<boo
     compare_so(alloc, client_id(alloc, a)?, client_id(alloc, b)?, want)
 }
 
+static IDS: [(&str, &str, Ordering); 4] = [
+    ("aaa", "aaa", Ordering::Equal),
+    ("A", "a", Ordering::Less),
+    ("aa", "b", Ordering::Less),
+    ("b", "aa", Ordering::Greater),
+];
+
 #[test]
 fn texts_compare_by_their_bytes(rt: HostRuntime) -> Result<(), Fail> {
-    for (a, b, want) in [
-        ("aaa", "aaa", Ordering::Equal),
-        ("A", "a", Ordering::Less),
-        ("aa", "b", Ordering::Less),
-        ("b", "aa", Ordering::Greater),
-    ] {
-        assert!(rt; ids_compare_so(rt.alloc(), a, b, want)?, "{a} and {b}");
+    for (a, b, want) in &IDS {
+        assert!(rt; ids_compare_so(rt.alloc(), a, b, *want)?, "{a} and {b}");
     }
     Ok(())
 }
@@ -69,18 +71,20 @@ fn issuers_compare_so(
     Ok(compare_so(alloc, issuer(alloc, a)?, issuer(alloc, b)?, want)?)
 }
 
+static ISSUERS: [(&str, &str, Ordering); 3] = [
+    ("http://example.com", "http://example.com", Ordering::Equal),
+    ("http://example.com", "http://example.com/", Ordering::Less),
+    (
+        "http://example.com/",
+        "HTTP://example.com/",
+        Ordering::Greater,
+    ),
+];
+
 #[test]
 fn urls_compare_by_their_texts(rt: HostRuntime) -> Result<(), Fail> {
-    for (a, b, want) in [
-        ("http://example.com", "http://example.com", Ordering::Equal),
-        ("http://example.com", "http://example.com/", Ordering::Less),
-        (
-            "http://example.com/",
-            "HTTP://example.com/",
-            Ordering::Greater,
-        ),
-    ] {
-        assert!(rt; issuers_compare_so(rt.alloc(), a, b, want)?, "{a} and {b}");
+    for (a, b, want) in &ISSUERS {
+        assert!(rt; issuers_compare_so(rt.alloc(), a, b, *want)?, "{a} and {b}");
     }
     Ok(())
 }
@@ -91,21 +95,23 @@ fn grants_compare_so(alloc: Global, a: &str, b: &str, want: Ordering) -> Result<
     compare_so(alloc, a, b, want)
 }
 
+static GRANTS: [(&str, &str, Ordering); 5] = [
+    ("authorization_code", "client_credentials", Ordering::Less),
+    // a variant whose text comes after that of the next variant
+    (
+        "urn:ietf:params:oauth:grant-type:device_code",
+        "implicit",
+        Ordering::Less,
+    ),
+    ("refresh_token", "a", Ordering::Less),
+    ("b", "a", Ordering::Greater),
+    ("a", "a", Ordering::Equal),
+];
+
 #[test]
 fn grant_types_compare_by_their_variants(rt: HostRuntime) -> Result<(), Fail> {
-    for (a, b, want) in [
-        ("authorization_code", "client_credentials", Ordering::Less),
-        // a variant whose text comes after that of the next variant
-        (
-            "urn:ietf:params:oauth:grant-type:device_code",
-            "implicit",
-            Ordering::Less,
-        ),
-        ("refresh_token", "a", Ordering::Less),
-        ("b", "a", Ordering::Greater),
-        ("a", "a", Ordering::Equal),
-    ] {
-        assert!(rt; grants_compare_so(rt.alloc(), a, b, want)?, "{a} and {b}");
+    for (a, b, want) in &GRANTS {
+        assert!(rt; grants_compare_so(rt.alloc(), a, b, *want)?, "{a} and {b}");
     }
     Ok(())
 }
@@ -130,31 +136,44 @@ fn url_printed(alloc: Global, text: &str) -> Result<String, AllocError> {
     }
 }
 
+static PRINTED_URLS: [(&str, &str); 2] = [
+    (
+        "http://example.com",
+        "http://example.com IssuerUrl(\"http://example.com\")",
+    ),
+    ("x", "a text that is no URL: relative URL without a base"),
+];
+
 #[test]
 fn urls_are_printed(rt: HostRuntime) -> Result<(), Fail> {
-    for (text, want) in [
-        (
-            "http://example.com",
-            "http://example.com IssuerUrl(\"http://example.com\")",
-        ),
-        ("x", "a text that is no URL: relative URL without a base"),
-    ] {
-        assert_eq!(rt; url_printed(rt.alloc(), text)?.as_str(), want, "{text}");
+    for (text, want) in &PRINTED_URLS {
+        assert_eq!(rt; url_printed(rt.alloc(), text)?.as_str(), *want, "{text}");
     }
     Ok(())
 }
 
-fn secret_printed(alloc: Global, text: &str) -> Result<String, AllocError> {
-    let secret = ClientSecret::new(String::from_str(alloc, text)?);
+fn secret(alloc: Global, text: &str) -> Result<ClientSecret, AllocError> {
+    Ok(ClientSecret::new(String::from_str(alloc, text)?))
+}
+
+/// What is printed of a secret, and the text of a copy.
+fn secret_printed(alloc: Global, secret: &ClientSecret) -> Result<String, AllocError> {
     let copy = secret.clone_in(alloc)?;
-    let printed = format!(in alloc; "{secret:?}")?;
-    format!(in alloc; "{printed} {} {}", copy.secret(), secret.into_string())
+    format!(in alloc; "{secret:?} {}", copy.secret())
+}
+
+/// The same, and then the text that is taken out.
+fn secret_line(alloc: Global) -> Result<String, AllocError> {
+    let secret = secret(alloc, "bbb")?;
+    let mut line = secret_printed(alloc, &secret)?;
+    line.push_str(secret.into_string().as_str())?;
+    Ok(line)
 }
 
 #[test]
 fn a_secret_is_not_printed(rt: HostRuntime) -> Result<(), Fail> {
-    let text = secret_printed(rt.alloc(), "bbb")?;
-    assert_eq!(rt; text.as_str(), "ClientSecret([redacted]) bbb bbb");
+    let line = secret_line(rt.alloc())?;
+    assert_eq!(rt; line.as_str(), "ClientSecret([redacted]) bbbbbb");
     Ok(())
 }
 
@@ -167,20 +186,38 @@ fn id_is_copied(alloc: Global, text: &str) -> Result<bool, AllocError> {
     Ok(copy == id && copy.into_string().as_str() == text)
 }
 
-/// Whether a copy of an issuer is equal, and its URL, taken out, is written so.
+/// Whether a copy of an issuer is equal, and its URL is written so.
+fn has_copy(alloc: Global, issuer: &IssuerUrl, url: &str) -> Result<bool, AllocError> {
+    let copy = issuer.clone_in(alloc)?;
+    Ok(copy == *issuer && copy.url().as_str() == url)
+}
+
 fn issuer_is_copied(alloc: Global, text: &str, url: &str) -> Result<bool, UrlTextError> {
-    let bare = issuer(alloc, text)?;
-    let copy = bare.clone_in(alloc)?;
-    let is_equal = copy == bare && copy.url().as_str() == url;
-    let taken = IssuerUrl::from_url(alloc, copy.into_url())?;
-    Ok(is_equal && taken.as_str() == url)
+    Ok(has_copy(alloc, &issuer(alloc, text)?, url)?)
+}
+
+/// Whether the URL that is taken out of an issuer makes one of this text.
+fn is_remade(alloc: Global, text: &str, wanted: &str) -> Result<bool, UrlTextError> {
+    let taken = issuer(alloc, text)?.into_url();
+    Ok(IssuerUrl::from_url(alloc, taken)?.as_str() == wanted)
 }
 
 #[test]
-fn copies_are_equal(rt: HostRuntime) -> Result<(), Fail> {
+fn copies_of_texts_are_equal(rt: HostRuntime) -> Result<(), Fail> {
     assert!(rt; id_is_copied(rt.alloc(), "a b\"é")?);
-    // the URL Standard gives a special URL without a path the path `/`
+    Ok(())
+}
+
+// The URL Standard gives a special URL without a path the path `/`.
+#[test]
+fn copies_of_urls_are_equal(rt: HostRuntime) -> Result<(), Fail> {
     assert!(rt; issuer_is_copied(rt.alloc(), "http://example.com", "http://example.com/")?);
+    Ok(())
+}
+
+#[test]
+fn urls_are_taken_out(rt: HostRuntime) -> Result<(), Fail> {
+    assert!(rt; is_remade(rt.alloc(), "http://example.com", "http://example.com/")?);
     Ok(())
 }
 
@@ -258,74 +295,38 @@ impl Copied for CoreSubjectIdentifierType {
 }
 
 /// Texts of every open vocabulary, and others.
-static TEXTS: [&str; 55] = [
-    "native",
-    "web",
-    "page",
-    "popup",
-    "touch",
-    "wap",
-    "none",
-    "login",
-    "consent",
-    "select_account",
-    "aggregated",
-    "distributed",
-    "normal",
-    "client_secret_basic",
-    "client_secret_jwt",
-    "client_secret_post",
-    "private_key_jwt",
-    "authorization_code",
-    "client_credentials",
-    "urn:ietf:params:oauth:grant-type:device_code",
-    "implicit",
-    "urn:ietf:params:oauth:grant-type:jwt-bearer",
-    "password",
-    "refresh_token",
-    "access_denied",
-    "account_selection_required",
-    "consent_required",
-    "interaction_required",
-    "invalid_request",
-    "invalid_request_object",
-    "invalid_request_uri",
-    "invalid_scope",
-    "login_required",
-    "registration_not_supported",
-    "request_not_supported",
-    "request_uri_not_supported",
-    "server_error",
-    "temporarily_unavailable",
-    "unauthorized_client",
-    "unsupported_response_type",
-    "invalid_client_metadata",
-    "invalid_redirect_uri",
-    "query",
-    "fragment",
-    "form_post",
-    "code",
-    "id_token",
-    "token",
-    "pairwise",
-    "public",
-    "",
-    "Native",
-    "native ",
-    "web\0",
-    "ünknown",
-];
+const TEXTS: &str = "native|web|page|popup|touch|wap|none|login|consent|select_account|aggregated|\
+distributed|normal|client_secret_basic|client_secret_jwt|client_secret_post|\
+private_key_jwt|authorization_code|client_credentials|\
+urn:ietf:params:oauth:grant-type:device_code|implicit|\
+urn:ietf:params:oauth:grant-type:jwt-bearer|password|refresh_token|access_denied|\
+account_selection_required|consent_required|interaction_required|invalid_request|\
+invalid_request_object|invalid_request_uri|invalid_scope|login_required|\
+registration_not_supported|request_not_supported|request_uri_not_supported|server_error|\
+temporarily_unavailable|unauthorized_client|unsupported_response_type|\
+invalid_client_metadata|invalid_redirect_uri|query|fragment|form_post|code|id_token|\
+token|pairwise|public||Native|native |web\0|ünknown";
+
+/// Whether a word prints this text.
+fn prints<W: Copied>(alloc: Global, word: &W, text: &str) -> Result<bool, AllocError> {
+    Ok(format!(in alloc; "{word}")?.as_str() == text)
+}
+
+/// Whether it equals its copy.
+fn is_copied<W: Copied>(alloc: Global, word: &W) -> Result<bool, AllocError> {
+    Ok(word.copied(alloc)? == *word)
+}
 
 /// Whether the word of a text prints it, and equals its copy.
 fn is_kept<W: Copied>(alloc: Global, text: &str) -> Result<bool, AllocError> {
     let word = W::from_str(String::from_str(alloc, text)?);
-    let printed = format!(in alloc; "{word}")?;
-    Ok(printed.as_str() == text && word.as_ref() == text && word.copied(alloc)? == word)
+    let is_printed = word.as_ref() == text && prints(alloc, &word, text)?;
+    Ok(is_printed && is_copied(alloc, &word)?)
 }
 
 /// Whether each of the texts is kept.
 fn keeps_texts<W: Copied>(alloc: Global) -> Result<bool, AllocError> {
-    for text in &TEXTS {
+    for text in TEXTS.split('|') {
         if !is_kept::<W>(alloc, text)? {
             return Ok(false);
         }
@@ -366,31 +367,24 @@ fn are_kept_by(alloc: Global, open: Open) -> Result<bool, AllocError> {
     }
 }
 
-#[test]
-fn words_of_authorization_are_kept(rt: HostRuntime) -> Result<(), Fail> {
-    for open in [
-        Open::AuthDisplay,
-        Open::AuthErrorResponseType,
-        Open::AuthPrompt,
-        Open::ResponseMode,
-        Open::ResponseType,
-    ] {
-        assert!(rt; are_kept_by(rt.alloc(), open)?, "{open:?}");
-    }
-    Ok(())
-}
+static OPEN: [Open; 11] = [
+    Open::ApplicationType,
+    Open::AuthDisplay,
+    Open::AuthErrorResponseType,
+    Open::AuthPrompt,
+    Open::ClaimType,
+    Open::ClientAuthMethod,
+    Open::GrantType,
+    Open::RegisterErrorResponseType,
+    Open::ResponseMode,
+    Open::ResponseType,
+    Open::SubjectIdentifierType,
+];
 
 #[test]
-fn words_of_registration_are_kept(rt: HostRuntime) -> Result<(), Fail> {
-    for open in [
-        Open::ApplicationType,
-        Open::ClaimType,
-        Open::ClientAuthMethod,
-        Open::GrantType,
-        Open::RegisterErrorResponseType,
-        Open::SubjectIdentifierType,
-    ] {
-        assert!(rt; are_kept_by(rt.alloc(), open)?, "{open:?}");
+fn words_are_kept(rt: HostRuntime) -> Result<(), Fail> {
+    for open in &OPEN {
+        assert!(rt; are_kept_by(rt.alloc(), *open)?, "{open:?}");
     }
     Ok(())
 }
@@ -402,20 +396,18 @@ fn extension_printed(alloc: Global, text: &str) -> Result<String, AllocError> {
     format!(in alloc; "{word:?} {}", word == known)
 }
 
+static EXTENSIONS: [(&str, &str); 2] = [
+    ("query", "Extension(ExtensionText(\"query\")) false"),
+    (
+        "web_message",
+        "Extension(ExtensionText(\"web_message\")) true",
+    ),
+];
+
 #[test]
 fn an_extension_is_no_known_word(rt: HostRuntime) -> Result<(), Fail> {
-    for (text, want) in [
-        ("query", "Extension(ExtensionText(\"query\")) false"),
-        (
-            "web_message",
-            "Extension(ExtensionText(\"web_message\")) true",
-        ),
-    ] {
-        assert_eq!(rt;
-            extension_printed(rt.alloc(), text)?.as_str(),
-            want,
-            "{text}"
-        );
+    for (text, want) in &EXTENSIONS {
+        assert_eq!(rt; extension_printed(rt.alloc(), text)?.as_str(), *want);
     }
     Ok(())
 }
@@ -508,19 +500,17 @@ fn random_texts_are_the_bytes_of_the_generator(rt: HostRuntime) -> Result<(), Fa
     Ok(())
 }
 
+static STATES: [(u32, &str); 4] = [
+    (0, ""),
+    (1, "tw"),
+    (5, "twkwk0s"),
+    (20, "twkwk0turW1akP75Jh3Xi2rjkgY"),
+];
+
 #[test]
 fn states_have_the_length_that_is_asked_for(rt: HostRuntime) -> Result<(), Fail> {
-    for (num_bytes, want) in [
-        (0, ""),
-        (1, "tw"),
-        (5, "twkwk0s"),
-        (20, "twkwk0turW1akP75Jh3Xi2rjkgY"),
-    ] {
-        assert_eq!(rt;
-            state_of(rt.alloc(), num_bytes)?.secret(),
-            want,
-            "{num_bytes}"
-        );
+    for (num_bytes, want) in &STATES {
+        assert_eq!(rt; state_of(rt.alloc(), *num_bytes)?.secret(), *want);
     }
     Ok(())
 }
@@ -571,20 +561,30 @@ fn claims_are_so(
     is_equal_so(alloc, &a, &b, want)
 }
 
+const ALL: &[(&str, &str)] = &[("ja", "三"), ("de", "Drei"), ("", "Three")];
+
+// Entries, and whether the claim of them equals that of all.
+static ENTRIES: [(&[(&str, &str)], bool); 4] = [
+    (
+        &[("", "Three"), ("ja", "四"), ("de", "Drei"), ("ja", "三")],
+        true,
+    ),
+    (&[("", "Drei"), ("de", "Drei"), ("ja", "三")], false),
+    (&[("ja", "四"), ("de", "Drei"), ("ja", "三")], false),
+    (&[], false),
+];
+
 #[test]
 fn claims_are_equal_at_equal_entries(rt: HostRuntime) -> Result<(), Fail> {
-    let all = [("ja", "三"), ("de", "Drei"), ("", "Three")];
-    let turned = [("", "Three"), ("ja", "四"), ("de", "Drei"), ("ja", "三")];
-    let other = [("", "Drei"), ("de", "Drei"), ("ja", "三")];
-    for (a, b, want) in [
-        (all.as_slice(), turned.as_slice(), true),
-        (all.as_slice(), other.as_slice(), false),
-        (all.as_slice(), &turned[1..], false),
-        (all.as_slice(), &[], false),
-        (&[], &[], true),
-    ] {
-        assert!(rt; claims_are_so(rt.alloc(), a, b, want)?, "{want}");
+    for (entries, want) in &ENTRIES {
+        assert!(rt; claims_are_so(rt.alloc(), ALL, entries, *want)?);
     }
+    Ok(())
+}
+
+#[test]
+fn claims_without_entries_are_equal(rt: HostRuntime) -> Result<(), Fail> {
+    assert!(rt; claims_are_so(rt.alloc(), &[], &[], true)?);
     Ok(())
 }
 
@@ -623,20 +623,22 @@ fn seen_at(alloc: Global, text: &str) -> Result<String, AllocError> {
     seen_in(alloc, &mut claim, text)
 }
 
+static SEEN: [(&str, &str); 3] = [
+    (
+        "",
+        "true Some(EndUserName(\"Three\")) Some(EndUserName(\"x\")) None",
+    ),
+    (
+        "ja",
+        "true Some(EndUserName(\"三\")) Some(EndUserName(\"x\")) None",
+    ),
+    ("de", "true None Some(EndUserName(\"x\")) None"),
+];
+
 #[test]
 fn claims_are_maps(rt: HostRuntime) -> Result<(), Fail> {
-    for (text, want) in [
-        (
-            "",
-            "true Some(EndUserName(\"Three\")) Some(EndUserName(\"x\")) None",
-        ),
-        (
-            "ja",
-            "true Some(EndUserName(\"三\")) Some(EndUserName(\"x\")) None",
-        ),
-        ("de", "true None Some(EndUserName(\"x\")) None"),
-    ] {
-        assert_eq!(rt; seen_at(rt.alloc(), text)?.as_str(), want, "{text}");
+    for (text, want) in &SEEN {
+        assert_eq!(rt; seen_at(rt.alloc(), text)?.as_str(), *want, "{text}");
     }
     Ok(())
 }
@@ -653,29 +655,50 @@ fn types_of(alloc: Global, is_turned: bool) -> Result<ResponseTypes<CoreResponse
     Ok(ResponseTypes::new(types))
 }
 
+// Whether two lists are equal, and how long the first is.
+fn types_compared(alloc: Global, a: bool, b: bool) -> Result<(bool, usize), AllocError> {
+    let first = types_of(alloc, a)?;
+    Ok((first == types_of(alloc, b)?, first.as_slice().len()))
+}
+
+static TURNED: [(bool, bool); 2] = [(true, true), (false, false)];
+
 #[test]
 fn lists_of_types_have_an_order(rt: HostRuntime) -> Result<(), Fail> {
-    assert!(rt; types_of(rt.alloc(), true)? == types_of(rt.alloc(), true)?);
-    assert!(rt; types_of(rt.alloc(), true)? != types_of(rt.alloc(), false)?);
-    assert_eq!(rt; types_of(rt.alloc(), true)?.as_slice().len(), 2);
+    for (is_turned, is_equal) in &TURNED {
+        assert_eq!(rt;
+            types_compared(rt.alloc(), true, *is_turned)?,
+            (*is_equal, 2)
+        );
+    }
     Ok(())
 }
 
-fn unsupported(alloc: Global, text: &str) -> Result<SigningError, AllocError> {
+fn signing_error(alloc: Global, text: &str, is_other: bool) -> Result<SigningError, AllocError> {
     let text = FieldName::new(String::from_str(alloc, text)?);
-    Ok(SigningError::UnsupportedAlg(text))
+    if is_other {
+        Ok(SigningError::Other(text))
+    } else {
+        Ok(SigningError::UnsupportedAlg(text))
+    }
 }
 
-fn other(alloc: Global, text: &str) -> Result<SigningError, AllocError> {
-    let text = FieldName::new(String::from_str(alloc, text)?);
-    Ok(SigningError::Other(text))
+// Whether an error of this text and variant is `UnsupportedAlg` of `ES256`.
+fn is_unsupported(alloc: Global, text: &str, is_other: bool) -> Result<bool, AllocError> {
+    Ok(signing_error(alloc, "ES256", false)? == signing_error(alloc, text, is_other)?)
 }
+
+static ERRORS: [(&str, bool, bool); 3] = [
+    ("ES256", false, true),
+    ("ES384", false, false),
+    ("ES256", true, false),
+];
 
 #[test]
 fn signing_errors_are_compared(rt: HostRuntime) -> Result<(), Fail> {
-    assert!(rt; unsupported(rt.alloc(), "ES256")? == unsupported(rt.alloc(), "ES256")?);
-    assert!(rt; unsupported(rt.alloc(), "ES256")? != unsupported(rt.alloc(), "ES384")?);
-    assert!(rt; unsupported(rt.alloc(), "ES256")? != other(rt.alloc(), "ES256")?);
+    for (text, is_other, want) in &ERRORS {
+        assert_eq!(rt; is_unsupported(rt.alloc(), text, *is_other)?, *want);
+    }
     Ok(())
 }
 

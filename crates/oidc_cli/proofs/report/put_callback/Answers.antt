@@ -1,9 +1,16 @@
-use Rattle.oidc_cli.proofs.Passing.{on_err}
+use Rattle.std.specs.Prelude.{Result, Ok, Err, OnOk}
 use Rattle.oidc_cli.proofs.report.put_callback.Goals as goal
 
-pub returns-in_err-put_replied-clause-begun : goal.returns-in_err-put_replied-clause-begun
-returns-in_err-put_replied-clause-begun g c =
-    on_err _ _ (rw (c.in_ok-replied.ensures.reply, c.in_ok-replied.ensures.sent) at c.in_err-put_replied.ensures.begun)
+-- what holds whatever the result is
+on_ok : {T E : Type 0} (r : Result T E) (P : Type 0) → P → OnOk r P
+on_ok (Ok x) P p = p
+on_ok (Err e) P p = tt
 
 pub returns-clause-whole : goal.returns-clause-whole
-returns-clause-whole g c = rw (c.in_ok-replied.ensures.reply, c.in_ok-replied.ensures.sent) at c.in_ok-put_replied.ensures.whole
+returns-clause-whole g c = rw (c.in_ok-replied.ensures.reply, c.in_ok-replied.ensures.sent) at c.put_replied.ensures.whole
+
+pub returns-clause-begun : goal.returns-clause-begun
+returns-clause-begun g c = rw (c.in_ok-replied.ensures.reply, c.in_ok-replied.ensures.sent) at c.put_replied.ensures.begun
+
+pub returns-clause-store : goal.returns-clause-store
+returns-clause-store g c = on_ok _ _ c.in_ok-replied.ensures.store

@@ -1,4 +1,4 @@
-use Rattle.oidc_login.proofs.Answers.{tokens_given, refusal_given, no_fault_given, of_token_spent}
+use Rattle.oidc_login.proofs.Answers.{tokens_given, tokens_free, refusal_given, no_fault_given, of_token_spent}
 use Rattle.oidc_login.proofs.steps.tokens_in.Goals as goal
 
 pub returns-in-Ok-clause-gives : goal.returns-in-Ok-clause-gives
@@ -12,3 +12,6 @@ returns-in-Err-clause-no_fault g c = rw c.of_token.ensures (no_fault_given _ _ c
 
 pub returns-in-Err-clause-spent : goal.returns-in-Err-clause-spent
 returns-in-Err-clause-spent g c = rw c.of_token.ensures (of_token_spent _)
+
+pub returns-in-Ok-clause-no_float : goal.returns-in-Ok-clause-no_float
+returns-in-Ok-clause-no_float g c = tokens_free _ _ (tokens_given _ _ c.in-Ok.ensures.answer)

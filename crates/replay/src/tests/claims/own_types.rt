@@ -55,32 +55,34 @@ impl GenderClaim for Disclosure {
     }
 }
 
+static GENDERS: [(&str, &str); 4] = [
+    (
+        r#"{"gender":true,"sub":"a"}"#,
+        r#"{"sub":"a","gender":true}"#,
+    ),
+    (
+        r#"{"gender#":false,"sub":"a"}"#,
+        r#"{"sub":"a","gender":false}"#,
+    ),
+    (r#"{"sub":"a","gender":null}"#, r#"{"sub":"a"}"#),
+    (
+        r#"{"sub":"a","gender":"female"}"#,
+        "1 Additional disclosure",
+    ),
+];
+
 #[test]
 fn a_caller_may_bring_a_gender_of_its_own(rt: HostRuntime) -> Result<(), Fail> {
-    for (text, want) in [
-        (
-            r#"{"gender":true,"sub":"a"}"#,
-            r#"{"sub":"a","gender":true}"#,
-        ),
-        (
-            r#"{"gender#":false,"sub":"a"}"#,
-            r#"{"sub":"a","gender":false}"#,
-        ),
-        (r#"{"sub":"a","gender":null}"#, r#"{"sub":"a"}"#),
-        (
-            r#"{"sub":"a","gender":"female"}"#,
-            "1 Additional disclosure",
-        ),
-    ] {
+    for (text, want) in &GENDERS {
         let line = standard_line::<Disclosure>(rt.alloc(), text)?;
-        assert_eq!(rt; line.as_str(), want, "{text}");
+        assert_eq!(rt; line.as_str(), *want, "{text}");
     }
     Ok(())
 }
 
 // The tenant that a user belongs to: the first additional member, whatever its name.
 #[derive(Debug, Drop)]
-struct Tenant {
+pub(crate) struct Tenant {
     name: FieldName,
 }
 
@@ -134,15 +136,17 @@ impl AdditionalClaims for Tenant {
     }
 }
 
+static TENANTS: [(&str, &str); 3] = [
+    (r#"{"sub":"a","tenant":"b","zz":1}"#, r#"{"tenant":"b"}"#),
+    (r#"{"sub":"a"}"#, "Additional tenant name"),
+    (r#"{"sub":"a","tenant":1}"#, "Additional tenant name"),
+];
+
 #[test]
 fn a_caller_may_bring_additional_claims_of_its_own(rt: HostRuntime) -> Result<(), Fail> {
-    for (text, want) in [
-        (r#"{"sub":"a","tenant":"b","zz":1}"#, r#"{"tenant":"b"}"#),
-        (r#"{"sub":"a"}"#, "Additional tenant name"),
-        (r#"{"sub":"a","tenant":1}"#, "Additional tenant name"),
-    ] {
+    for (text, want) in &TENANTS {
         let line = additional_line::<Tenant>(rt.alloc(), text)?;
-        assert_eq!(rt; line.as_str(), want, "{text}");
+        assert_eq!(rt; line.as_str(), *want, "{text}");
     }
     Ok(())
 }

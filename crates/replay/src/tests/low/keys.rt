@@ -20,10 +20,10 @@ use std::test::Fail;
 
 // A toy: a signature of a message is the key's byte and then the message.
 #[derive(Drop)]
-struct ToyRsaKey {
-    byte: u8,
-    purpose: Option<CoreJsonWebKeyUse>,
-    id: Option<JsonWebKeyId>,
+pub(crate) struct ToyRsaKey {
+    pub(crate) byte: u8,
+    pub(crate) purpose: Option<CoreJsonWebKeyUse>,
+    pub(crate) id: Option<JsonWebKeyId>,
 }
 
 impl JsonWebKey for ToyRsaKey {
@@ -89,8 +89,8 @@ impl JsonWebKey for ToyRsaKey {
 }
 
 #[derive(Drop)]
-struct ToyRsaSigner {
-    byte: u8,
+pub(crate) struct ToyRsaSigner {
+    pub(crate) byte: u8,
 }
 
 impl PrivateSigningKey for ToyRsaSigner {
@@ -167,19 +167,46 @@ fn count_of_fitting<K: JsonWebKey>(
         .count()
 }
 
-// Keys with a use and an id: one for signatures, one for encryption, one for anything, and one for
-// neither.
+// What a toy is for.
+#[derive(Clone, Copy)]
+enum Purpose {
+    Signature,
+    Encryption,
+    Anything,
+    Neither,
+}
+
+// A use whose text is that of signatures is none of theirs.
+fn use_of(alloc: Global, purpose: Purpose) -> Result<Option<CoreJsonWebKeyUse>, AllocError> {
+    match purpose {
+        Purpose::Signature => Ok(Some(CoreJsonWebKeyUse::Signature)),
+        Purpose::Encryption => Ok(Some(CoreJsonWebKeyUse::Encryption)),
+        Purpose::Anything => Ok(None),
+        Purpose::Neither => {
+            let text = FieldName::new(String::from_str(alloc, "sig")?);
+            Ok(Some(CoreJsonWebKeyUse::Other(text)))
+        }
+    }
+}
+
+fn toy_key(alloc: Global, byte: u8, purpose: Purpose, id: &str) -> Result<ToyRsaKey, AllocError> {
+    let id = JsonWebKeyId::new(String::from_str(alloc, id)?);
+    let purpose = use_of(alloc, purpose)?;
+    let id = Some(id);
+    Ok(ToyRsaKey { byte, purpose, id })
+}
+
+static TOYS: [(u8, Purpose, &str); 4] = [
+    (1, Purpose::Signature, "a"),
+    (2, Purpose::Encryption, "a"),
+    (3, Purpose::Anything, "b"),
+    (4, Purpose::Neither, "b"),
+];
+
 fn toy_keys(alloc: Global) -> Result<JsonWebKeySet<ToyRsaKey>, AllocError> {
     let mut keys = Vec::new(alloc);
-    let neither = CoreJsonWebKeyUse::Other(FieldName::new(String::from_str(alloc, "sig")?));
-    for (byte, purpose, id) in [
-        (1, Some(CoreJsonWebKeyUse::Signature), "a"),
-        (2, Some(CoreJsonWebKeyUse::Encryption), "a"),
-        (3, None, "b"),
-        (4, Some(neither), "b"),
-    ] {
-        let id = Some(JsonWebKeyId::new(String::from_str(alloc, id)?));
-        keys.push(ToyRsaKey { byte, purpose, id })?;
+    for (byte, purpose, id) in &TOYS {
+        keys.push(toy_key(alloc, *byte, *purpose, id)?)?;
     }
     Ok(JsonWebKeySet::new(keys))
 }
@@ -193,49 +220,72 @@ fn secret_keys(alloc: Global) -> Result<JsonWebKeySet<CoreJsonWebKey>, AllocErro
     Ok(JsonWebKeySet::new(keys))
 }
 
-// Whether a message signed by the toy and one signed by a secret both verify.
-fn both_verify(alloc: Global) -> Result<bool, SigningError> {
+// Whether a message signed by the toy verifies.
+fn toy_verifies(alloc: Global) -> Result<bool, SigningError> {
     let toy = ToyRsaSigner { byte: 7 };
+    let rsa = CoreJwsSigningAlgorithm::RsaSsaPkcs1V15Sha256;
+    verifies_what_it_signs(&toy, alloc, &rsa, b"message")
+}
+
+// Whether one signed by a secret does.
+fn secret_verifies(alloc: Global) -> Result<bool, SigningError> {
     let secret = match b"secret".to_vec(alloc) {
         Ok(secret) => CoreHmacKey::new(secret),
         Err(_) => return Err(SigningError::Memory),
     };
-    let rsa = CoreJwsSigningAlgorithm::RsaSsaPkcs1V15Sha256;
-    let hmac = CoreJwsSigningAlgorithm::HmacSha256;
-    Ok(
-        verifies_what_it_signs(&toy, alloc, &rsa, b"message")?
-            && verifies_what_it_signs(&secret, alloc, &hmac, b"message")?,
+    verifies_what_it_signs(
+        &secret,
+        alloc,
+        &CoreJwsSigningAlgorithm::HmacSha256,
+        b"message",
     )
 }
 
 #[test]
-fn what_is_signed_verifies(rt: HostRuntime) -> Result<(), Fail> {
-    assert!(rt; both_verify(rt.alloc())?);
+fn what_a_toy_signs_verifies(rt: HostRuntime) -> Result<(), Fail> {
+    assert!(rt; toy_verifies(rt.alloc())?);
     Ok(())
+}
+
+#[test]
+fn what_a_secret_signs_verifies(rt: HostRuntime) -> Result<(), Fail> {
+    assert!(rt; secret_verifies(rt.alloc())?);
+    Ok(())
+}
+
+// How many toys may check this algorithm under that id.
+fn count_of_toys(
+    alloc: Global,
+    alg: CoreJwsSigningAlgorithm,
+    id: Option<&str>,
+) -> Result<usize, AllocError> {
+    Ok(count_of_fitting(&toy_keys(alloc)?, &alg, id))
+}
+
+// How many secret keys may check HMAC.
+fn count_of_secrets(alloc: Global, id: Option<&str>) -> Result<usize, AllocError> {
+    let secrets = secret_keys(alloc)?;
+    Ok(count_of_fitting(&secrets, &CoreJwsSigningAlgorithm::HmacSha256, id))
 }
 
 // How many toys may check RSA and HMAC under that id, and how many secret keys HMAC.
 fn counts_of(alloc: Global, id: Option<&str>) -> Result<(usize, usize, usize), AllocError> {
-    let toys = toy_keys(alloc)?;
-    let secrets = secret_keys(alloc)?;
-    let rsa = CoreJwsSigningAlgorithm::RsaSsaPkcs1V15Sha256;
-    let hmac = CoreJwsSigningAlgorithm::HmacSha256;
-    Ok((
-        count_of_fitting(&toys, &rsa, id),
-        count_of_fitting(&toys, &hmac, id),
-        count_of_fitting(&secrets, &hmac, id),
-    ))
+    let rsa = count_of_toys(alloc, CoreJwsSigningAlgorithm::RsaSsaPkcs1V15Sha256, id)?;
+    let hmac = count_of_toys(alloc, CoreJwsSigningAlgorithm::HmacSha256, id)?;
+    Ok((rsa, hmac, count_of_secrets(alloc, id)?))
 }
+
+static COUNTS: [(Option<&str>, (usize, usize, usize)); 4] = [
+    (None, (2, 0, 1)),
+    (Some("a"), (1, 0, 0)),
+    (Some("b"), (1, 0, 0)),
+    (Some("bilbo_baggins"), (0, 0, 1)),
+];
 
 #[test]
 fn keys_are_found_by_type_use_and_id(rt: HostRuntime) -> Result<(), Fail> {
-    for (id, want) in [
-        (None, (2, 0, 1)),
-        (Some("a"), (1, 0, 0)),
-        (Some("b"), (1, 0, 0)),
-        (Some("bilbo_baggins"), (0, 0, 1)),
-    ] {
-        assert_eq!(rt; counts_of(rt.alloc(), id)?, want);
+    for (id, want) in &COUNTS {
+        assert_eq!(rt; counts_of(rt.alloc(), *id)?, *want);
     }
     Ok(())
 }

@@ -94,23 +94,25 @@ fn line_at(alloc: Global, stage: Stage) -> Result<String, Fail> {
 }
 
 // The tokens are those of RFC 6749 section 5.1; the order is that of its list.
+static STAGES: [(Stage, &str); 3] = [
+    (
+        Stage::Least,
+        r#"{"access_token":"first","token_type":"mac"} true"#,
+    ),
+    (
+        Stage::Full,
+        r#"{"access_token":"2YotnFZFEjr1zCsicMWpAA","token_type":"bearer","expires_in":3600,"refresh_token":"tGzv3JOkF0XG5Qx2TlKWIA","scope":"openid  email"} true"#,
+    ),
+    (
+        Stage::Emptied,
+        r#"{"access_token":"2YotnFZFEjr1zCsicMWpAA","token_type":"bearer"} true"#,
+    ),
+];
+
 #[test]
 fn token_responses_are_built(rt: HostRuntime) -> Result<(), Fail> {
-    for (stage, want) in [
-        (
-            Stage::Least,
-            r#"{"access_token":"first","token_type":"mac"} true"#,
-        ),
-        (
-            Stage::Full,
-            r#"{"access_token":"2YotnFZFEjr1zCsicMWpAA","token_type":"bearer","expires_in":3600,"refresh_token":"tGzv3JOkF0XG5Qx2TlKWIA","scope":"openid  email"} true"#,
-        ),
-        (
-            Stage::Emptied,
-            r#"{"access_token":"2YotnFZFEjr1zCsicMWpAA","token_type":"bearer"} true"#,
-        ),
-    ] {
-        assert_eq!(rt; line_at(rt.alloc(), stage)?.as_str(), want);
+    for (stage, want) in &STAGES {
+        assert_eq!(rt; line_at(rt.alloc(), *stage)?.as_str(), *want);
     }
     Ok(())
 }
@@ -231,19 +233,21 @@ fn body_line(alloc: Global, pairs: &[(&str, &str)]) -> Result<String, Fail> {
 }
 
 // Python's `urllib.parse.urlencode` writes these bodies.
+static BODIES: [(&[(&str, &str)], &str); 2] = [
+    (
+        &[],
+        "grant_type=authorization_code&code=c1&code_verifier=dBjftJeZ4CVP-mB92K27uhbUJU1p1r_wW1gFWFOEjXk&client_id=aaa&client_secret=bbb&redirect_uri=http%3A%2F%2Flocalhost%3A8888%2F",
+    ),
+    (
+        &[("a b", "é&"), ("code", ""), ("a b", "2")],
+        "grant_type=authorization_code&code=c1&code_verifier=dBjftJeZ4CVP-mB92K27uhbUJU1p1r_wW1gFWFOEjXk&client_id=aaa&client_secret=bbb&redirect_uri=http%3A%2F%2Flocalhost%3A8888%2F&a+b=%C3%A9%26&code=&a+b=2",
+    ),
+];
+
 #[test]
 fn code_requests_are_built(rt: HostRuntime) -> Result<(), Fail> {
-    for (pairs, want) in [
-        (
-            [].as_slice(),
-            "grant_type=authorization_code&code=c1&code_verifier=dBjftJeZ4CVP-mB92K27uhbUJU1p1r_wW1gFWFOEjXk&client_id=aaa&client_secret=bbb&redirect_uri=http%3A%2F%2Flocalhost%3A8888%2F",
-        ),
-        (
-            [("a b", "é&"), ("code", ""), ("a b", "2")].as_slice(),
-            "grant_type=authorization_code&code=c1&code_verifier=dBjftJeZ4CVP-mB92K27uhbUJU1p1r_wW1gFWFOEjXk&client_id=aaa&client_secret=bbb&redirect_uri=http%3A%2F%2Flocalhost%3A8888%2F&a+b=%C3%A9%26&code=&a+b=2",
-        ),
-    ] {
-        assert_eq!(rt; body_line(rt.alloc(), pairs)?.as_str(), want);
+    for (pairs, want) in &BODIES {
+        assert_eq!(rt; body_line(rt.alloc(), pairs)?.as_str(), *want);
     }
     Ok(())
 }

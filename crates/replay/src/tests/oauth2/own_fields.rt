@@ -128,31 +128,33 @@ fn tokens_line(alloc: Global, text: &str) -> Result<String, Fail> {
 }
 
 // The extra fields see every member, and refuse behind the fields of the standard.
+static TOKEN_LINES: [(&str, &str); 5] = [
+    (
+        r#"{"x":1,"access_token":"a","token_type":"Bearer"}"#,
+        r#"3 {"access_token":"a","token_type":"Bearer","few":true}"#,
+    ),
+    (
+        r#"{"access_token":"a","token_type":"bearer"}"#,
+        r#"2 {"access_token":"a","token_type":"other","few":true}"#,
+    ),
+    (
+        r#"{"access_token":"a","token_type":"Bearer","b":1,"c":1,"d":1,"e":1}"#,
+        "Additional members",
+    ),
+    (
+        r#"{"access_token":"a","a":1,"b":1,"c":1,"d":1,"e":1}"#,
+        "Missing token_type",
+    ),
+    (
+        r#"{"expires_in":"1","a":1,"b":1,"c":1,"d":1,"e":1}"#,
+        "WrongType expires_in",
+    ),
+];
+
 #[test]
 fn a_caller_may_bring_token_fields_of_its_own(rt: HostRuntime) -> Result<(), Fail> {
-    for (text, want) in [
-        (
-            r#"{"x":1,"access_token":"a","token_type":"Bearer"}"#,
-            r#"3 {"access_token":"a","token_type":"Bearer","few":true}"#,
-        ),
-        (
-            r#"{"access_token":"a","token_type":"bearer"}"#,
-            r#"2 {"access_token":"a","token_type":"other","few":true}"#,
-        ),
-        (
-            r#"{"access_token":"a","token_type":"Bearer","b":1,"c":1,"d":1,"e":1}"#,
-            "Additional members",
-        ),
-        (
-            r#"{"access_token":"a","a":1,"b":1,"c":1,"d":1,"e":1}"#,
-            "Missing token_type",
-        ),
-        (
-            r#"{"expires_in":"1","a":1,"b":1,"c":1,"d":1,"e":1}"#,
-            "WrongType expires_in",
-        ),
-    ] {
-        assert_eq!(rt; tokens_line(rt.alloc(), text)?.as_str(), want, "{text}");
+    for (text, want) in &TOKEN_LINES {
+        assert_eq!(rt; tokens_line(rt.alloc(), text)?.as_str(), *want, "{text}");
     }
     Ok(())
 }
@@ -179,27 +181,29 @@ fn device_line(alloc: Global, text: &str) -> Result<String, Fail> {
 }
 
 // The texts are those of RFC 8628 section 3.2, and variations of it.
+static DEVICE_LINES: [(&str, &str); 4] = [
+    (
+        r#"{"device_code":"G","user_code":"W","verification_uri":"https://example.com/device","expires_in":1800}"#,
+        "4 https://example.com/device 5",
+    ),
+    (
+        r#"{"device_code":"G","user_code":"W","verification_url":"https://example.com/device","expires_in":1800,"interval":7}"#,
+        "5 https://example.com/device 7",
+    ),
+    (
+        r#"{"device_code":"G","user_code":"W","verification_uri":"https://example.com/device","expires_in":1800,"a":1,"b":1}"#,
+        "Additional members",
+    ),
+    (
+        r#"{"device_code":"G","user_code":"W","expires_in":1800,"a":1,"b":1,"c":1}"#,
+        "Missing verification_uri",
+    ),
+];
+
 #[test]
 fn a_caller_may_bring_device_fields_of_its_own(rt: HostRuntime) -> Result<(), Fail> {
-    for (text, want) in [
-        (
-            r#"{"device_code":"G","user_code":"W","verification_uri":"https://example.com/device","expires_in":1800}"#,
-            "4 https://example.com/device 5",
-        ),
-        (
-            r#"{"device_code":"G","user_code":"W","verification_url":"https://example.com/device","expires_in":1800,"interval":7}"#,
-            "5 https://example.com/device 7",
-        ),
-        (
-            r#"{"device_code":"G","user_code":"W","verification_uri":"https://example.com/device","expires_in":1800,"a":1,"b":1}"#,
-            "Additional members",
-        ),
-        (
-            r#"{"device_code":"G","user_code":"W","expires_in":1800,"a":1,"b":1,"c":1}"#,
-            "Missing verification_uri",
-        ),
-    ] {
-        assert_eq!(rt; device_line(rt.alloc(), text)?.as_str(), want, "{text}");
+    for (text, want) in &DEVICE_LINES {
+        assert_eq!(rt; device_line(rt.alloc(), text)?.as_str(), *want, "{text}");
     }
     Ok(())
 }

@@ -173,16 +173,19 @@ fn over_closure(alloc: Global, is_up: bool) -> Result<String, Fail> {
     Ok(format!(in alloc; "{line}, {}", http.faults())?)
 }
 
+// Whether the closure answers, and the line.
+static CLOSURES: [(bool, &str); 2] = [
+    (
+        true,
+        "POST https://example/token, POST https://example/token, 0",
+    ),
+    (false, "down, down, 2"),
+];
+
 #[test]
 fn requests_over_closures(rt: HostRuntime) -> Result<(), Fail> {
-    for (is_up, want) in [
-        (
-            true,
-            "POST https://example/token, POST https://example/token, 0",
-        ),
-        (false, "down, down, 2"),
-    ] {
-        assert_eq!(rt; over_closure(rt.alloc(), is_up)?.as_str(), want);
+    for (is_up, want) in &CLOSURES {
+        assert_eq!(rt; over_closure(rt.alloc(), *is_up)?.as_str(), *want);
     }
     Ok(())
 }

@@ -1,7 +1,7 @@
 use Rattle.std.proofs.Common.{subst, sym, refl, All}
 use Rattle.std.proofs.lemmas.List.Elements.{All-nil}
 use Rattle.serde_json.specs.declared.value.Value.{String}
-use Rattle.oidc_claims.specs.WrittenBack.{IsUtf8Member}
+use Rattle.oidc_readers.specs.WrittenBack.{IsUtf8Member}
 use Rattle.oidc_claims.proofs.Theorems.{utf8_pushed}
 use Rattle.replay.proofs.tests.claims.own_types.TenantAdditionalClaims.write.Goals as goal
 

@@ -1,6 +1,0 @@
-use Rattle.std.proofs.Common.{ap}
-use Rattle.oidc_readers.proofs.Theorems.{kept_by}
-use Rattle.oidc_login.proofs.tokens.id_token_field.IdTokenFieldsMemberReader.take.Goals as goal
-
-pub returns : goal.returns
-returns c = λ before start. kept_by _ _ _ _ (λ kept i. record { id_token = kept i }) (c.take.ensures before (ap (λ r. r.id_token) start))

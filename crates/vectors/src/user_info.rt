@@ -1,0 +1,243 @@
+//! User info: its claims, the request for it, what its answers are worth, and tokens of it that are issued.
+
+use crate::answers::{object, ok_form, ok_pair, refused_as, refused_word};
+use crate::case::{Case, CaseError};
+use crate::exchanges::{parse_line, request_line, response_in, url_of};
+use crate::keys::algorithm;
+use crate::tokens::unsigned_line;
+use crate::verifier_keys::VerifierKey;
+use crate::verifiers::keys_in;
+use crate::words::claims_word;
+use oidc_claims::{AdditionalClaims, AllOtherClaims};
+use oidc_keys::{CoreHmacKey, JsonWebKeySet};
+use oidc_oauth2::{Answer, Fault, Recorded};
+use oidc_pairs::FormText;
+use oidc_tokens::{ClaimsVerificationError, JsonWebTokenError, Payload, UserInfoVerifier};
+use oidc_types::{
+    AccessToken, ClientId, CoreGenderClaim, CoreJweContentEncryptionAlgorithm,
+    CoreJwsSigningAlgorithm, IssuerUrl, SubjectIdentifier, UserInfoUrl,
+};
+use oidc_user_info::{
+    InfoOther, PrepareInfoError, ResponseCause, UserInfoClaims, UserInfoError,
+    UserInfoJsonWebToken, UserInfoRequest, UserInfoResponseType,
+};
+use std::alloc::{AllocError, Global};
+
+/// The claims of user info, all additional ones among them.
+type Claims = UserInfoClaims<AllOtherClaims, CoreGenderClaim>;
+
+/// A token of such claims.
+type Token = UserInfoJsonWebToken<
+    AllOtherClaims,
+    CoreGenderClaim,
+    CoreJweContentEncryptionAlgorithm,
+    CoreJwsSigningAlgorithm,
+>;
+
+type Verifier<'a> = UserInfoVerifier<'a, CoreJweContentEncryptionAlgorithm, VerifierKey>;
+
+type Request<'a> = UserInfoRequest<'a, CoreJweContentEncryptionAlgorithm, VerifierKey>;
+
+// ---- claims
+
+/// `info_claims`: the claims of an answer that is an object, written again, and the additional ones.
+pub(crate) fn info_claims(alloc: Global, case: &Case) -> Result<String, CaseError> {
+    case.check(&["text"])?;
+    match Claims::from_json::<Fault>(alloc, case.value("text").as_bytes(), None) {
+        Ok(claims) => claims_line(alloc, &claims),
+        Err(UserInfoError::Parse(refusal)) => refused_as(alloc, FormText::new(alloc), &refusal),
+        Err(UserInfoError::Memory) => Err(CaseError::Memory),
+        Err(_) => Err(CaseError::NoCase),
+    }
+}
+
+fn claims_line(alloc: Global, claims: &Claims) -> Result<String, CaseError> {
+    let written = written_claims(alloc, claims)?;
+    let additional = claims.additional_claims().write(alloc)?;
+    let additional = object(alloc, additional.as_slice())?;
+    let mut form = FormText::new(alloc);
+    form.push("written", written.as_str())?;
+    form.push("additional", additional.as_str())?;
+    ok_form(alloc, form)
+}
+
+// The text of the object that claims are written as.
+fn written_claims(alloc: Global, claims: &Claims) -> Result<String, CaseError> {
+    let members = claims.write(alloc)?;
+    object(alloc, members.as_slice())
+}
+
+// ---- the request
+
+/// `info_request`: the request for user info.
+pub(crate) fn info_request(alloc: Global, case: &Case) -> Result<String, CaseError> {
+    case.check(&["endpoint", "token", "accept"])?;
+    let endpoint: UserInfoUrl = url_of(alloc, case.value("endpoint"))?;
+    let issuer: IssuerUrl = url_of(alloc, case.value("endpoint"))?;
+    let id = ClientId::new(String::new(alloc));
+    let keys = JsonWebKeySet::new(Vec::new(alloc));
+    let verifier = Verifier::new(&id, &issuer, &keys, None);
+    let token = AccessToken::new(String::from_str(alloc, case.value("token"))?);
+    let request = Request::new(&endpoint, token, verifier);
+    let request = request.set_response_type(response_type(case.value("accept"))?);
+    match request.prepare(alloc) {
+        Ok(request) => request_line(alloc, &request),
+        Err(PrepareInfoError::Bearer) => refused_word(alloc, "bearer"),
+        Err(PrepareInfoError::Uri) => refused_word(alloc, "uri"),
+        Err(PrepareInfoError::Memory) => Err(CaseError::Memory),
+    }
+}
+
+fn response_type(text: &str) -> Result<UserInfoResponseType, CaseError> {
+    match text {
+        "json" => Ok(UserInfoResponseType::Json),
+        "jwt" => Ok(UserInfoResponseType::Jwt),
+        _ => Err(CaseError::NoCase),
+    }
+}
+
+// ---- the answer
+
+/// `info_answer`: what an answer to that request is worth, as it came over a transport.
+pub(crate) fn info_answer(alloc: Global, case: &Case) -> Result<String, CaseError> {
+    let required = ["status", "body", "id", "issuer"];
+    let optional = ["type", "subject", "signed", "any_issuer", "any_audience"];
+    case.check_all(&required, &optional, Some("key"))?;
+    let expected = expected_in(alloc, case)?;
+    let mut http = transport(alloc, case)?;
+    let request = request_in(alloc, case, &expected)?;
+    reply_line(alloc, request, &mut http)
+}
+
+// What a line expects of an answer, and where it comes from.
+#[derive(Drop)]
+struct Expected {
+    endpoint: UserInfoUrl,
+    id: ClientId,
+    issuer: IssuerUrl,
+    keys: JsonWebKeySet<VerifierKey>,
+}
+
+fn expected_in(alloc: Global, case: &Case) -> Result<Expected, CaseError> {
+    let endpoint = url_of(alloc, "https://example/userinfo")?;
+    let id = ClientId::new(String::from_str(alloc, case.value("id"))?);
+    let issuer = url_of(alloc, case.value("issuer"))?;
+    let keys = keys_in(alloc, case)?;
+    Ok(Expected {
+        endpoint,
+        id,
+        issuer,
+        keys,
+    })
+}
+
+// The request, with the subject and the switches of a line.
+fn request_in<'a>(
+    alloc: Global,
+    case: &Case,
+    expected: &'a Expected,
+) -> Result<Request<'a>, CaseError> {
+    let subject = subject_in(alloc, case)?;
+    let token = AccessToken::new(String::from_str(alloc, "abc")?);
+    let verifier = Verifier::new(&expected.id, &expected.issuer, &expected.keys, subject);
+    let request = Request::new(&expected.endpoint, token, verifier);
+    switched(case, request)
+}
+
+fn switched<'a>(case: &Case, request: Request<'a>) -> Result<Request<'a>, CaseError> {
+    let is_signed = flag(case, "signed")?;
+    let any_issuer = flag(case, "any_issuer")?;
+    let any_audience = flag(case, "any_audience")?;
+    Ok(
+        request
+            .require_signed_response(is_signed)
+            .require_issuer_match(!any_issuer)
+            .require_audience_match(!any_audience),
+    )
+}
+
+fn reply_line(
+    alloc: Global,
+    request: Request<'_>,
+    http: &mut Recorded,
+) -> Result<String, CaseError> {
+    match request.request::<AllOtherClaims, CoreGenderClaim, Recorded>(alloc, http) {
+        Ok(claims) => written_line(alloc, &claims),
+        Err(refusal) => refused_line(alloc, &refusal),
+    }
+}
+
+fn written_line(alloc: Global, claims: &Claims) -> Result<String, CaseError> {
+    let written = written_claims(alloc, claims)?;
+    ok_pair(alloc, "written", written.as_str())
+}
+
+// The transport that gives the answer of a line.
+fn transport(alloc: Global, case: &Case) -> Result<Recorded, CaseError> {
+    let mut answers = Vec::new(alloc);
+    answers.push(Answer::Response(response_in(alloc, case)?))?;
+    Ok(Recorded::new(alloc, answers))
+}
+
+fn subject_in(alloc: Global, case: &Case) -> Result<Option<SubjectIdentifier>, AllocError> {
+    match case.optional("subject") {
+        Some(subject) => Ok(Some(SubjectIdentifier::new(String::from_str(alloc, subject)?))),
+        None => Ok(None),
+    }
+}
+
+// Whether a name stands there, whose value has to be `1`.
+fn flag(case: &Case, name: &str) -> Result<bool, CaseError> {
+    match case.optional(name) {
+        Some("1") => Ok(true),
+        Some(_) => Err(CaseError::NoCase),
+        None => Ok(false),
+    }
+}
+
+// The words that a report has of a refusal.
+fn refused_line(alloc: Global, refusal: &UserInfoError<Fault>) -> Result<String, CaseError> {
+    match refusal {
+        UserInfoError::ClaimsVerification(kind) => claims_refused(alloc, *kind),
+        UserInfoError::Parse(refusal) => parse_line(alloc, refusal),
+        UserInfoError::Request(_) => refused_word(alloc, "request"),
+        UserInfoError::Response(_, _, ResponseCause::Status) => refused_word(alloc, "status"),
+        UserInfoError::Response(_, _, ResponseCause::MediaType) => {
+            refused_word(alloc, "media_type")
+        }
+        UserInfoError::Other(InfoOther::Bearer) => refused_word(alloc, "bearer"),
+        UserInfoError::Other(InfoOther::Uri) => refused_word(alloc, "uri"),
+        UserInfoError::Other(InfoOther::Utf8) => refused_word(alloc, "utf8"),
+        UserInfoError::TooLong(_) => refused_word(alloc, "too_long"),
+        UserInfoError::Memory => Err(CaseError::Memory),
+    }
+}
+
+fn claims_refused(alloc: Global, kind: ClaimsVerificationError) -> Result<String, CaseError> {
+    let words = format!(in alloc; "claims {}", claims_word(kind))?;
+    refused_word(alloc, words.as_str())
+}
+
+// ---- tokens that are issued
+
+/// `info_issue`: the token of these claims, signed by a secret.
+pub(crate) fn info_issue(alloc: Global, case: &Case) -> Result<String, CaseError> {
+    case.check(&["claims", "secret", "alg"])?;
+    let alg = algorithm(case.value("alg"))?;
+    let claims = claims_of(alloc, case.value("claims"))?;
+    let key = CoreHmacKey::new(Vec::from_slice(alloc, case.value("secret").as_bytes())?);
+    match Token::new(alloc, claims, &key, alg) {
+        Ok(token) => ok_pair(alloc, "token", token.as_str()),
+        Err(JsonWebTokenError::SigningError(refusal)) => unsigned_line(alloc, &refusal),
+        Err(JsonWebTokenError::Memory) => Err(CaseError::Memory),
+    }
+}
+
+// The claims of a text that has to hold them.
+fn claims_of(alloc: Global, text: &str) -> Result<Claims, CaseError> {
+    match Claims::from_json::<Fault>(alloc, text.as_bytes(), None) {
+        Ok(claims) => Ok(claims),
+        Err(UserInfoError::Memory) => Err(CaseError::Memory),
+        Err(_) => Err(CaseError::NoCase),
+    }
+}

@@ -1,0 +1,88 @@
+//! The verdict of a client on an ID token.
+
+use crate::answers::{ok_pair, refused_word};
+use crate::case::{Case, CaseError};
+use crate::exchanges::url_of;
+use crate::keys::algorithm;
+use crate::tokens::{token_of, written_claims};
+use crate::types::number;
+use crate::verifier_keys::{VerifierKey, key_of};
+use crate::words::claims_word;
+use jiff::Timestamp;
+use oidc_keys::JsonWebKeySet;
+use oidc_tokens::{ClaimsVerificationError, IdTokenVerifier};
+use oidc_types::{ClientId, ClientSecret, CoreJwsSigningAlgorithm, IssuerUrl, Nonce};
+use std::alloc::Global;
+
+/// `verify`: the claims of an ID token that a client accepts, or the first check that fails.
+pub(crate) fn verify(alloc: Global, case: &Case) -> Result<String, CaseError> {
+    let required = ["token", "id", "issuer", "nonce", "now"];
+    case.check_all(&required, &["secret", "algs"], Some("key"))?;
+    let token = token_of(alloc, case.value("token"))?;
+    let id = ClientId::new(String::from_str(alloc, case.value("id"))?);
+    let issuer: IssuerUrl = url_of(alloc, case.value("issuer"))?;
+    let keys = keys_in(alloc, case)?;
+    let verifier = verifier_in(alloc, case, &id, &issuer, &keys)?;
+    let nonce = Nonce::new(String::from_str(alloc, case.value("nonce"))?);
+    let now = moment(case.value("now"))?;
+    match token.claims(alloc, &verifier, &nonce, now) {
+        Ok(claims) => ok_pair(alloc, "written", written_claims(alloc, claims)?.as_str()),
+        Err(ClaimsVerificationError::Memory) => Err(CaseError::Memory),
+        Err(refusal) => refused_word(alloc, claims_word(refusal)),
+    }
+}
+
+// The verifier of a client with a secret, or without, and with a list of algorithms, or without.
+fn verifier_in<'a>(
+    alloc: Global,
+    case: &Case,
+    id: &'a ClientId,
+    issuer: &'a IssuerUrl,
+    keys: &'a JsonWebKeySet<VerifierKey>,
+) -> Result<IdTokenVerifier<'a, VerifierKey>, CaseError> {
+    let verifier = match case.optional("secret") {
+        Some(secret) => {
+            let secret = ClientSecret::new(String::from_str(alloc, secret)?);
+            IdTokenVerifier::new_confidential_client(alloc, id, &secret, issuer, keys)?
+        }
+        None => IdTokenVerifier::new_public_client(id, issuer, keys),
+    };
+    match case.optional("algs") {
+        Some(algs) => Ok(verifier.set_allowed_algs(algorithms(alloc, algs)?)),
+        None => Ok(verifier),
+    }
+}
+
+// The algorithms of a list, with a space between each two.
+fn algorithms(alloc: Global, text: &str) -> Result<Vec<CoreJwsSigningAlgorithm>, CaseError> {
+    let mut algorithms = Vec::new(alloc);
+    if text.is_empty() {
+        return Ok(algorithms);
+    }
+    for word in text.split(' ') {
+        algorithms.push(algorithm(word)?)?;
+    }
+    Ok(algorithms)
+}
+
+/// The keys of the issuer, in their order.
+pub(crate) fn keys_in(alloc: Global, case: &Case) -> Result<JsonWebKeySet<VerifierKey>, CaseError> {
+    let mut keys = Vec::new(alloc);
+    for pair in case.pairs() {
+        if pair.name() == "key" {
+            keys.push(key_of(alloc, pair.value())?)?;
+        }
+    }
+    Ok(JsonWebKeySet::new(keys))
+}
+
+// The moment of whole seconds. Rust reads a number behind a `+`, which no line has.
+fn moment(text: &str) -> Result<Timestamp, CaseError> {
+    if text.as_bytes().first() == Some(&b'+') {
+        return Err(CaseError::NoCase);
+    }
+    match Timestamp::from_second(number::<i64>(text)?) {
+        Ok(moment) => Ok(moment),
+        Err(_) => Err(CaseError::NoCase),
+    }
+}
