@@ -20,8 +20,8 @@ use Rattle.oidc_keys.specs.CoreJwk.{SymmetricKey}
 use Rattle.oidc_keys.specs.declared.core_jwk.CoreJsonWebKeyUse.{CoreJsonWebKeyUse}
 use Rattle.oidc_keys.specs.contracts.core_jwk.CoreJsonWebKeyJsonWebKey.TheImpl.{ghosts as of_keys}
 use Rattle.oidc_keys.specs.contracts.core_jwk.CoreJsonWebKeyUseJsonWebKeyUse.TheImpl.{ghosts as of_uses}
-use Rattle.oidc_tokens.specs.Tokens.{SeenToken, token_of}
-use Rattle.oidc_tokens.specs.IdTokenClaims.{SeenIdTokenClaims, id_token_claims_of, id_token_members}
+use Rattle.oidc_jwt.specs.Tokens.{SeenToken, token_of}
+use Rattle.oidc_id_token_claims.specs.IdTokenClaims.{SeenIdTokenClaims, id_token_claims_of, id_token_members}
 use Rattle.oidc_tokens.specs.Signatures.{KeyMeanings, SeenVerifier, meanings}
 use Rattle.oidc_tokens.specs.Verification.{Accepts, first_failure}
 use Rattle.oidc_tokens.specs.Causes.{Cause}

@@ -53,7 +53,7 @@ pub struct SignedIn {
 impl Model for SignedIn {
     ghost use Rattle.std.specs.Coded.{codes, coded_list, coded_ℕ};
     ghost use Rattle.oidc_claims.specs.Others.{others_code};
-    ghost use Rattle.oidc_tokens.specs.Codes.{id_token_claims_code};
+    ghost use Rattle.oidc_id_token_claims.specs.Codes.{id_token_claims_code};
     ghost use Rattle.oidc_login.specs.SignedIn.{SeenSignedIn, signed_by, present};
 
     ghost Value = { SeenSignedIn };

@@ -11,14 +11,14 @@ use Rattle.std.proofs.lemmas.List.Folds.{list_any_at}
 use Rattle.std.proofs.lemmas.Slice.Eq.{bytes_eq-Decides}
 use Rattle.std.proofs.lemmas.Int.{ints}
 use Rattle.oidc_keys.specs.declared.refusals.SignatureVerificationError.{SignatureVerificationError}
-use Rattle.oidc_tokens.specs.declared.header.JsonWebTokenAlgorithm.{JsonWebTokenAlgorithm}
-use Rattle.oidc_tokens.specs.declared.header.JsonWebTokenAlgorithm.TheVariants as algorithm
-use Rattle.oidc_tokens.specs.declared.header.TokenHeader.{TokenHeader}
+use Rattle.oidc_jwt.specs.declared.header.JsonWebTokenAlgorithm.{JsonWebTokenAlgorithm}
+use Rattle.oidc_jwt.specs.declared.header.JsonWebTokenAlgorithm.TheVariants as algorithm
+use Rattle.oidc_jwt.specs.declared.header.TokenHeader.{TokenHeader}
 use Rattle.oidc_tokens.specs.declared.verification.refusals.ClaimsVerificationError.{ClaimsVerificationError}
 use Rattle.oidc_tokens.specs.declared.verification.refusals.ClaimsVerificationError.TheVariants.{Unsupported, InvalidIssuer, InvalidAudience, SignatureVerification, Expired, InvalidNonce}
 use Rattle.oidc_tokens.specs.Steps.{◌>>=◌}
-use Rattle.oidc_tokens.specs.Tokens.{SeenToken}
-use Rattle.oidc_tokens.specs.IdTokenClaims.{SeenIdTokenClaims}
+use Rattle.oidc_jwt.specs.Tokens.{SeenToken}
+use Rattle.oidc_id_token_claims.specs.IdTokenClaims.{SeenIdTokenClaims}
 use Rattle.oidc_tokens.specs.Signatures.{KeyMeanings, SeenVerifier, signing_alg, is_allowed, if_allowed, key_for, verdict_on}
 use Rattle.oidc_tokens.specs.Verification.{is_token_type, is_encrypted, is_supported, is_alone_in, Accepts, unless, refused_as, first_of, first_failure, FailsUnlessAccepted}
 

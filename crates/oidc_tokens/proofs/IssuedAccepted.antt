@@ -4,13 +4,14 @@ use Rattle.std.proofs.lemmas.List.Elements.{All-nil, All-cons}
 use Rattle.oidc_types.specs.declared.signing_error.SigningError.{SigningError}
 use Rattle.oidc_members.specs.Seen.{OutSeen}
 use Rattle.oidc_tokens.specs.Steps.{◌>>=◌}
-use Rattle.oidc_tokens.specs.Tokens.{SeenToken}
-use Rattle.oidc_tokens.specs.IdTokenClaims.{SeenIdTokenClaims}
-use Rattle.oidc_tokens.specs.Issuing.{signed_with}
+use Rattle.oidc_jwt.specs.Tokens.{SeenToken}
+use Rattle.oidc_id_token_claims.specs.IdTokenClaims.{SeenIdTokenClaims}
+use Rattle.oidc_jwt.specs.Issuing.{signed_with}
 use Rattle.oidc_tokens.specs.Hashes.{Hashing, hash_or_refusal, with_token_hash, with_code_hash, with_hashes}
 use Rattle.oidc_tokens.specs.Signatures.{KeyMeanings, SeenVerifier, key_for}
 use Rattle.oidc_tokens.specs.Verification.{is_token_type, Accepts}
-use Rattle.oidc_tokens.specs.RoundTrip.{IsInRange, Expects}
+use Rattle.oidc_id_token_claims.specs.RoundTrip.{IsInRange}
+use Rattle.oidc_tokens.specs.Issuing.{Expects}
 
 -- ---- claims that differ in their hashes alone
 

@@ -2,12 +2,13 @@
 use Rattle.std.proofs.Common.{◌≡◌, ℕ, List, inl, inr, Option, Some, Result, Ok, Err, sym, ap, subst}
 use Rattle.oidc_types.specs.declared.signing_error.SigningError.{SigningError}
 use Rattle.oidc_types.specs.declared.signing_error.SigningError.TheVariants.{CryptoError, UnsupportedAlg, Other, Memory}
-use Rattle.oidc_tokens.specs.declared.jwt.JsonWebTokenError.{JsonWebTokenError}
-use Rattle.oidc_tokens.specs.declared.jwt.JsonWebTokenError.TheVariants as token_error
+use Rattle.oidc_jwt.specs.declared.jwt.JsonWebTokenError.{JsonWebTokenError}
+use Rattle.oidc_jwt.specs.declared.jwt.JsonWebTokenError.TheVariants as token_error
 use Rattle.oidc_tokens.specs.Steps.{◌>>=◌, and_then}
-use Rattle.oidc_tokens.specs.Issuing.{Issues, IsRefusedBy, IsUnissued, issue_error}
+use Rattle.oidc_jwt.specs.Issuing.{Issues, IsRefusedBy, issue_error}
+use Rattle.oidc_tokens.specs.Issuing.{IsUnissued}
 use Rattle.oidc_tokens.specs.Hashes.{Hashing, hash_or_refusal, with_token_hash, with_code_hash, GivesHash}
-use Rattle.oidc_tokens.specs.IdTokenClaims.{SeenIdTokenClaims}
+use Rattle.oidc_id_token_claims.specs.IdTokenClaims.{SeenIdTokenClaims}
 
 module _ {P : Type 0} (hashed : Result P SigningError) where
   -- a hash that is wanted and doesn't exist

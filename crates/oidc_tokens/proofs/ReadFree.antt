@@ -17,11 +17,10 @@ use Rattle.oidc_readers.specs.Records.{◌>>=◌, faultless, optional}
 use Rattle.oidc_claims.specs.Additional.{out_of}
 use Rattle.oidc_claims.specs.Others.{Others, list_of, read_others}
 use Rattle.oidc_claims.proofs.Theorems.{all_kept}
-use Rattle.oidc_tokens.specs.Tokens.{SeenToken, parts_of, bytes_of, header_in, payload_in, contents_of, token_of}
-use Rattle.oidc_tokens.specs.IdTokenClaims.{SeenIdTokenClaims, additional_members, id_token_claims_of}
+use Rattle.oidc_jwt.specs.Tokens.{SeenToken, parts_of, bytes_of, header_in, payload_in, contents_of, token_of}
+use Rattle.oidc_id_token_claims.specs.IdTokenClaims.{SeenIdTokenClaims, additional_members, id_token_claims_of}
 use Rattle.oidc_tokens.specs.IdTokenFields.{SeenIdTokenFields, token_kind, id_token, response_fields_of}
-use Rattle.oidc_tokens.proofs.Homes.{additional_stay}
-use Rattle.oidc_tokens.proofs.OneHome.{accepted_parts}
+use Rattle.oidc_id_token_claims.proofs.Theorems.{accepted_parts, additional_stay}
 
 -- a step that gave a value stands on one
 first_step : {A B : Type 0} (o : Result A Refusal) (f : A → Result B Refusal) (y : B) → (o >>= f) ≡ Ok y → (x : A) × (o ≡ Ok x) × (f x ≡ Ok y)

@@ -6,10 +6,3 @@ pub use Rattle.oidc_tokens.proofs.NeverMemory.{never_memory, never_memory_inside
 pub use Rattle.oidc_tokens.proofs.ReadFree.{token_free, response_free}
 pub use Rattle.oidc_tokens.proofs.UserInfo.{about, about_back, about_another, info_accepts, info_accepted, info_failure_cause}
 pub use Rattle.oidc_tokens.proofs.Judged.{memory_alone, of_failure, judges_as}
--- members of claims by their home, and claims that were written
-pub use Rattle.oidc_tokens.proofs.OneHome.{no_claim}
-pub use Rattle.oidc_tokens.proofs.Passing.{passes_apart, passes_both, no_fault}
-pub use Rattle.oidc_tokens.proofs.Issued.{may_be_written}
-pub use Rattle.oidc_tokens.proofs.OwnBack.{texts_back}
-pub use Rattle.oidc_tokens.proofs.ClaimsBack.{all_kept, none_kept, weaker, behind, before, each_stands, outs_back, texts_stand, text_stands, same_some}
-pub use Rattle.oidc_tokens.proofs.FloatFree.{free_append, standing_free}

@@ -9,7 +9,7 @@ use Rattle.oidc_types.specs.{TextAndUrl}
 use Rattle.oidc_keys.specs.declared.refusals.SignatureVerificationError.{SignatureVerificationError}
 use Rattle.oidc_tokens.specs.declared.verification.refusals.ClaimsVerificationError.{ClaimsVerificationError}
 use Rattle.oidc_tokens.specs.declared.verification.refusals.ClaimsVerificationError.TheVariants.{Unsupported, InvalidIssuer, InvalidAudience, SignatureVerification, InvalidSubject}
-use Rattle.oidc_tokens.specs.Tokens.{SeenToken}
+use Rattle.oidc_jwt.specs.Tokens.{SeenToken}
 use Rattle.oidc_tokens.specs.Signatures.{KeyMeanings, verdict_on}
 use Rattle.oidc_tokens.specs.Verification.{is_token_type, is_encrypted, is_supported, is_alone_in, unless, refused_as, first_of}
 use Rattle.oidc_tokens.specs.UserInfoVerification.{SeenUserInfoVerifier, Parties, without_secret, IsIssuedBy, IsForAlone, AcceptsInfo, passes_issuer, passes_audience, is_expected_subject, first_info_failure, InfoFailsUnlessAccepted}

@@ -3,12 +3,12 @@
 use Rattle.std.specs.Prelude.{◌≡◌, ◌≢◌, ◌⊎◌, ℕ, ℤ, ◌≤ℤ◌, List, [], ◌∷◌, filter, Bool, Option, None, Ok, Err, IsTrue, IsFalse}
 use Rattle.oidc_keys.specs.declared.refusals.SignatureVerificationError.{SignatureVerificationError}
 use Rattle.oidc_keys.specs.declared.refusals.SignatureVerificationError.TheVariants.{NoSignature, DisallowedAlg, NoMatchingKey, AmbiguousKeyId}
-use Rattle.oidc_tokens.specs.declared.header.JsonWebTokenAlgorithm.TheVariants as algorithm
-use Rattle.oidc_tokens.specs.declared.header.TokenHeader.{TokenHeader}
+use Rattle.oidc_jwt.specs.declared.header.JsonWebTokenAlgorithm.TheVariants as algorithm
+use Rattle.oidc_jwt.specs.declared.header.TokenHeader.{TokenHeader}
 use Rattle.oidc_tokens.specs.declared.verification.refusals.ClaimsVerificationError.{ClaimsVerificationError}
 use Rattle.oidc_tokens.specs.declared.verification.refusals.ClaimsVerificationError.TheVariants.{Unsupported, InvalidIssuer, InvalidAudience, SignatureVerification, Expired, InvalidNonce, InvalidSubject, Memory}
-use Rattle.oidc_tokens.specs.Tokens.{SeenToken}
-use Rattle.oidc_tokens.specs.IdTokenClaims.{SeenIdTokenClaims}
+use Rattle.oidc_jwt.specs.Tokens.{SeenToken}
+use Rattle.oidc_id_token_claims.specs.IdTokenClaims.{SeenIdTokenClaims}
 use Rattle.oidc_tokens.specs.Signatures.{KeyMeanings, SeenVerifier, fits, is_allowed, key_for}
 use Rattle.oidc_tokens.specs.Verification.{is_token_type, is_encrypted, is_alone_in}
 

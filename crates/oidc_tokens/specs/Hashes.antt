@@ -6,8 +6,8 @@ use Rattle.oidc_keys.specs.Jwk.{digest_by}
 use Rattle.oidc_types.specs.declared.signing_error.SigningError.{SigningError}
 use Rattle.oidc_types.specs.declared.signing_error.SigningError.TheVariants.{UnsupportedAlg, Memory}
 use Rattle.oidc_tokens.specs.Steps.{◌>>=◌}
-use Rattle.oidc_tokens.specs.Issuing.{encoded}
-use Rattle.oidc_tokens.specs.IdTokenClaims.{SeenIdTokenClaims}
+use Rattle.oidc_jwt.specs.Issuing.{encoded}
+use Rattle.oidc_id_token_claims.specs.IdTokenClaims.{SeenIdTokenClaims}
 
 -- the first half of a digest, rounded down
 abbrev pub left_half : List ℕ → List ℕ

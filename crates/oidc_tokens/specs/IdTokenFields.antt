@@ -6,7 +6,7 @@ use Rattle.oidc_readers.specs.Kinds.{Kind, text_kind, or_null}
 use Rattle.oidc_readers.specs.Fields.{Field, field, judged}
 use Rattle.oidc_readers.specs.Records.{◌>>=◌, faultless, optional}
 use Rattle.oidc_readers.specs.Writing.{text_member}
-use Rattle.oidc_tokens.specs.Tokens.{SeenToken}
+use Rattle.oidc_jwt.specs.Tokens.{SeenToken}
 
 -- the ID token of a response, where it has one, and the fields beside it
 pub record SeenIdTokenFields (Token Extra : Type 0) : Type 0 where

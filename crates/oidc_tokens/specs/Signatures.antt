@@ -12,10 +12,10 @@ use Rattle.oidc_keys.specs.declared.jwk.JsonWebKey.{Ghosts as Keys}
 use Rattle.oidc_keys.specs.declared.jwk.JsonWebKeyUse.{Ghosts as Uses}
 use Rattle.oidc_keys.specs.declared.refusals.SignatureVerificationError.{SignatureVerificationError}
 use Rattle.oidc_keys.specs.declared.refusals.SignatureVerificationError.TheVariants.{AmbiguousKeyId, DisallowedAlg, NoMatchingKey, NoSignature, UnsupportedAlg}
-use Rattle.oidc_tokens.specs.declared.header.JsonWebTokenAlgorithm.{JsonWebTokenAlgorithm}
-use Rattle.oidc_tokens.specs.declared.header.JsonWebTokenAlgorithm.TheVariants.{Signature, Encryption, None as Unsigned}
+use Rattle.oidc_jwt.specs.declared.header.JsonWebTokenAlgorithm.{JsonWebTokenAlgorithm}
+use Rattle.oidc_jwt.specs.declared.header.JsonWebTokenAlgorithm.TheVariants.{Signature, Encryption, None as Unsigned}
 use Rattle.oidc_tokens.specs.Steps.{◌>>=◌}
-use Rattle.oidc_tokens.specs.Tokens.{SeenToken}
+use Rattle.oidc_jwt.specs.Tokens.{SeenToken}
 
 -- what is known of keys, what they are for, the algorithms that they sign by, and their types
 pub record KeyMeanings (Key Use Algorithm Type' : Type 0) : Type 1 where

@@ -3,7 +3,7 @@
 use Rattle.std.specs.Prelude.{◌≡◌, ◌≢◌, ◌⊎◌, ℕ, List, Option, Some, IsTrue}
 use Rattle.oidc_tokens.specs.declared.verification.refusals.ClaimsVerificationError.{ClaimsVerificationError}
 use Rattle.oidc_tokens.specs.declared.verification.refusals.ClaimsVerificationError.TheVariants.{Unsupported, InvalidIssuer, InvalidAudience, SignatureVerification, Expired, InvalidNonce, InvalidSubject, Memory}
-use Rattle.oidc_tokens.specs.Tokens.{SeenToken}
+use Rattle.oidc_jwt.specs.Tokens.{SeenToken}
 use Rattle.oidc_tokens.specs.Signatures.{KeyMeanings}
 use Rattle.oidc_tokens.specs.Causes.{AsksTooMuch, KeyIsAtFault, KeySays}
 use Rattle.oidc_tokens.specs.UserInfoVerification.{SeenUserInfoVerifier, Parties, IsIssuedBy, IsForAlone, without_secret}

@@ -3,10 +3,10 @@ use Rattle.std.specs.Prelude.{◌≡◌, ◌↔◌, ℕ, List, [], ◌∷◌, Bo
 use Rattle.std.specs.Option.{option_map_or}
 use Rattle.std.specs.Str.{bytes_eq}
 use Rattle.oidc_types.specs.{TextAndUrl}
-use Rattle.oidc_tokens.specs.declared.header.JsonWebTokenAlgorithm.TheVariants as algorithm
+use Rattle.oidc_jwt.specs.declared.header.JsonWebTokenAlgorithm.TheVariants as algorithm
 use Rattle.oidc_tokens.specs.declared.verification.refusals.ClaimsVerificationError.{ClaimsVerificationError}
 use Rattle.oidc_tokens.specs.declared.verification.refusals.ClaimsVerificationError.TheVariants.{Unsupported, InvalidIssuer, InvalidAudience, SignatureVerification, InvalidSubject}
-use Rattle.oidc_tokens.specs.Tokens.{SeenToken}
+use Rattle.oidc_jwt.specs.Tokens.{SeenToken}
 use Rattle.oidc_tokens.specs.Signatures.{KeyMeanings, SeenVerifier, is_allowed, key_for, verdict_on}
 use Rattle.oidc_tokens.specs.Verification.{is_token_type, is_supported, is_alone_in, unless, refused_as, first_of}
 

@@ -5,13 +5,13 @@ use Rattle.std.specs.Option.{option_or}
 use Rattle.std.specs.Str.{bytes_eq, str_to_ascii_lowercase}
 use Rattle.oidc_keys.specs.declared.refusals.SignatureVerificationError.{SignatureVerificationError}
 use Rattle.oidc_keys.specs.declared.refusals.SignatureVerificationError.TheVariants as signature
-use Rattle.oidc_tokens.specs.declared.header.JsonWebTokenAlgorithm.{JsonWebTokenAlgorithm}
-use Rattle.oidc_tokens.specs.declared.header.JsonWebTokenAlgorithm.TheVariants as algorithm
-use Rattle.oidc_tokens.specs.declared.header.TokenHeader.{TokenHeader}
+use Rattle.oidc_jwt.specs.declared.header.JsonWebTokenAlgorithm.{JsonWebTokenAlgorithm}
+use Rattle.oidc_jwt.specs.declared.header.JsonWebTokenAlgorithm.TheVariants as algorithm
+use Rattle.oidc_jwt.specs.declared.header.TokenHeader.{TokenHeader}
 use Rattle.oidc_tokens.specs.declared.verification.refusals.ClaimsVerificationError.{ClaimsVerificationError}
 use Rattle.oidc_tokens.specs.declared.verification.refusals.ClaimsVerificationError.TheVariants.{Unsupported, InvalidIssuer, InvalidAudience, SignatureVerification, Expired, InvalidNonce, Memory}
-use Rattle.oidc_tokens.specs.Tokens.{SeenToken}
-use Rattle.oidc_tokens.specs.IdTokenClaims.{SeenIdTokenClaims}
+use Rattle.oidc_jwt.specs.Tokens.{SeenToken}
+use Rattle.oidc_id_token_claims.specs.IdTokenClaims.{SeenIdTokenClaims}
 use Rattle.oidc_tokens.specs.Signatures.{KeyMeanings, SeenVerifier, is_allowed, key_for, verdict_on}
 
 -- ---- the header (RFC 7515 sections 4.1.9 to 4.1.11, RFC 7519 sections 5.1 and 5.2)

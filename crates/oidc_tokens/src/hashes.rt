@@ -3,7 +3,7 @@
 ghost use Rattle.std.specs.Prelude.{◌≡◌, List, ℕ, Ok, Err, IfOk, IfErr};
 ghost use Rattle.std.specs.String.{string_bytes};
 ghost use Rattle.oidc_types.specs.declared.signing_error.SigningError.TheVariants.{UnsupportedAlg};
-ghost use Rattle.oidc_tokens.specs.Issuing.{encoded};
+ghost use Rattle.oidc_jwt.specs.Issuing.{encoded};
 ghost use Rattle.oidc_tokens.specs.Hashes.{GivesHash, hashing, hash_or_refusal, left_half};
 
 use base64::engine::general_purpose::URL_SAFE_NO_PAD;

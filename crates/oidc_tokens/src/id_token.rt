@@ -3,28 +3,23 @@
 ghost use Rattle.std.specs.Prelude.{◌≡◌, IfOk, IfErr};
 ghost use Rattle.std.specs.String.{string_bytes};
 ghost use Rattle.oidc_members.specs.Answers.{Answers};
-ghost use Rattle.oidc_tokens.specs.Tokens.{token_of};
-ghost use Rattle.oidc_tokens.specs.IdTokenClaims.{id_token_claims_of};
+ghost use Rattle.oidc_jwt.specs.Tokens.{token_of};
+ghost use Rattle.oidc_id_token_claims.specs.IdTokenClaims.{id_token_claims_of};
 ghost use Rattle.oidc_tokens.specs.Verification as verification;
 ghost use Rattle.oidc_tokens.specs.Verification.{Judges, Accepts};
 ghost use Rattle.oidc_tokens.specs.Causes.{Cause};
 ghost use Rattle.oidc_tokens.specs.Signatures as signatures;
 ghost use Rattle.oidc_tokens.specs.Signatures.{behind, meanings};
 
-mod additional;
-mod claims;
 mod fields;
 mod issue;
-mod own;
-mod standard;
-mod written;
 
-pub use crate::id_token::claims::IdTokenClaims;
 pub use crate::id_token::fields::IdTokenFields;
-use crate::jwt::JsonWebToken;
 use crate::verification::{ClaimsVerificationError, IdTokenVerifier, NonceVerifier, signing_alg};
 use jiff::Timestamp;
 use oidc_claims::{AdditionalClaims, GenderClaim};
+pub use oidc_id_token_claims::IdTokenClaims;
+use oidc_jwt::JsonWebToken;
 use oidc_keys::{JsonWebKey, SignatureVerificationError};
 use oidc_members::ParseError;
 use oidc_types::{JweContentEncryptionAlgorithm, JwsSigningAlgorithm};
@@ -51,9 +46,9 @@ impl<
     JS: JwsSigningAlgorithm,
 > Model for IdToken<AC, GC, JE, JS> {
     ghost use Rattle.std.specs.Coded.{codes};
-    ghost use Rattle.oidc_tokens.specs.Codes.{id_token_claims_code};
-    ghost use Rattle.oidc_tokens.specs.Tokens.{SeenToken};
-    ghost use Rattle.oidc_tokens.specs.IdTokenClaims.{SeenIdTokenClaims};
+    ghost use Rattle.oidc_id_token_claims.specs.Codes.{id_token_claims_code};
+    ghost use Rattle.oidc_jwt.specs.Tokens.{SeenToken};
+    ghost use Rattle.oidc_id_token_claims.specs.IdTokenClaims.{SeenIdTokenClaims};
 
     ghost Value = { SeenToken JE JS (SeenIdTokenClaims AC GC) };
 

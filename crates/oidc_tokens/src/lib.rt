@@ -28,13 +28,8 @@
 
 pub mod core_tokens;
 pub mod hashes;
-pub mod header;
 pub mod id_token;
-pub mod jwt;
 pub mod laws;
-pub mod members;
-mod parts;
-pub mod payload;
 pub mod token;
 pub mod verification;
 
@@ -43,12 +38,14 @@ pub use crate::core_tokens::{
     CoreUserInfoVerifier,
 };
 pub use crate::hashes::{from_code, from_token};
-pub use crate::header::{JsonWebTokenAlgorithm, TokenHeader};
 pub use crate::id_token::{IdToken, IdTokenClaims, IdTokenFields};
-pub use crate::jwt::{JsonWebToken, JsonWebTokenError};
-pub use crate::payload::Payload;
 pub use crate::token::TokenResponse;
 pub use crate::verification::{
     AudiencesClaim, ClaimsVerificationError, IdTokenVerifier, IssuerClaim, NonceVerifier,
     UserInfoVerifier, is_expected_subject,
+};
+pub use oidc_id_token_claims::members;
+pub use oidc_jwt::{
+    JsonWebToken, JsonWebTokenAlgorithm, JsonWebTokenError, Payload, TokenHeader, header, jwt,
+    payload,
 };

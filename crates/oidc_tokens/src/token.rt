@@ -2,8 +2,8 @@
 
 ghost use Rattle.std.specs.Prelude.{◌≡◌, Option};
 ghost use Rattle.std.specs.Option.{option_copied};
-ghost use Rattle.oidc_tokens.specs.Tokens.{SeenToken};
-ghost use Rattle.oidc_tokens.specs.IdTokenClaims.{SeenIdTokenClaims};
+ghost use Rattle.oidc_jwt.specs.Tokens.{SeenToken};
+ghost use Rattle.oidc_id_token_claims.specs.IdTokenClaims.{SeenIdTokenClaims};
 
 use crate::id_token::{IdToken, IdTokenFields};
 use oidc_claims::{AdditionalClaims, GenderClaim};

@@ -14,15 +14,14 @@ mod keys;
 mod refusals;
 mod user_info;
 
-use crate::header::{JsonWebTokenAlgorithm, TokenHeader};
-use crate::id_token::IdTokenClaims;
-use crate::jwt::JsonWebToken;
 pub use crate::verification::claims::{AudiencesClaim, IssuerClaim, NonceVerifier};
 pub(crate) use crate::verification::keys::signing_alg;
 pub use crate::verification::refusals::ClaimsVerificationError;
 pub use crate::verification::user_info::{UserInfoVerifier, is_expected_subject};
 use jiff::Timestamp;
 use oidc_claims::{AdditionalClaims, GenderClaim};
+use oidc_id_token_claims::IdTokenClaims;
+use oidc_jwt::{JsonWebToken, JsonWebTokenAlgorithm, TokenHeader};
 use oidc_keys::{JsonWebKey, JsonWebKeySet};
 use oidc_members::FieldName;
 use oidc_types::{Audience, ClientId, ClientSecret, IssuerUrl};

@@ -21,10 +21,11 @@ use Rattle.oidc_claims.specs.Home.{home_by, is_additional_home, is_additional, u
 use Rattle.oidc_claims.specs.Standard.{claims_of, faultless_claims}
 use Rattle.oidc_claims.specs.Write.{written}
 use Rattle.oidc_claims.proofs.Theorems.{standard_name, is_claim, standard_same, fault_outside, fault_narrowed, claims_by, standard_named, written_free, written_stands, split_reads_back}
-use Rattle.oidc_tokens.specs.Homes.{is_standard}
-use Rattle.oidc_tokens.specs.IdTokenClaims.{additional_among}
-use Rattle.oidc_tokens.specs.Issuing.{ComesBack}
-use Rattle.oidc_tokens.proofs.Theorems.{no_claim, passes_apart, passes_both, no_fault, may_be_written, all_kept, none_kept, weaker, behind, before, each_stands, outs_back, same_some, free_append, standing_free}
+use Rattle.oidc_id_token_claims.specs.Homes.{is_standard}
+use Rattle.oidc_id_token_claims.specs.IdTokenClaims.{additional_among}
+use Rattle.oidc_jwt.specs.Issuing.{ComesBack}
+use Rattle.oidc_jwt.proofs.Theorems.{may_be_written, free_append, standing_free}
+use Rattle.oidc_id_token_claims.proofs.Theorems.{no_claim, passes_apart, passes_both, no_fault, all_kept, none_kept, weaker, behind, before, each_stands, outs_back, same_some}
 use Rattle.oidc_user_info.specs.UserInfoClaims.{SeenUserInfoClaims, iss, aud, own_rule, own_members, user_info_rule, parts_in, user_info_claims_of, user_info_members}
 use Rattle.oidc_user_info.specs.RoundTrip.{IsInRange, GivesClaims}
 use Rattle.oidc_user_info.proofs.OwnBack.{is_own_field, is_field, issuer_same, audiences_same, rule_outside, rule_narrowed, issuer_back, audiences_back, own_clean, fields_named, own_stand}

@@ -20,9 +20,9 @@ use Rattle.oidc_readers.specs.Records.{optional}
 use Rattle.oidc_readers.specs.WrittenBack.{MayStand, as_read}
 use Rattle.oidc_readers.specs.Writing.{one_member, text_member}
 use Rattle.oidc_claims.specs.Home.{user_info_fields}
-use Rattle.oidc_tokens.specs.OwnClaims.{texts_data, texts_member}
+use Rattle.oidc_id_token_claims.specs.OwnClaims.{texts_data, texts_member}
 use Rattle.oidc_claims.proofs.Theorems.{narrowed}
-use Rattle.oidc_tokens.proofs.Theorems.{texts_back, texts_stand, text_stands}
+use Rattle.oidc_id_token_claims.proofs.Theorems.{texts_back, texts_stand, text_stands}
 use Rattle.oidc_user_info.specs.UserInfoClaims.{iss, aud, own_rule, own_members}
 
 abbrev pub is_own_field : List ℕ → Bool

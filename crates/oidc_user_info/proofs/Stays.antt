@@ -5,7 +5,7 @@ use Rattle.std.proofs.lemmas.Bool.{and_from}
 use Rattle.oidc_members.specs.Seen.{SeenMember}
 use Rattle.oidc_claims.specs.Home.{is_additional, user_info_fields}
 use Rattle.oidc_claims.specs.Additional.{are_additional}
-use Rattle.oidc_tokens.specs.IdTokenClaims.{additional_among}
+use Rattle.oidc_id_token_claims.specs.IdTokenClaims.{additional_among}
 
 passing : (test : SeenMember → Bool) (m : SeenMember) (rest : List SeenMember) (b : Bool) → test m ≡ b → list_all test rest ≡ true → list_all test (cond b (m ∷ rest) rest) ≡ true
 passing test m rest true is h = and_from (test m) (list_all test rest) is h

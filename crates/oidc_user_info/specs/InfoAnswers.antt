@@ -8,7 +8,7 @@ use Rattle.oidc_keys.specs.declared.refusals.SignatureVerificationError.TheVaria
 use Rattle.oidc_oauth2.specs.Messages.{SeenResponse}
 use Rattle.oidc_oauth2.specs.HttpUtils.{may_be}
 use Rattle.oidc_oauth2.specs.TokenAnswers.{◌>>=◌, ◌>>◌, ◌when◌, ◌or_as◌, is_over_long, record_in}
-use Rattle.oidc_tokens.specs.Tokens.{SeenToken, token_of}
+use Rattle.oidc_jwt.specs.Tokens.{SeenToken, token_of}
 use Rattle.oidc_tokens.specs.Signatures.{KeyMeanings}
 use Rattle.oidc_tokens.specs.UserInfoVerification.{SeenUserInfoVerifier, is_expected_subject, first_info_failure}
 use Rattle.oidc_tokens.specs.declared.verification.refusals.ClaimsVerificationError.{ClaimsVerificationError}

@@ -13,8 +13,8 @@ use Rattle.oidc_claims.specs.Claims.{fault_at}
 use Rattle.oidc_claims.specs.Standard.{faultless_claims}
 use Rattle.oidc_claims.specs.Home.{user_info_fields}
 use Rattle.oidc_claims.specs.Write.{written}
-use Rattle.oidc_tokens.specs.OwnClaims.{texts_member}
-use Rattle.oidc_tokens.specs.IdTokenClaims.{additional_among}
+use Rattle.oidc_id_token_claims.specs.OwnClaims.{texts_member}
+use Rattle.oidc_id_token_claims.specs.IdTokenClaims.{additional_among}
 use Rattle.oidc_tokens.specs.UserInfoVerification.{Parties, parties}
 
 pub record SeenUserInfoClaims (AC GC : Type 0) : Type 0 where

@@ -8,7 +8,7 @@ ghost use Rattle.oidc_members.specs.Write.{any_float};
 ghost use Rattle.oidc_readers.specs.WrittenBack.{IsUtf8Member};
 ghost use Rattle.oidc_claims.specs.Home.{user_info_fields};
 ghost use Rattle.oidc_claims.specs.Reader.{reader_of};
-ghost use Rattle.oidc_tokens.specs.IdTokenClaims.{additional_among};
+ghost use Rattle.oidc_id_token_claims.specs.IdTokenClaims.{additional_among};
 ghost use Rattle.oidc_user_info.specs.UserInfoClaims as spec;
 ghost use Rattle.oidc_user_info.specs.UserInfoFields.{own_fields};
 ghost use Rattle.oidc_user_info.specs.RoundTrip.{IsInRange, GivesClaims};

@@ -3,10 +3,10 @@
 ghost use Rattle.std.specs.Prelude.{◌≡◌, Ok, IfOk, IfErr, false};
 ghost use Rattle.oidc_members.specs.Answers.{Answers};
 ghost use Rattle.oidc_members.specs.Write.{any_float};
-ghost use Rattle.oidc_tokens.specs.Header.{written_header};
-ghost use Rattle.oidc_tokens.specs.Tokens.{token_of};
-ghost use Rattle.oidc_tokens.specs.Issuing as issuing;
-ghost use Rattle.oidc_tokens.specs.Issuing.{Issues, IsRefusedBy, IsNamed};
+ghost use Rattle.oidc_jwt.specs.Header.{written_header};
+ghost use Rattle.oidc_jwt.specs.Tokens.{token_of};
+ghost use Rattle.oidc_jwt.specs.Issuing as issuing;
+ghost use Rattle.oidc_jwt.specs.Issuing.{Issues, IsRefusedBy, IsNamed};
 ghost use Rattle.oidc_tokens.specs.Signatures.{meanings};
 ghost use Rattle.oidc_tokens.specs.Verification.{Judges};
 ghost use Rattle.oidc_tokens.specs.UserInfoVerification.{AcceptsInfo, first_info_failure};
@@ -44,7 +44,7 @@ impl<
 > Model for UserInfoJsonWebToken<AC, GC, JE, JS> {
     ghost use Rattle.std.specs.Coded.{codes};
     ghost use Rattle.oidc_user_info.specs.Codes.{user_info_claims_code};
-    ghost use Rattle.oidc_tokens.specs.Tokens.{SeenToken};
+    ghost use Rattle.oidc_jwt.specs.Tokens.{SeenToken};
     ghost use Rattle.oidc_user_info.specs.UserInfoClaims.{SeenUserInfoClaims};
 
     ghost Value = { SeenToken JE JS (SeenUserInfoClaims AC GC) };

@@ -5,8 +5,8 @@ ghost use Rattle.std.specs.Option.{option_copied};
 ghost use Rattle.oidc_members.specs.Answers.{Answers};
 ghost use Rattle.oidc_readers.specs.Fields.{judged};
 ghost use Rattle.oidc_readers.specs.Slots.{slot};
-ghost use Rattle.oidc_tokens.specs.Tokens.{token_of};
-ghost use Rattle.oidc_tokens.specs.IdTokenClaims.{id_token_claims_of};
+ghost use Rattle.oidc_jwt.specs.Tokens.{token_of};
+ghost use Rattle.oidc_id_token_claims.specs.IdTokenClaims.{id_token_claims_of};
 ghost use Rattle.oidc_tokens.specs.IdTokenFields as spec;
 
 use crate::id_token::IdToken;
@@ -58,9 +58,9 @@ impl<
     JS: JwsSigningAlgorithm,
 > Model for IdTokenFields<AC, EF, GC, JE, JS> {
     ghost use Rattle.std.specs.Coded.{codes};
-    ghost use Rattle.oidc_tokens.specs.Codes.{id_token_claims_code};
-    ghost use Rattle.oidc_tokens.specs.Tokens.{SeenToken};
-    ghost use Rattle.oidc_tokens.specs.IdTokenClaims.{SeenIdTokenClaims};
+    ghost use Rattle.oidc_id_token_claims.specs.Codes.{id_token_claims_code};
+    ghost use Rattle.oidc_jwt.specs.Tokens.{SeenToken};
+    ghost use Rattle.oidc_id_token_claims.specs.IdTokenClaims.{SeenIdTokenClaims};
     ghost use Rattle.oidc_tokens.specs.IdTokenFields.{SeenIdTokenFields};
 
     ghost Value = { SeenIdTokenFields (SeenToken JE JS (SeenIdTokenClaims AC GC)) EF };

@@ -3,22 +3,23 @@
 ghost use Rattle.std.specs.Prelude.{◌≡◌, ℕ, ℤ, List, Bool, Option, Ok, IfOk, IfErr, false};
 ghost use Rattle.std.specs.Option.{option_copied};
 ghost use Rattle.oidc_members.specs.Write.{any_float};
-ghost use Rattle.oidc_tokens.specs.Tokens.{token_of};
+ghost use Rattle.oidc_jwt.specs.Tokens.{token_of};
 ghost use Rattle.oidc_tokens.specs.Steps.{and_then};
-ghost use Rattle.oidc_tokens.specs.Header.{written_header};
-ghost use Rattle.oidc_tokens.specs.Issuing.{Issues, IsUnissued, IsNamed, IsHeadedBy};
-ghost use Rattle.oidc_tokens.specs.Issuing.{issued, signed_with, compact};
-ghost use Rattle.oidc_tokens.specs.IdTokenClaims.{id_token_claims_of, id_token_members};
+ghost use Rattle.oidc_jwt.specs.Header.{written_header};
+ghost use Rattle.oidc_jwt.specs.Issuing.{Issues, IsNamed, IsHeadedBy};
+ghost use Rattle.oidc_jwt.specs.Issuing.{issued, signed_with, compact};
+ghost use Rattle.oidc_id_token_claims.specs.IdTokenClaims.{id_token_claims_of, id_token_members};
 ghost use Rattle.oidc_tokens.specs.Hashes as spec;
 ghost use Rattle.oidc_tokens.specs.Hashes.{GivesHash, hashing};
 ghost use Rattle.oidc_tokens.specs.Verification.{Accepts};
 ghost use Rattle.oidc_tokens.specs.Signatures.{SeenVerifier, meanings};
-ghost use Rattle.oidc_tokens.specs.RoundTrip.{IsInRange, Expects};
+ghost use Rattle.oidc_id_token_claims.specs.RoundTrip.{IsInRange};
+ghost use Rattle.oidc_tokens.specs.Issuing.{IsUnissued, Expects};
 
 use crate::hashes::{from_code, from_token};
 use crate::id_token::{IdToken, IdTokenClaims};
-use crate::jwt::{JsonWebToken, JsonWebTokenError};
 use oidc_claims::{AdditionalClaims, GenderClaim};
+use oidc_jwt::{JsonWebToken, JsonWebTokenError};
 use oidc_keys::{JsonWebKey, PrivateSigningKey};
 use oidc_types::{
     AccessToken, AuthorizationCode, JweContentEncryptionAlgorithm, JwsSigningAlgorithm,

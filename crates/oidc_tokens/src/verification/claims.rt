@@ -3,8 +3,8 @@
 ghost use Rattle.std.specs.Prelude.{◌≡◌, List, ℕ, Bool, Option};
 ghost use Rattle.std.specs.Option.{option_copied};
 
-use crate::id_token::IdTokenClaims;
 use oidc_claims::{AdditionalClaims, GenderClaim};
+use oidc_id_token_claims::IdTokenClaims;
 use oidc_types::{Audience, IssuerUrl, Nonce};
 
 /// Claims that may say whom they are for (`aud`, RFC 7519 section 4.1.3).

@@ -7,9 +7,8 @@ ghost use Rattle.oidc_keys.specs.Jwk.{GivesVerdict};
 ghost use Rattle.oidc_tokens.specs.Signatures as spec;
 ghost use Rattle.oidc_tokens.specs.Signatures.{behind, IsTheOneOf, meanings, signing_alg as signing_alg_of, key_for as key_that_is_for, verdict_on};
 
-use crate::header::JsonWebTokenAlgorithm;
-use crate::jwt::JsonWebToken;
 use crate::verification::IdTokenVerifier;
+use oidc_jwt::{JsonWebToken, JsonWebTokenAlgorithm};
 use oidc_keys::{JsonWebKey, JsonWebKeyUse, SignatureVerificationError};
 use oidc_types::{ClosedVocabulary, JsonWebKeyId, JwsSigningAlgorithm};
 

@@ -8,10 +8,10 @@ ghost use Rattle.oidc_tokens.specs.Verification.{Judges};
 ghost use Rattle.oidc_tokens.specs.UserInfoVerification as spec;
 ghost use Rattle.oidc_tokens.specs.UserInfoVerification.{first_info_failure, parties};
 
-use crate::jwt::JsonWebToken;
 use crate::verification::claims::{AudiencesClaim, IssuerClaim};
 use crate::verification::refusals::ClaimsVerificationError;
 use crate::verification::{IdTokenVerifier, is_alone_in, is_supported};
+use oidc_jwt::JsonWebToken;
 use oidc_keys::{JsonWebKey, JsonWebKeySet};
 use oidc_types::{Audience, ClientId, IssuerUrl, SubjectIdentifier};
 use std::marker::{Model, PhantomData};

@@ -1,14 +1,13 @@
 use Rattle.std.proofs.Common.{◌≡◌, ◌∙◌, Ok, Err, sym, ap, subst}
 use Rattle.std.specs.Option.{option_copied}
 use Rattle.oidc_members.specs.Write.{any_float}
-use Rattle.oidc_tokens.specs.Issuing.{issued}
+use Rattle.oidc_jwt.specs.Issuing.{issued}
 use Rattle.oidc_tokens.specs.Hashes.{hashing, with_hashes}
-use Rattle.oidc_tokens.specs.IdTokenClaims.{id_token_members}
+use Rattle.oidc_id_token_claims.specs.IdTokenClaims.{id_token_members}
 use Rattle.oidc_tokens.specs.Signatures.{meanings}
 use Rattle.oidc_tokens.proofs.IssuedClaims.{issues_after}
 use Rattle.oidc_tokens.proofs.IssuedAccepted.{DifferInHashes, hashes_differ, range_kept, accepts_issued}
-use Rattle.oidc_tokens.proofs.ClaimsBack.{comes_back}
-use Rattle.oidc_tokens.proofs.FloatFree.{members_free}
+use Rattle.oidc_id_token_claims.proofs.Theorems.{comes_back, members_free}
 use Rattle.oidc_tokens.proofs.id_token.IdToken.new.Goals as goal
 
 pub returns-in-Ok-new : goal.returns-in-Ok-new

@@ -1,10 +1,10 @@
 use Rattle.std.proofs.Common.{Ok, Err}
 use Rattle.oidc_readers.specs.Fields.{judged}
 use Rattle.oidc_readers.specs.Records.{◌>>=◌, faultless, optional}
-use Rattle.oidc_tokens.specs.Tokens.{token_of}
-use Rattle.oidc_tokens.specs.IdTokenClaims.{id_token_claims_of}
+use Rattle.oidc_jwt.specs.Tokens.{token_of}
+use Rattle.oidc_id_token_claims.specs.IdTokenClaims.{id_token_claims_of}
 use Rattle.oidc_tokens.specs.IdTokenFields.{id_token, response_fields_of}
-use Rattle.oidc_tokens.proofs.ReadSteps.{stops, gives}
+use Rattle.oidc_id_token_claims.proofs.Theorems.{stops, gives}
 use Rattle.oidc_tokens.proofs.id_token.fields.IdTokenFieldsExtraTokenFields.read.Goals as goal
 
 pub returns-in-Err : goal.returns-in-Err

@@ -1,0 +1,339 @@
+-- Claims of an ID token that were written are read back.
+use Rattle.std.proofs.Common.{◌≡◌, ℕ, ◌≤◌, List, [], ◌∷◌, ◌++◌, map, Bool, true, false, ◌&&◌, not, cond, Option, None, Some, option_map, Result, Ok, refl, sym, ap, subst, append_assoc, ◌∙◌, filter, All, is_some, arith, append-nil, suc, ℤ}
+use Rattle.std.specs.Prelude.{IsFalse}
+use Rattle.std.specs.List.{list_any, list_all}
+use Rattle.std.specs.Str.{bytes_eq}
+use Rattle.std.proofs.lemmas.Bool.{and_parts, and_from, false≢true, true≢false}
+use Rattle.std.proofs.lemmas.List.{map-append}
+use Rattle.std.proofs.lemmas.List.Elements.{All-nil, All-cons, All-append, All-weaker, filter-append}
+use Rattle.std.proofs.lemmas.List.Folds.{list_all-append}
+use Rattle.std.proofs.lemmas.List.Sums.{list_all-from_AllPass}
+use Rattle.serde_json.specs.Data.{Data, string, items_depth}
+use Rattle.serde_json.specs.View.{items_of}
+use Rattle.oidc_members.specs.Seen.{SeenMember, OutSeen}
+use Rattle.oidc_members.specs.Objects.{members_of}
+use Rattle.oidc_members.specs.Write.{object_text}
+use Rattle.oidc_members.specs.declared.refusal.Refusal.{Refusal}
+use Rattle.oidc_readers.specs.Moments.{seconds_data}
+use Rattle.oidc_readers.specs.Passes.{first_by}
+use Rattle.oidc_readers.specs.WrittenBack.{ItemsAreWhole, MayStand, IsUtf8Member, as_read}
+use Rattle.oidc_readers.proofs.Theorems.{written_split_back}
+use Rattle.oidc_claims.specs.Table.{base_of, claim_of}
+use Rattle.oidc_claims.specs.Additional.{ReadsBack, StaysAdditional, are_written_additional, out_of}
+use Rattle.oidc_claims.specs.Claims.{fault_at, first_fault}
+use Rattle.oidc_claims.specs.Gender.{GenderReadsBack, GenderIsValue}
+use Rattle.oidc_claims.specs.Home.{home_by, is_additional_home, id_token_fields, user_info_fields}
+use Rattle.oidc_claims.specs.Standard.{claims_of, faultless_claims}
+use Rattle.oidc_claims.specs.Write.{written, IsWholeSecond}
+use Rattle.oidc_claims.proofs.Theorems.{EachStands, written_stands, split_reads_back, moment_stands, standard_name, is_claim, standard_same, fault_outside, fault_narrowed, claims_by, standard_named}
+use Rattle.oidc_id_token_claims.specs.OwnClaims.{SeenOwnClaims, texts_data, own_rule, own_of, own_members}
+use Rattle.oidc_id_token_claims.specs.IdTokenClaims.{SeenIdTokenClaims, is_own_field, is_additional_claim, additional_members, id_token_rule, parts_in, id_token_claims_of, id_token_members}
+use Rattle.oidc_id_token_claims.specs.Homes.{is_field, is_standard}
+use Rattle.oidc_jwt.specs.Issuing.{ComesBack}
+use Rattle.oidc_id_token_claims.specs.RoundTrip.{IsInRange, GivesClaims}
+use Rattle.oidc_id_token_claims.proofs.Entries.{Entry, out_at, outs, Holds, EachHolds}
+use Rattle.oidc_id_token_claims.proofs.OneHome.{no_claim, own_same}
+use Rattle.oidc_id_token_claims.proofs.OwnBack.{entries, written_as, own_back, own_clean}
+use Rattle.oidc_id_token_claims.proofs.OwnRule.{rule_outside, rule_narrowed}
+use Rattle.oidc_jwt.proofs.Theorems.{may_be_written}
+use Rattle.oidc_id_token_claims.proofs.Passing.{passes_apart, passes_both, no_fault}
+
+not_true : (b : Bool) → not b ≡ true → b ≡ false
+not_true true h = absurd (false≢true h)
+not_true false h = refl
+
+true_not : (b : Bool) → b ≡ false → not b ≡ true
+true_not b h = ap not h
+
+last_false : (a b : Bool) → b ≡ false → (a && b) ≡ false
+last_false true b h = h
+last_false false b h = refl
+
+-- ---- members of one home
+
+abbrev are_fields : List OutSeen → Bool
+are_fields ms = list_all (λ m. is_own_field m.name) ms
+
+abbrev are_neither : List OutSeen → Bool
+are_neither ms = list_all (λ m. not (is_own_field m.name) && not (standard_name m.name)) ms
+
+-- the test of a name is passed by the member that is read
+pub all_kept : (test : List ℕ → Bool) (ms : List OutSeen) → list_all (λ m. test m.name) ms ≡ true → filter (λ m. test m.name) (map as_read ms) ≡ map as_read ms
+all_kept test [] h = refl
+all_kept test (m ∷ ms) h =
+    let parts = and_parts (test m.name) (list_all (λ m. test m.name) ms) h in
+    λ i. cond (parts.0 i) (as_read m ∷ all_kept test ms parts.1 i) (filter (λ m. test m.name) (map as_read ms))
+
+pub none_kept : (test : List ℕ → Bool) (ms : List OutSeen) → list_all (λ m. not (test m.name)) ms ≡ true → filter (λ m. test m.name) (map as_read ms) ≡ []
+none_kept test [] h = refl
+none_kept test (m ∷ ms) h =
+    let parts = and_parts (not (test m.name)) (list_all (λ m. not (test m.name)) ms) h in
+    (λ i. cond (not_true (test m.name) parts.0 i) (as_read m ∷ filter (λ m. test m.name) (map as_read ms)) (filter (λ m. test m.name) (map as_read ms)))
+    ∙ none_kept test ms parts.1
+
+pub weaker : (p q : OutSeen → Bool) → ((m : OutSeen) → p m ≡ true → q m ≡ true) → (ms : List OutSeen) → list_all p ms ≡ true → list_all q ms ≡ true
+weaker p q all [] h = refl
+weaker p q all (m ∷ ms) h =
+    let parts = and_parts (p m) (list_all p ms) h in and_from (q m) (list_all q ms) (all m parts.0) (weaker p q all ms parts.1)
+
+-- a name of one home is of no other
+field_not_standard : (name : List ℕ) → is_own_field name ≡ true → not (standard_name name) ≡ true
+field_not_standard name h = ap not (no_claim id_token_fields name refl h)
+
+standard_not_field : (name : List ℕ) (b : Bool) → is_own_field name ≡ b → standard_name name ≡ true → not b ≡ true
+standard_not_field name true is h = absurd (false≢true (sym (no_claim id_token_fields name refl is) ∙ h))
+standard_not_field name false is h = refl
+
+additional_of : (field standard : Bool) → is_additional_home (home_by field standard) ≡ (not field && not standard)
+additional_of true true = refl
+additional_of true false = refl
+additional_of false true = refl
+additional_of false false = refl
+
+-- whether a name is additional, by the other two tests
+additional_by : (name : List ℕ) → is_additional_claim name ≡ (not (is_own_field name) && not (standard_name name))
+additional_by name =
+    ap (λ standard. is_additional_home (home_by (is_own_field name) standard)) (is_claim (record { name = name; value = string []; text = [] }))
+    ∙ additional_of (is_own_field name) (standard_name name)
+
+field_not_additional : (name : List ℕ) → is_own_field name ≡ true → not (is_additional_claim name) ≡ true
+field_not_additional name h = ap not (additional_by name ∙ ap (λ b. not b && not (standard_name name)) h)
+
+standard_not_additional : (name : List ℕ) → standard_name name ≡ true → not (is_additional_claim name) ≡ true
+standard_not_additional name h = ap not (additional_by name ∙ last_false (not (is_own_field name)) (not (standard_name name)) (ap not h))
+
+-- ---- the names of what is written
+
+entry_named : (name : List ℕ) (o : Option Data) → is_own_field name ≡ true → are_fields (out_at name o) ≡ true
+entry_named name None h = refl
+entry_named name (Some value) h = and_from (is_own_field name) true h refl
+
+entries_named : (es : List Entry) → list_all (λ e. is_own_field e.0) es ≡ true → are_fields (outs es) ≡ true
+entries_named [] h = refl
+entries_named (e ∷ es) h =
+    let parts = and_parts (is_own_field e.0) (list_all (λ e. is_own_field e.0) es) h in
+    list_all-append (λ m. is_own_field m.name) (out_at e.0 e.1) (outs es) ∙ (λ i. entry_named e.0 e.1 parts.0 i && entries_named es parts.1 i)
+
+fields_named : (c : SeenOwnClaims) → are_fields (own_members c) ≡ true
+fields_named c = ap are_fields (written_as c) ∙ entries_named (entries c) refl
+
+-- what additional claims are written as is neither
+neither_by : (field standard of_user : Bool) → field ≡ false → is_additional_home (home_by of_user standard) ≡ true → (not field && not standard) ≡ true
+neither_by false false of_user is h = refl
+neither_by false true true is h = absurd (false≢true h)
+neither_by false true false is h = absurd (false≢true h)
+neither_by true standard of_user is h = absurd (true≢false is)
+
+neither_named : (ms : List OutSeen) → list_all (λ m. not (is_own_field m.name)) ms ≡ true → are_written_additional ms ≡ true → are_neither ms ≡ true
+neither_named [] h k = refl
+neither_named (m ∷ ms) h k =
+    let a = and_parts (not (is_own_field m.name)) (list_all (λ m. not (is_own_field m.name)) ms) h in
+    let b = and_parts (is_additional_home (home_by (list_any (λ field. bytes_eq field m.name) user_info_fields) (is_some (claim_of (base_of m.name))))) (are_written_additional ms) k in
+    and_from (not (is_own_field m.name) && not (standard_name m.name)) (are_neither ms)
+    (neither_by (is_own_field m.name) (standard_name m.name) (list_any (λ field. bytes_eq field m.name) user_info_fields) (not_true (is_own_field m.name) a.0)
+    (ap (λ standard. is_additional_home (home_by (list_any (λ field. bytes_eq field m.name) user_info_fields) standard)) (sym (is_claim (as_read m))) ∙ b.0))
+    (neither_named ms a.1 b.1)
+
+pub same_some : {A : Type 0} (x y : A) → Some x ≡ Some y → x ≡ y
+same_some x y h = cc
+
+module _ (P : OutSeen → Type 0) where
+  pub behind : (xs ys : List OutSeen) → All P (xs ++ ys) → All P ys
+  behind [] ys h = h
+  behind (x ∷ xs) ys h = behind xs ys (λ k d within. h (suc k) d (omega arith))
+
+  pub before : (xs ys : List OutSeen) → All P (xs ++ ys) → All P xs
+  before [] ys h = All-nil P
+  before (x ∷ xs) ys h = All-cons P x xs (h 0 x (omega arith)) (before xs ys (λ k d within. h (suc k) d (omega arith)))
+
+pub each_stands : (ms : List OutSeen) → EachStands ms → All (λ (m : OutSeen). MayStand m.value) ms
+each_stands [] h = All-nil (λ (m : OutSeen). MayStand m.value)
+each_stands (m ∷ ms) h = All-cons (λ (m : OutSeen). MayStand m.value) m ms h.0 (each_stands ms h.1)
+
+pub outs_back : (ms : List OutSeen) → map out_of (map as_read ms) ≡ ms
+outs_back [] = refl
+outs_back (m ∷ ms) = λ i. m ∷ outs_back ms i
+
+-- ---- values of the own fields
+
+texts_whole : (texts : List (List ℕ)) → ItemsAreWhole (items_of (map string texts))
+texts_whole [] = tt
+texts_whole (text ∷ texts) = (tt, texts_whole texts)
+
+texts_shallow : (texts : List (List ℕ)) → items_depth (items_of (map string texts)) ≤ 0
+texts_shallow [] = omega arith
+texts_shallow (text ∷ texts) = let rest = texts_shallow texts in omega arith
+
+pub texts_stand : (texts : List (List ℕ)) → MayStand (texts_data texts)
+texts_stand texts = (texts_whole texts, let shallow = texts_shallow texts in omega arith)
+
+pub text_stands : (text : List ℕ) → MayStand (string text)
+text_stands text = (tt, omega arith)
+
+stand_out : (name : List ℕ) (o : Option Data) → Holds MayStand o → All (λ (m : OutSeen). MayStand m.value) (out_at name o)
+stand_out name None h = All-nil (λ (m : OutSeen). MayStand m.value)
+stand_out name (Some value) h = All-cons (λ (m : OutSeen). MayStand m.value) (record { name = name; value = value }) [] h (All-nil (λ (m : OutSeen). MayStand m.value))
+
+stand_outs : (es : List Entry) → EachHolds MayStand es → All (λ (m : OutSeen). MayStand m.value) (outs es)
+stand_outs [] h = All-nil (λ (m : OutSeen). MayStand m.value)
+stand_outs (e ∷ es) h = All-append (λ (m : OutSeen). MayStand m.value) (out_at e.0 e.1) (outs es) (stand_out e.0 e.1 h.0) (stand_outs es h.1)
+
+stand_text : (o : Option (List ℕ)) → Holds MayStand (option_map string o)
+stand_text None = tt
+stand_text (Some text) = text_stands text
+
+stand_texts : (o : Option (List (List ℕ))) → Holds MayStand (option_map texts_data o)
+stand_texts None = tt
+stand_texts (Some texts) = texts_stand texts
+
+stand_moment : (o : Option ℤ) → IsWholeSecond o → Holds MayStand (option_map seconds_data o)
+stand_moment None h = tt
+stand_moment (Some moment) h = moment_stands moment h
+
+module _ (c : SeenOwnClaims) (expiration : IsWholeSecond (Some c.expiration)) (issue_time : IsWholeSecond (Some c.issue_time)) (authenticated : IsWholeSecond c.auth_time) where
+  each_own_stands : EachHolds MayStand (entries c)
+  each_own_stands = (
+    text_stands c.issuer.text,
+    (
+      texts_stand c.audiences,
+      (
+        moment_stands c.expiration expiration,
+        (
+          moment_stands c.issue_time issue_time,
+          (
+            stand_moment c.auth_time authenticated,
+            (stand_text c.nonce, (stand_text c.auth_context_ref, (stand_texts c.auth_method_refs, (stand_text c.authorized_party, (stand_text c.access_token_hash, (stand_text c.code_hash, tt)))))),
+          ),
+        ),
+      ),
+    ),
+  )
+
+  own_stand : All (λ (m : OutSeen). MayStand m.value) (own_members c)
+  own_stand = subst (All (λ (m : OutSeen). MayStand m.value)) (sym (written_as c)) (stand_outs (entries c) each_own_stands)
+
+-- ---- all claims
+
+module _
+    {AC GC : Type 0}
+    (additional_read : List SeenMember → Result AC Refusal)
+    (additional_out : AC → List OutSeen)
+    (gender_read : SeenMember → Result GC Refusal)
+    (gender_data : GC → Data)
+    (additional_back : ReadsBack additional_read additional_out)
+    (additional_stay : StaysAdditional additional_out)
+    (gender_back : GenderReadsBack gender_read gender_data)
+    (gender_there : GenderIsValue gender_data)
+    (c : SeenIdTokenClaims AC GC)
+    (range : IsInRange additional_out c) where
+  abbrev first_part : List OutSeen
+  first_part = own_members c.own
+
+  abbrev second_part : List OutSeen
+  second_part = written gender_data c.standard_claims
+
+  abbrev third_part : List OutSeen
+  third_part = additional_out c.additional_claims
+
+  abbrev all : List SeenMember
+  all = map as_read (id_token_members additional_out gender_data c)
+
+  cut : all ≡ map as_read first_part ++ (map as_read second_part ++ map as_read third_part)
+  cut =
+      map-append as_read (first_part ++ second_part) third_part ∙ ap (λ l. l ++ map as_read third_part) (map-append as_read first_part second_part)
+      ∙ append_assoc (map as_read first_part) (map as_read second_part) (map as_read third_part)
+
+  kept_in : (test : List ℕ → Bool) → filter (λ m. test m.name) all
+      ≡ filter (λ m. test m.name) (map as_read first_part) ++ (filter (λ m. test m.name) (map as_read second_part) ++ filter (λ m. test m.name) (map as_read third_part))
+  kept_in test =
+      ap (filter (λ m. test m.name)) cut
+      ∙ filter-append (λ m. test m.name) (map as_read first_part) (map as_read second_part ++ map as_read third_part)
+      ∙ ap (λ l. filter (λ m. test m.name) (map as_read first_part) ++ l) (filter-append (λ m. test m.name) (map as_read second_part) (map as_read third_part))
+
+  thirds : are_neither third_part ≡ true
+  thirds =
+      neither_named third_part
+      (list_all-from_AllPass (λ m. not (is_own_field m.name)) third_part
+      (All-weaker (λ m. IsFalse (is_own_field m.name)) (λ m. not (is_own_field m.name) ≡ true) (λ m h. true_not (is_own_field m.name) h) third_part range.names))
+      (additional_stay c.additional_claims)
+
+  fields_kept : filter is_field all ≡ map as_read first_part
+  fields_kept =
+      kept_in is_own_field
+      ∙ (λ i. all_kept is_own_field first_part (fields_named c.own) i ++ (
+      none_kept is_own_field second_part (weaker (λ (m : OutSeen). standard_name m.name) (λ (m : OutSeen). not (is_own_field m.name)) (λ m h. standard_not_field m.name (is_own_field m.name) refl h) second_part (standard_named gender_data c.standard_claims)) i
+      ++ none_kept is_own_field third_part (weaker (λ (m : OutSeen). not (is_own_field m.name) && not (standard_name m.name)) (λ (m : OutSeen). not (is_own_field m.name)) (λ m h. (and_parts (not (is_own_field m.name)) (not (standard_name m.name)) h).0) third_part thirds) i
+      ))
+      ∙ append-nil (map as_read first_part)
+
+  standard_kept : filter is_standard all ≡ map as_read second_part
+  standard_kept =
+      kept_in standard_name
+      ∙ (λ i. none_kept standard_name first_part (weaker (λ (m : OutSeen). is_own_field m.name) (λ (m : OutSeen). not (standard_name m.name)) (λ m h. field_not_standard m.name h) first_part (fields_named c.own)) i ++ (
+      all_kept standard_name second_part (standard_named gender_data c.standard_claims) i
+      ++ none_kept standard_name third_part (weaker (λ (m : OutSeen). not (is_own_field m.name) && not (standard_name m.name)) (λ (m : OutSeen). not (standard_name m.name)) (λ m h. (and_parts (not (is_own_field m.name)) (not (standard_name m.name)) h).1) third_part thirds) i
+      ))
+      ∙ append-nil (map as_read second_part)
+
+  additional_kept : additional_members all ≡ map as_read third_part
+  additional_kept =
+      kept_in is_additional_claim
+      ∙ (λ i. none_kept is_additional_claim first_part (weaker (λ (m : OutSeen). is_own_field m.name) (λ (m : OutSeen). not (is_additional_claim m.name)) (λ m h. field_not_additional m.name h) first_part (fields_named c.own)) i ++ (
+      none_kept is_additional_claim second_part (weaker (λ (m : OutSeen). standard_name m.name) (λ (m : OutSeen). not (is_additional_claim m.name)) (λ m h. standard_not_additional m.name h) second_part (standard_named gender_data c.standard_claims)) i
+      ++ all_kept is_additional_claim third_part (weaker (λ (m : OutSeen). not (is_own_field m.name) && not (standard_name m.name)) (λ (m : OutSeen). is_additional_claim m.name) (λ m h. additional_by m.name ∙ h) third_part thirds) i
+      ))
+
+  pub values_stand : All (λ (m : OutSeen). MayStand m.value) (id_token_members additional_out gender_data c)
+  values_stand =
+      All-append (λ (m : OutSeen). MayStand m.value) (first_part ++ second_part) third_part
+      (All-append (λ (m : OutSeen). MayStand m.value) first_part second_part (own_stand c.own range.expiration range.issue_time range.auth_time)
+      (each_stands second_part (written_stands gender_data gender_there c.standard_claims range.standard_claims))) range.values
+
+  own_there : own_of all ≡ Ok c.own
+  own_there =
+      sym (own_same all) ∙ ap own_of (fields_kept ∙ ap (map as_read) (written_as c.own))
+      ∙ own_back c.own range.issuer range.expiration range.issue_time range.auth_time
+
+  clean_own : first_by own_rule [] all ≡ None
+  clean_own =
+      passes_apart own_rule is_field rule_outside rule_narrowed all []
+      (ap (first_by own_rule []) (fields_kept ∙ ap (map as_read) (written_as c.own)) ∙ own_clean c.own range.issuer range.expiration range.issue_time range.auth_time)
+
+  additional_there : additional_read (additional_members all) ≡ Ok c.additional_claims
+  additional_there = ap additional_read additional_kept ∙ additional_back c.additional_claims (map as_read third_part) (outs_back third_part)
+
+  module _ (texts : All IsUtf8Member (id_token_members additional_out gender_data c)) where
+    standard_texts : All IsUtf8Member second_part
+    standard_texts = behind IsUtf8Member first_part second_part (before IsUtf8Member (first_part ++ second_part) third_part texts)
+
+    standard_split : members_of (object_text second_part) ≡ Some (map as_read second_part)
+    standard_split =
+        written_split_back second_part
+        (may_be_written second_part (each_stands second_part (written_stands gender_data gender_there c.standard_claims range.standard_claims)) standard_texts)
+
+    standard_read : claims_of gender_read (map as_read second_part) ≡ Ok c.standard_claims
+    standard_read =
+        same_some _ _ (sym (ap (option_map (claims_of gender_read)) standard_split) ∙ split_reads_back gender_read gender_data gender_back gender_there c.standard_claims range.standard_claims standard_texts)
+
+    standard_parts : (first_fault gender_read (map as_read second_part) ≡ None) × (faultless_claims gender_read (map as_read second_part) ≡ Ok c.standard_claims)
+    standard_parts = claims_by gender_read (first_fault gender_read (map as_read second_part)) (map as_read second_part) c.standard_claims standard_read
+
+    clean_standard : first_by (fault_at gender_read) [] all ≡ None
+    clean_standard =
+        passes_apart (fault_at gender_read) is_standard (fault_outside gender_read) (fault_narrowed gender_read) all []
+        (ap (first_by (fault_at gender_read) []) standard_kept ∙ standard_parts.0)
+
+    standard_there : faultless_claims gender_read all ≡ Ok c.standard_claims
+    standard_there = sym (standard_same gender_read all) ∙ ap (faultless_claims gender_read) standard_kept ∙ standard_parts.1
+
+    pub read_again : id_token_claims_of additional_read gender_read all ≡ Ok c
+    unfolding id_token_claims_of parts_in
+    read_again = rw (no_fault (id_token_rule gender_read) all (passes_both own_rule (fault_at gender_read) all [] clean_own clean_standard), own_there, standard_there, additional_there) refl
+
+    pub gives_claims : GivesClaims additional_read gender_read (id_token_members additional_out gender_data c) c
+    gives_claims =
+        ap (option_map (id_token_claims_of additional_read gender_read)) (written_split_back (id_token_members additional_out gender_data c) (may_be_written (id_token_members additional_out gender_data c) values_stand texts))
+        ∙ ap Some read_again
+
+  pub comes_back : ComesBack (id_token_claims_of additional_read gender_read) (id_token_members additional_out gender_data) c
+  comes_back = record { values = values_stand; same = read_again }

@@ -1,0 +1,9 @@
+mod PartsOf
+mod Undotted
+mod Encoded
+mod Issued
+mod HeaderBack
+mod TokenBack
+mod FloatFree
+mod IssuedToken
+pub mod Theorems

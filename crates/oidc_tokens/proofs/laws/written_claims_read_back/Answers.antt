@@ -1,7 +1,0 @@
-use Rattle.oidc_tokens.proofs.ClaimsBack.{gives_claims}
-use Rattle.oidc_tokens.proofs.laws.written_claims_read_back.Goals as goal
-
-pub returns : goal.returns
-returns g c = λ claims range texts.
-    gives_claims g.AC.AdditionalClaims.read_of g.AC.AdditionalClaims.write_of g.GC.GenderClaim.read_of g.GC.GenderClaim.write_of g.met.AC.AdditionalClaims.reads_back
-    g.met.AC.AdditionalClaims.stays_additional g.met.GC.GenderClaim.reads_back g.met.GC.GenderClaim.written_is_value claims range texts
