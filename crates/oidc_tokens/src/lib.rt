@@ -1,9 +1,8 @@
-//! JSON Web Tokens and ID tokens: read, issued and verified.
+//! ID tokens: read, issued and verified.
 //!
-//! - [`JsonWebToken`] is a token in the compact serialization (RFC 7515 section 7.1, RFC 7519 section
-//!   3), over any [`Payload`]. [`TokenHeader`] is its header.
-//! - [`IdToken`] is one whose payload is [`IdTokenClaims`] (OpenID Connect Core 1.0 section 2): fields of
-//!   its own, the standard claims, and additional claims of a caller's type.
+//! - [`IdToken`] is a [`JsonWebToken`] whose payload is [`IdTokenClaims`] (OpenID Connect Core 1.0 section 2).
+//!   Tokens over any payload are those of `oidc_jwt`, and the claims those of `oidc_id_token_claims`; both are
+//!   passed on here, in the modules `jwt`, `header`, `payload` and `members`.
 //! - [`IdTokenVerifier`] is what a client expects of an ID token. [`IdToken::claims`] gives the claims
 //!   where the verifier accepts the token (section 3.1.3.7), else the first check that fails.
 //! - [`UserInfoVerifier`] is what it expects of a user info answer that is a token (sections 5.3.2 and 5.3.4).
@@ -13,9 +12,7 @@
 //!   is such a response (section 3.1.3.3).
 //! - [`laws`] says what holds of ID tokens as a whole.
 //!
-//! What it promises. A text is read exactly as `token_of` says, with the refusal that comes first: the
-//! text's, the header's, the payload's. The message that is signed is the first two parts as they stand.
-//! Claims are read as `id_token_claims_of` says: each member is judged against all that stand before it.
+//! What it promises. A text is read exactly as `token_of` says, over claims as `id_token_claims_of` says.
 //! `IdToken::claims` is Ok only for tokens that `Accepts` holds of, and for each
 //! of them, want of memory aside; a refusal is the first check that fails. A token that is issued with
 //! claims in range is read back as it is, and whoever expects its claims accepts it. All of this holds of
