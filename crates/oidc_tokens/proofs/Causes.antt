@@ -49,12 +49,13 @@ module _ {Key Use Algorithm Type' : Type 0} (k : KeyMeanings Key Use Algorithm T
       → (r : SignatureVerificationError) → k.keys.verdict key alg token.message token.signature ≡ Err r → SignatureCause r
   verdict_cause alg signed key chosen r h = inr (alg, key, signed, chosen, h)
 
-  one_cause : (alg : Algorithm) → token.header.alg ≡ algorithm.Signature alg → (keys : List Key) → filter (fits k alg token.header.kid) v.keys ≡ keys → (r : SignatureVerificationError) → the_one keys ≡ Err r → SignatureCause r
-  one_cause alg signed [] are r h =
-      let cause : SignatureCause refusal.NoMatchingKey = inl (alg, signed, are) in subst SignatureCause (same_err (the_one {A = Key} []) refusal.NoMatchingKey r refl h) cause
-  one_cause alg signed (key ∷ []) are r h = absurd cc
-  one_cause alg signed (a ∷ b ∷ more) are r h =
-      let cause : SignatureCause refusal.AmbiguousKeyId = inl (alg, signed, a, b, more, are) in subst SignatureCause (same_err (the_one (a ∷ b ∷ more)) refusal.AmbiguousKeyId r refl h) cause
+  one_cause : (alg : Algorithm) → token.header.alg ≡ algorithm.Signature alg → IsFalse (k.algorithms.uses_shared_secret alg)
+      → (keys : List Key) → filter (fits k alg token.header.kid) v.keys ≡ keys → (r : SignatureVerificationError) → the_one keys ≡ Err r → SignatureCause r
+  one_cause alg signed unshared [] are r h =
+      let cause : SignatureCause refusal.NoMatchingKey = inl (alg, signed, unshared, are) in subst SignatureCause (same_err (the_one {A = Key} []) refusal.NoMatchingKey r refl h) cause
+  one_cause alg signed unshared (key ∷ []) are r h = absurd cc
+  one_cause alg signed unshared (a ∷ b ∷ more) are r h =
+      let cause : SignatureCause refusal.AmbiguousKeyId = inl (alg, signed, unshared, a, b, more, are) in subst SignatureCause (same_err (the_one (a ∷ b ∷ more)) refusal.AmbiguousKeyId r refl h) cause
 
   secret_cause : (alg : Algorithm) → token.header.alg ≡ algorithm.Signature alg → IsTrue (k.algorithms.uses_shared_secret alg) → (secret : Option Key) → v.secret_key ≡ secret
       → (r : SignatureVerificationError) → ok_or secret refusal.DisallowedAlg ≡ Err r → SignatureCause r
@@ -66,7 +67,7 @@ module _ {Key Use Algorithm Type' : Type 0} (k : KeyMeanings Key Use Algorithm T
   key_cause : (alg : Algorithm) → token.header.alg ≡ algorithm.Signature alg → (shared : Bool) → k.algorithms.uses_shared_secret alg ≡ shared → (r : SignatureVerificationError)
       → (if shared then ok_or v.secret_key refusal.DisallowedAlg else the_one (filter (fits k alg token.header.kid) v.keys)) ≡ Err r → SignatureCause r
   key_cause alg signed true is r h = secret_cause alg signed is v.secret_key refl r h
-  key_cause alg signed false is r h = one_cause alg signed (filter (fits k alg token.header.kid) v.keys) refl r h
+  key_cause alg signed false is r h = one_cause alg signed is (filter (fits k alg token.header.kid) v.keys) refl r h
 
   chosen_cause : (alg : Algorithm) → token.header.alg ≡ algorithm.Signature alg → (chosen : Result Key SignatureVerificationError) → key_for k v token.header.kid alg ≡ chosen
       → (r : SignatureVerificationError) → (chosen >>= λ key. k.keys.verdict key alg token.message token.signature) ≡ Err r → SignatureCause r

@@ -23,6 +23,10 @@ module _ {Key Use Algorithm Type' : Type 0} (k : KeyMeanings Key Use Algorithm T
   abbrev pub IsSignedBy : Algorithm → Type 0
   IsSignedBy alg = token.header.alg ≡ algorithm.Signature alg
 
+  -- its key is one of the issuer's set, and no secret of the client
+  abbrev pub IsByKeyOfSet : Algorithm → Type 0
+  IsByKeyOfSet alg = IsFalse (k.algorithms.uses_shared_secret alg)
+
   -- the keys of the issuer that fit
   abbrev pub fitting : Algorithm → List Key
   fitting alg = filter (fits k alg token.header.kid) v.keys
@@ -33,9 +37,10 @@ module _ {Key Use Algorithm Type' : Type 0} (k : KeyMeanings Key Use Algorithm T
   KeyIsAtFault DisallowedAlg =
       (alg : Algorithm) × IsSignedBy alg
       × (IsFalse (is_allowed k v alg) ⊎ (IsTrue (k.algorithms.uses_shared_secret alg) × (v.secret_key ≡ None)))
-  KeyIsAtFault NoMatchingKey = (alg : Algorithm) × IsSignedBy alg × (fitting alg ≡ [])
+  KeyIsAtFault NoMatchingKey = (alg : Algorithm) × IsSignedBy alg × IsByKeyOfSet alg × (fitting alg ≡ [])
   KeyIsAtFault AmbiguousKeyId =
-      (alg : Algorithm) × IsSignedBy alg × (a : Key) × (b : Key) × (more : List Key) × (fitting alg ≡ a ∷ b ∷ more)
+      (alg : Algorithm) × IsSignedBy alg × IsByKeyOfSet alg
+      × (a : Key) × (b : Key) × (more : List Key) × (fitting alg ≡ a ∷ b ∷ more)
   KeyIsAtFault refusal = ⊥
 
   -- what the key itself says of the signature
