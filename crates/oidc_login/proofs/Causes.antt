@@ -131,13 +131,13 @@ module _ (a : Attempt) (answers : List SeenAnswer) where
   refused login.NoIdToken c = behind_tokens c.login c.tokens c.reads ∙ rw c.no_id_token refl
   refused (login.Claims kind) c = behind_id_token c.held (Err (login.Claims kind)) c.holds (checked c.held (Some kind) c.check_failed)
   refused (login.Signing refusal) c =
-      let x = c.claims.accepted in
-      behind_id_token c.held _ x.holds (claimed c.held x (Some c.claim) None c.claims.own_claim c.no_hash)
+      let x = c.names_hash.accepted in
+      behind_id_token c.held _ x.holds (claimed c.held x (Some c.claim) None c.names_hash.own_claim c.no_hash)
       ∙ ap (λ e. Err (login.Signing e)) (sym c.names_algorithm)
   refused login.TokenHash c =
-      let x = c.claims.accepted in
+      let x = c.names_hash.accepted in
       behind_id_token c.held (Err login.TokenHash) x.holds
-      (claimed c.held x (Some c.claim) (Some c.hash) c.claims.own_claim c.has_hash ∙ other_claim c.claim c.hash c.other)
+      (claimed c.held x (Some c.claim) (Some c.hash) c.names_hash.own_claim c.has_hash ∙ other_claim c.claim c.hash c.other)
   refused (login.Memory spent) c = absurd c
 
   -- the hash that is claimed, where one is, is the own one

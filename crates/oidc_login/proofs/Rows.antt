@@ -93,7 +93,7 @@ module _ (a : Attempt) (answers : List SeenAnswer) where
   claim-walk h accepted (Some claim) None is_claim is_own = record {
     held = h;
     claim = claim;
-    claims = record { accepted = accepted; own_claim = is_claim };
+    names_hash = record { accepted = accepted; own_claim = is_claim };
     no_hash = is_own;
     names_algorithm = refl;
   }
@@ -102,7 +102,7 @@ module _ (a : Attempt) (answers : List SeenAnswer) where
       (λ other. record {
         held = h;
         claim = claim;
-        claims = record { accepted = accepted; own_claim = is_claim };
+        names_hash = record { accepted = accepted; own_claim = is_claim };
         hash = hash;
         has_hash = is_own;
         other = differ_back hash claim other;

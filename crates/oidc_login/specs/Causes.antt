@@ -98,7 +98,7 @@ module _ (a : Attempt) (answers : List SeenAnswer) where
     pub accepts : IsAcceptedBy a.client h.login.nonce a.now h.token
 
   -- and has this `at_hash`
-  pub record Claims (h : Held) (claim : List ℕ) : Type 0 where
+  pub record NamesHash (h : Held) (claim : List ℕ) : Type 0 where
     pub accepted : Accepted h
     pub own_claim : claimed_hash h.token ≡ Some claim
 
@@ -165,17 +165,17 @@ module _ (a : Attempt) (answers : List SeenAnswer) where
   pub record LacksHash (refusal : SigningError) : Type 0 where
     pub held : Held
     pub claim : List ℕ
-    pub claims : Claims held claim
-    pub no_hash : own_hash held claims.accepted ≡ None
-    pub names_algorithm : refusal ≡ UnsupportedAlg (signing_text claims.accepted.accepts.alg)
+    pub names_hash : NamesHash held claim
+    pub no_hash : own_hash held names_hash.accepted ≡ None
+    pub names_algorithm : refusal ≡ UnsupportedAlg (signing_text names_hash.accepted.accepts.alg)
 
   -- its `at_hash` isn't the hash of the access token
   pub record HasOtherHash : Type 0 where
     pub held : Held
     pub claim : List ℕ
-    pub claims : Claims held claim
+    pub names_hash : NamesHash held claim
     pub hash : List ℕ
-    pub has_hash : own_hash held claims.accepted ≡ Some hash
+    pub has_hash : own_hash held names_hash.accepted ≡ Some hash
     pub other : hash ≢ claim
 
   -- ---- the cause of each refusal

@@ -1,4 +1,3 @@
-//! What holds of logins as a whole. Each function here says a law in its contract, and does
-//! nothing.
+//! The law on the claims of ID tokens, passed on.
 
 pub use oidc_tokens::laws::claims_one_home;
