@@ -3,6 +3,7 @@
 
 mod claims;
 mod cli;
+mod client;
 mod login;
 mod low;
 mod oauth2;

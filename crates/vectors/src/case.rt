@@ -64,18 +64,18 @@ impl Case {
 
     /// The same, where each of `optional` may stand once too.
     pub(crate) fn check_with(&self, names: &[&str], optional: &[&str]) -> Result<(), CaseError> {
-        self.check_all(names, optional, None)
+        self.check_all(names, optional, &[])
     }
 
-    /// The same, where `repeated` may stand too, as often as it likes.
+    /// The same, where each of `repeated` may stand too, as often as it likes.
     pub(crate) fn check_all(
         &self,
         names: &[&str],
         optional: &[&str],
-        repeated: Option<&str>,
+        repeated: &[&str],
     ) -> Result<(), CaseError> {
         for pair in self.pairs() {
-            if !is_name(pair.name(), repeated) {
+            if !repeated.contains(&pair.name()) {
                 self.check_name(pair.name(), names, optional)?;
             }
         }
@@ -117,14 +117,6 @@ impl Case {
             Some(value) => value,
             None => "",
         }
-    }
-}
-
-// Whether a name is this one, where there is one.
-fn is_name(name: &str, wanted: Option<&str>) -> bool {
-    match wanted {
-        Some(wanted) => name == wanted,
-        None => false,
     }
 }
 

@@ -33,7 +33,7 @@ type Request<'a> = CodeTokenRequest<'a, Refused, Tokens<EmptyExtraTokenFields>>;
 pub(crate) fn code_request(alloc: Global, case: &Case) -> Result<String, CaseError> {
     let required = ["endpoint", "id", "auth", "code"];
     let optional = ["secret", "verifier", "redirect"];
-    case.check_all(&required, &optional, Some("extra"))?;
+    case.check_all(&required, &optional, &["extra"])?;
     let endpoint: TokenUrl = url_of(alloc, case.value("endpoint"))?;
     let id = ClientId::new(String::from_str(alloc, case.value("id"))?);
     let secret = secret_in(alloc, case)?;
@@ -122,8 +122,8 @@ fn with_extra<'a>(
     Ok(request)
 }
 
-// The one pair of a form text.
-fn extra_in(alloc: Global, text: &str) -> Result<(String, String), CaseError> {
+/// The one pair of a form text.
+pub(crate) fn extra_in(alloc: Global, text: &str) -> Result<(String, String), CaseError> {
     let pairs = Pairs::parse(alloc, text.as_bytes())?;
     match pairs.as_slice() {
         [pair] => {

@@ -102,7 +102,7 @@ fn response_type(text: &str) -> Result<UserInfoResponseType, CaseError> {
 pub(crate) fn info_answer(alloc: Global, case: &Case) -> Result<String, CaseError> {
     let required = ["status", "body", "id", "issuer"];
     let optional = ["type", "subject", "signed", "any_issuer", "any_audience"];
-    case.check_all(&required, &optional, Some("key"))?;
+    case.check_all(&required, &optional, &["key"])?;
     let expected = expected_in(alloc, case)?;
     let mut http = transport(alloc, case)?;
     let request = request_in(alloc, case, &expected)?;

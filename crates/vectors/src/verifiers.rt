@@ -17,7 +17,7 @@ use std::alloc::Global;
 /// `verify`: the claims of an ID token that a client accepts, or the first check that fails.
 pub(crate) fn verify(alloc: Global, case: &Case) -> Result<String, CaseError> {
     let required = ["token", "id", "issuer", "nonce", "now"];
-    case.check_all(&required, &["secret", "algs"], Some("key"))?;
+    case.check_all(&required, &["secret", "algs"], &["key"])?;
     let token = token_of(alloc, case.value("token"))?;
     let id = ClientId::new(String::from_str(alloc, case.value("id"))?);
     let issuer: IssuerUrl = url_of(alloc, case.value("issuer"))?;
