@@ -4,7 +4,6 @@ the operations of oidc_oauth2 but `challenge`.
 
     tools/plain_answers.py answers   reads cases from standard input, and answers each: a line each; a line of
                                      an operation that isn't in OPERATIONS comes back as it came
-    tools/plain_answers.py judge     the same, and says on standard error which line each script ends with
 
 It is a second reader of scripts beside oidc_cli, oidc_login and oidc_oauth2, over Python's json, hashlib,
 base64 and urllib.parse: RFC 6749 sections 2.3.1 and 4.1.2 to 5.2, RFC 6750 section 2.1, RFC 7009 section
@@ -16,13 +15,12 @@ nor the algorithms of a script's client line.
 import base64
 import hashlib
 import re
-import sys
 
 import plain_tokens as tokens
 from plain_records import (
-    ERROR, NoCase, answer_by, answer_of, cut_scopes, escaped, flag_fault, form, has_essence, members_of,
-    moment_fault, ok, pairs, read_case, record, text_fault, text_or_texts_fault, there, token_type_of, tokens_in,
-    url_fault, values, whole_fault,
+    ERROR, NoCase, answer_of, cut_scopes, escaped, flag_fault, form, has_essence, members_of, moment_fault, ok,
+    pairs, read_case, record, run_reader, text_fault, text_or_texts_fault, there, token_type_of, tokens_in, url_fault,
+    values, whole_fault,
 )
 
 LONGEST_ADDRESS = 65_534
@@ -248,8 +246,6 @@ def code_request(line):
 
 def run(line):
     status, text = report(read_case(line, {"script"})[0]["script"])
-    if sys.argv[1] == "judge":
-        print(text.split("\n")[-3:-1], file=sys.stderr)
     return ok([("status", str(status)), ("report", text)])
 
 
@@ -261,12 +257,5 @@ OPERATIONS = {"run": run, "token_response": tokens.token_response, "device_respo
               "code_request": code_request, "token_answer": tokens.token_answer}
 
 
-def main():
-    if sys.argv[1:] not in (["answers"], ["judge"]):
-        sys.exit(__doc__)
-    for case in sys.stdin.read().split("\n")[:-1]:
-        print(answer_by(OPERATIONS, case))
-
-
 if __name__ == "__main__":
-    main()
+    run_reader(__doc__, OPERATIONS)

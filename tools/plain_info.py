@@ -11,13 +11,12 @@ looking back at all that stand before it. It takes URLs as they are written, so 
 as the URL Standard writes them.
 """
 import re
-import sys
 
 import plain_claims
 import plain_tokens
 from plain_answers import LONGEST_ADDRESS
 from plain_records import (
-    LONGEST_BODY, NoCase, Refused, answer_by, answer_of, has_essence, is_text, members_of, ok, read_case,
+    LONGEST_BODY, NoCase, Refused, answer_of, has_essence, is_text, members_of, ok, read_case, run_reader,
     text_or_texts_fault, url_fault,
 )
 from plain_tokens import check, check_there, encoded, fault_in, value_of
@@ -184,11 +183,6 @@ OPERATIONS = {"info_claims": info_claims, "info_request": info_request, "info_an
               "info_issue": info_issue}
 
 
-def answer_line(line):
-    """The answer of a case of one of these operations; any other line as it came."""
-    return answer_by(OPERATIONS, line)
-
-
 # ---- generated cases
 
 OBJECTS, ANSWERS = 120, 160
@@ -246,16 +240,5 @@ def cases():
         + made(lambda: plain_tokens.plain_form(choices.answer_case()), ANSWERS)
 
 
-def main(words):
-    if words == ["cases"]:
-        for case in cases():
-            print(case)
-    elif words == ["answers"]:
-        for line in sys.stdin.read().split("\n")[:-1]:
-            print(answer_by(OPERATIONS, line))
-    else:
-        sys.exit(__doc__)
-
-
 if __name__ == "__main__":
-    main(sys.argv[1:])
+    run_reader(__doc__, OPERATIONS, cases)

@@ -5,6 +5,7 @@ It stands on Python's json and urllib.parse, and on the reader of members of pla
 sections 5.1 and 5.2, RFC 6749 sections 5.1 and 5.2, RFC 9110 sections 5.5, 5.6.3 and 8.3.1.
 """
 import re
+import sys
 from urllib.parse import quote_plus, unquote_to_bytes
 
 import plain_claims
@@ -74,6 +75,20 @@ def answer_by(operations, line):
         return "no case"
     except Refused as refused:
         return "refused " + refused.words
+
+
+def run_reader(page, operations, cases=None):
+    """Runs a reader for the program's words: `cases` prints the generated cases, where it has some, and `answers` the
+    answer to each line of standard input. With other words it prints its page."""
+    words = sys.argv[1:]
+    if words == ["answers"]:
+        for line in sys.stdin.read().split("\n")[:-1]:
+            print(answer_by(operations, line))
+    elif words == ["cases"] and cases:
+        for case in cases():
+            print(case)
+    else:
+        sys.exit(page)
 
 
 # ---- members, and what a value is refused for, where it isn't of a kind

@@ -17,12 +17,11 @@ import hashlib
 import hmac
 import json
 import re
-import sys
 from collections import namedtuple
 
 import plain_claims
 from plain_records import (
-    TOKENS, NoCase, Refused, answer_by, answer_of, cut_scopes, is_text, members_of, moment_fault, ok, read_case,
+    TOKENS, NoCase, Refused, answer_of, cut_scopes, is_text, members_of, moment_fault, ok, read_case, run_reader,
     text_fault, text_or_texts_fault, texts_fault, there, token_type_of, tokens_in, tokens_of, url_fault,
 )
 
@@ -466,16 +465,5 @@ def cases():
         + distinct(lambda: plain_form(choices.verdict_case()), VERDICTS)
 
 
-def main(words):
-    if words == ["cases"]:
-        for case in cases():
-            print(case)
-    elif words == ["answers"]:
-        for line in sys.stdin.read().split("\n")[:-1]:
-            print(answer_by(OPERATIONS, line))
-    else:
-        sys.exit(__doc__)
-
-
 if __name__ == "__main__":
-    main(sys.argv[1:])
+    run_reader(__doc__, OPERATIONS, cases)
