@@ -24,6 +24,7 @@ from plain_records import (
 )
 
 LONGEST_ADDRESS = 65_534
+LONGEST_URL = 1_048_576
 
 # ---- sign-ins
 
@@ -78,9 +79,13 @@ def request_pairs(address, client, is_basic, own, later=()):
     return form(sent + [("body", form(own + named + list(later)))])
 
 
-def request_line(client, code, verifier):
-    own = [("grant_type", "authorization_code"), ("code", code), ("code_verifier", verifier)]
-    return "request " + request_pairs(client["token"], client, True, own)
+def request_line(client, code, login):
+    own = [("grant_type", "authorization_code"), ("code", code), ("code_verifier", login["verifier"])]
+    return "request " + request_pairs(client["token"], client, True, own, redirect_pairs(login))
+
+
+def redirect_pairs(login):
+    return [("redirect_uri", login["redirect"])] if "redirect" in login else []
 
 
 def authorization_url(client, begin):
@@ -88,8 +93,8 @@ def authorization_url(client, begin):
     digest = hashlib.sha256(begin["verifier"].encode()).digest()
     challenge = base64.urlsafe_b64encode(digest).rstrip(b"=").decode()
     added = form([("response_type", "code"), ("client_id", client["id"]), ("state", begin["state"]),
-                  ("code_challenge", challenge), ("code_challenge_method", "S256"), ("scope", "openid"),
-                  ("nonce", begin["nonce"])])
+                  ("code_challenge", challenge), ("code_challenge_method", "S256")] + redirect_pairs(begin)
+                 + [("scope", "openid"), ("nonce", begin["nonce"])])
     path, question, query = endpoint.partition("?")
     return path + "?" + (query + "&" if query else "") + added + mark + fragment
 
@@ -106,7 +111,7 @@ def callback_lines(client, logins, line, answer):
         return ["callback refused callback"]
     if len(client["token"].encode()) > LONGEST_ADDRESS:
         return ["callback refused token uri"]
-    sent = request_line(client, code[0], login["verifier"])
+    sent = request_line(client, code[0], login)
     if answer[0] == "fault":
         return [sent, "callback refused token request"]
     found, refusal = tokens_in(*answer[1], tokens.ID_TOKEN)
@@ -114,20 +119,30 @@ def callback_lines(client, logins, line, answer):
     return [sent, "callback " + verdict]
 
 
+def is_url(line):
+    """Whether a redirect, where there is one, has a scheme, as each URL has."""
+    return re.match("[A-Za-z][A-Za-z0-9+.-]*:", line.get("redirect", "https:")) is not None
+
+
 def step_lines(client, logins, line):
     """The lines of a begin or a callback, or None where it is neither."""
     of = pairs(line)
     op = of[0][1] if of and of[0][0] == "op" else None
     if op == "begin":
-        begin = fields(line, {"op", "state", "nonce", "verifier"})
-        if begin is None:
+        begin = fields(line, {"op", "state", "nonce", "verifier"}, {"redirect"})
+        if begin is None or not is_url(begin):
             return None
+        if "redirect" in client:
+            begin.setdefault("redirect", client["redirect"])
         if not 43 <= len(begin["verifier"].encode()) <= 128:
             return ["begin refused verifier"]
         if begin["state"] in logins:
             return ["begin refused pending"]
+        url = authorization_url(client, begin)
+        if len(url.encode()) > LONGEST_URL:
+            return ["begin refused too_long"]
         logins[begin["state"]] = begin
-        return ["begin ok " + authorization_url(client, begin)]
+        return ["begin ok " + url]
     if op == "callback":
         callback = fields(line, {"op", "now", "query"}, ANSWER)
         if callback is None or not re.fullmatch("-?[0-9]+", callback["now"]):
@@ -143,8 +158,9 @@ def report(script):
     """Status and report of a script whose URLs are written as the URL Standard writes them."""
     lines = script.split("\n")
     lines = lines[:-1] if lines[-1] == "" else lines
-    client = fields(lines[0], {"op", "id", "issuer", "auth", "token", "algs"}, {"secret"}) if lines else None
-    if client is None or not lines[0].startswith("op=client"):
+    required = {"op", "id", "issuer", "auth", "token", "algs"}
+    client = fields(lines[0], required, {"secret", "redirect"}) if lines else None
+    if client is None or not lines[0].startswith("op=client") or not is_url(client):
         return 3, "script fault line 1\n"
     out, logins = ["client ok"], {}
     for number, line in enumerate(lines[1:], 2):

@@ -4,20 +4,29 @@ use Rattle.oidc_oauth2.specs.Messages.{SeenAnswer}
 use Rattle.oidc_types.specs.{TextAndUrl}
 use Rattle.oidc_types.specs.declared.core_algorithms.CoreJwsSigningAlgorithm.{CoreJwsSigningAlgorithm}
 
--- a client line: the client's ID, and its secret where it has one; its provider's issuer and two endpoints,
--- and the signing algorithms that it allows
+-- what a client line says of the client's provider: its issuer and two endpoints
+pub record SeenProviderUrls : Type 0 where
+  pub issuer : TextAndUrl
+  pub auth : TextAndUrl
+  pub token : TextAndUrl
+
+-- a client line: the client's ID, and its secret and its redirect where it has them; its provider's issuer and
+-- two endpoints, and the signing algorithms that it allows
 pub record SeenClientLine : Type 0 where
   pub id : List ℕ
   pub secret : Option (List ℕ)
   pub issuer : TextAndUrl
   pub auth : TextAndUrl
   pub token : TextAndUrl
+  pub redirect : Option TextAndUrl
   pub algorithms : List CoreJwsSigningAlgorithm
 
--- a begin line: the state and the nonce of the request, and the verifier
+-- a begin line: the state and the nonce of the request, its redirect where it has one of its own, and the
+-- verifier
 pub record SeenBeginLine : Type 0 where
   pub state : List ℕ
   pub nonce : List ℕ
+  pub redirect : Option TextAndUrl
   pub verifier : List ℕ
 
 -- a callback line: the moment in nanoseconds since the Unix epoch, the query, and what the provider answers

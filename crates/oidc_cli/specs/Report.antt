@@ -1,13 +1,16 @@
 -- The report of a script.
-use Rattle.std.specs.Prelude.{ℕ, ◌-◌, List, [], ◌∷◌, ◌++◌, map, take, Option, None, Some, Result, codes}
+use Rattle.std.specs.Prelude.{ℕ, ◌-◌, List, [], ◌∷◌, ◌++◌, map, take, Option, None, Some, unwrap_or, Result, codes}
+use Rattle.std.specs.Option.{option_or}
 use Rattle.std.specs.FinMap as finite
 use Rattle.url.specs.Parts.{Parts}
 use Rattle.oidc_pairs.specs.Pairs.{pairs}
+use Rattle.oidc_types.specs.{TextAndUrl}
+use Rattle.oidc_client.specs.Client.{new_client}
+use Rattle.oidc_client.specs.Authorization.{new_request, Code}
 use Rattle.oidc_login.specs.declared.errors.BeginError.{BeginError}
 use Rattle.oidc_login.specs.Client.{SeenClient}
-use Rattle.oidc_login.specs.Authorization.{SeenAuthorization}
 use Rattle.oidc_login.specs.Logins.{Pending}
-use Rattle.oidc_login.specs.Begins.{begin_reply, begin_store}
+use Rattle.oidc_login.specs.Begins.{LoginRequest, begin_reply, begin_store}
 use Rattle.oidc_login.specs.Rows.{Attempt, Run, callback_store, outcome}
 use Rattle.oidc_cli.specs.Events.{SeenClientLine, SeenBeginLine, SeenCallbackLine}
 use Rattle.oidc_cli.specs.Script.{lines, event_of, fault_of}
@@ -21,22 +24,30 @@ use Rattle.oidc_cli.specs.declared.report.Ending.TheVariants as ending
 
 -- the client of a client line; nothing is known of its provider's keys
 abbrev pub client_of : SeenClientLine → SeenClient
-client_of line = record {
-  client_id = line.id;
+client_of line = record (new_client line.id line.issuer []) {
   client_secret = line.secret;
-  issuer = line.issuer;
-  keys = [];
-  auth_uri = line.auth;
-  token_endpoint = Some line.token;
-  algorithms = line.algorithms;
+  redirect_uri = line.redirect;
+  allowed = Some line.algorithms;
+  auth_uri = Some line.auth;
+  token_uri = Some line.token;
 }
 
--- the request of a begin line
-abbrev pub request_of : SeenBeginLine → SeenAuthorization
-request_of line = record { state = line.state; nonce = line.nonce }
+-- the authorization endpoint: the issuer would stand for none, but each client of a script has one (`client_of`)
+abbrev pub endpoint_of : SeenClient → TextAndUrl
+endpoint_of client = unwrap_or client.auth_uri client.issuer
+
+-- a client's request for a code, with this state and nonce
+abbrev pub code_request : SeenClient → List ℕ → List ℕ → LoginRequest
+code_request client state nonce = new_request client (endpoint_of client) Code state nonce
+
+-- the request of a begin line: its redirect is the line's, or else the client's
+abbrev pub request_of : SeenClient → SeenBeginLine → LoginRequest
+request_of client line = record (code_request client line.state line.nonce) {
+  redirect_uri = option_or line.redirect client.redirect_uri;
+}
 
 abbrev pub reply_of_begin : SeenClient → Pending → SeenBeginLine → Result Parts BeginError
-reply_of_begin client pending line = begin_reply client pending (request_of line) line.verifier
+reply_of_begin client pending line = begin_reply client.client_id pending (request_of client line) line.verifier
 
 -- the callback of a callback line
 abbrev pub attempt_of : SeenClient → Pending → SeenCallbackLine → Attempt
@@ -58,7 +69,7 @@ abbrev pub store_after : SeenClient → Pending → Option Event → Pending
 store_after client pending None = pending
 store_after client pending (Some (Client line)) = pending
 store_after client pending (Some (Begin line)) =
-    begin_store (reply_of_begin client pending line) pending (request_of line) line.verifier
+    begin_store (reply_of_begin client pending line) pending (request_of client line) line.verifier
 store_after client pending (Some (Callback line)) = callback_store pending (pairs line.query)
 
 -- ---- the report

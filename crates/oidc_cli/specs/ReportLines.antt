@@ -38,8 +38,11 @@ line_of words = words ++ 10 ∷ []
 -- No begin means want of memory, and so it has no line here.
 unfoldable pub begin_line : Result Parts BeginError → List ℕ
 begin_line (Ok url) = line_of (codes "begin ok " ++ serialize url)
+begin_line (Err begin.Flow) = line_of (codes "begin refused flow")
+begin_line (Err begin.ClientId) = line_of (codes "begin refused client_id")
 begin_line (Err begin.Verifier) = line_of (codes "begin refused verifier")
 begin_line (Err begin.Pending) = line_of (codes "begin refused pending")
+begin_line (Err begin.TooLong) = line_of (codes "begin refused too_long")
 begin_line (Err begin.Memory) = []
 
 -- ---- requests

@@ -5,7 +5,7 @@ use Rattle.std.specs.List.{slice_split, list_all, list_any}
 use Rattle.oidc_pairs.specs.Pairs.{pairs}
 use Rattle.oidc_cli.specs.Values.{◌>>=◌, url_of_text, pair_text, pair_value, lacks, optional_value, algorithms_of, moment_of_text, status_code_of, content_type_of}
 use Rattle.oidc_oauth2.specs.Messages.{SeenResponse, SeenAnswer}
-use Rattle.oidc_cli.specs.Events.{SeenClientLine, SeenBeginLine, SeenCallbackLine}
+use Rattle.oidc_cli.specs.Events.{SeenProviderUrls, SeenClientLine, SeenBeginLine, SeenCallbackLine}
 use Rattle.oidc_cli.specs.declared.events.Event.{Event}
 use Rattle.oidc_cli.specs.declared.events.Event.TheVariants.{Client, Begin, Callback}
 
@@ -28,24 +28,31 @@ lines script = lines_of_parts (slice_split (λ b. b == 10) script)
 
 -- ---- events
 
--- A client line and a begin line have their names beside `op`; a client line may lack `secret`. As many pairs as
--- names, and exactly one pair of each name: so each stands once, in any order, and there is no other name and
--- no second `op`.
+-- A client line and a begin line have their names beside `op`; a client line may lack `secret`, and both may lack
+-- `redirect`. As many pairs as names, and exactly one pair of each name: so each stands once, in any order, and
+-- there is no other name and no second `op`.
+
+unfoldable pub provider_urls : List (List ℕ × List ℕ) → Option SeenProviderUrls
+provider_urls line = do
+  issuer ← pair_value url_of_text line (codes "issuer")
+  auth ← pair_value url_of_text line (codes "auth")
+  token ← pair_value url_of_text line (codes "token")
+  Some (record { issuer = issuer; auth = auth; token = token })
 
 abbrev pub client_values : List (List ℕ × List ℕ) → Option SeenClientLine
 client_values line = do
   id ← pair_text line (codes "id")
   secret ← optional_value Some line (codes "secret")
-  issuer ← pair_value url_of_text line (codes "issuer")
-  auth ← pair_value url_of_text line (codes "auth")
-  token ← pair_value url_of_text line (codes "token")
+  redirect ← optional_value url_of_text line (codes "redirect")
   algorithms ← pair_value algorithms_of line (codes "algs")
+  urls ← provider_urls line
   Some (record {
     id = id;
     secret = secret;
-    issuer = issuer;
-    auth = auth;
-    token = token;
+    issuer = urls.issuer;
+    auth = urls.auth;
+    token = urls.token;
+    redirect = redirect;
     algorithms = algorithms;
   })
 
@@ -53,18 +60,27 @@ abbrev pub begin_values : List (List ℕ × List ℕ) → Option SeenBeginLine
 begin_values line = do
   state ← pair_text line (codes "state")
   nonce ← pair_text line (codes "nonce")
+  redirect ← optional_value url_of_text line (codes "redirect")
   verifier ← pair_text line (codes "verifier")
-  Some (record { state = state; nonce = nonce; verifier = verifier })
+  Some (record { state = state; nonce = nonce; redirect = redirect; verifier = verifier })
 
--- how many pairs a client line has: `op`, six others, and one less where `secret` isn't there
+-- one pair, where a line has this name
+abbrev pub one_if_there : List (List ℕ × List ℕ) → List ℕ → ℕ
+one_if_there line name = if lacks line name then 0 else 1
+
+-- how many pairs a client line has: `op`, five others, and those that may be there
 abbrev pub client_pairs : List (List ℕ × List ℕ) → ℕ
-client_pairs line = if lacks line (codes "secret") then 6 else 7
+client_pairs line = 6 + one_if_there line (codes "secret") + one_if_there line (codes "redirect")
+
+-- how many a begin line has
+abbrev pub begin_pairs : List (List ℕ × List ℕ) → ℕ
+begin_pairs line = 4 + one_if_there line (codes "redirect")
 
 unfoldable pub client_event_of : List (List ℕ × List ℕ) → Option SeenClientLine
 client_event_of line = if length line == client_pairs line then client_values line else None
 
 unfoldable pub begin_event_of : List (List ℕ × List ℕ) → Option SeenBeginLine
-begin_event_of line = if length line == 4 then begin_values line else None
+begin_event_of line = if length line == begin_pairs line then begin_values line else None
 
 -- ---- callbacks
 

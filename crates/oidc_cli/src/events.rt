@@ -2,20 +2,23 @@
 use jiff::Timestamp;
 use oidc_oauth2::Answer;
 use oidc_types::{
-    AuthUrl, ClientId, ClientSecret, CoreJwsSigningAlgorithm, CsrfToken, IssuerUrl, Nonce,
-    PkceCodeVerifier, TokenUrl,
+    AuthUrl, ClientId, ClientSecret, CoreJwsSigningAlgorithm, CsrfToken, IssuerUrl,
+    JsonWebKeySetUrl, Nonce, PkceCodeVerifier, RedirectUrl, TokenUrl,
 };
 use std::alloc::{AllocError, AllocFailed};
 use std::marker::Model;
 
-/// What a client line says.
+/// What a client line says. Its issuer also stands for the place of the provider's keys, which are never
+/// fetched.
 #[derive(Drop)]
 pub struct ClientLine {
     pub id: ClientId,
     pub secret: Option<ClientSecret>,
     pub issuer: IssuerUrl,
+    pub jwks_uri: JsonWebKeySetUrl,
     pub auth: AuthUrl,
     pub token: TokenUrl,
+    pub redirect: Option<RedirectUrl>,
     pub algorithms: Vec<CoreJwsSigningAlgorithm>,
 }
 
@@ -30,6 +33,7 @@ impl Model for ClientLine {
       issuer = c.issuer;
       auth = c.auth;
       token = c.token;
+      redirect = c.redirect;
       algorithms = c.algorithms.items;
     } };
 }
@@ -39,6 +43,7 @@ impl Model for ClientLine {
 pub struct BeginLine {
     pub state: CsrfToken,
     pub nonce: Nonce,
+    pub redirect: Option<RedirectUrl>,
     pub verifier: PkceCodeVerifier,
 }
 
@@ -47,7 +52,12 @@ impl Model for BeginLine {
 
     ghost Value = { SeenBeginLine };
 
-    ghost view = { λ b. record { state = b.state; nonce = b.nonce; verifier = b.verifier } };
+    ghost view = { λ b. record {
+      state = b.state;
+      nonce = b.nonce;
+      redirect = b.redirect;
+      verifier = b.verifier;
+    } };
 }
 
 /// What a callback line says: the moment, the query, and what the provider answers.

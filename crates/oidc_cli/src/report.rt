@@ -1,6 +1,7 @@
 //! A script's events, one after another, and their report.
 ghost use Rattle.std.specs.Prelude.{◌≡◌, ◌+◌, ◌≤◌, ◌<◌, ◌^◌, IfOk, OnOk, OnErr, IsErrOf, IfSome, IsSome, IsNone, Some, false};
 ghost use Rattle.std.specs.FinMap as finite;
+ghost use Rattle.std.specs.Option.{option_or};
 ghost use Rattle.std.specs.String.{string_bytes};
 ghost use Rattle.oidc_pairs.specs.Pairs.{pairs};
 ghost use Rattle.oidc_login.specs.Errors.{reply_of};
@@ -9,20 +10,21 @@ ghost use Rattle.oidc_cli.specs.Calls.{HasRisen};
 ghost use Rattle.oidc_cli.specs.Sinks.{Puts, PutsPrefix};
 ghost use Rattle.oidc_cli.specs.Script.{lines, is_client, is_step, fault_from, fault_of};
 ghost use Rattle.oidc_cli.specs.ReportLines.{request_lines, callback_lines, fault_line as line_of_fault, pending_line as line_of_pending};
-ghost use Rattle.oidc_cli.specs.Report.{client_of as client_seen, reply_of_begin, run_of_callback, step_lines, store_after, rest_of_report, report, ending_of};
+ghost use Rattle.oidc_cli.specs.Report.{client_of as client_seen, code_request as request_for_code, reply_of_begin, run_of_callback, step_lines, store_after, rest_of_report, report, ending_of};
 
 use crate::events::{BeginLine, CallbackLine, ClientLine, Event};
 use crate::reading::LIMIT;
 use crate::report_lines::{begin_line, fault_line, pending_line, request_line, verdict_line};
 use crate::script::{first_line, read_line};
 use crate::{Failed, Sink};
-use oidc_keys::CoreJsonWebKeySet;
-use oidc_login::client::Client;
-use oidc_login::client::authorization::AuthorizationRequest;
+use oidc_client::{AuthenticationFlow, Client, CoreAuthenticationFlow, CoreProviderMetadata};
+use oidc_login::client::{LoginClient, LoginRequest};
 use oidc_login::errors::{BeginError, LoginError};
 use oidc_login::logins::Logins;
 use oidc_login::signed_in::SignedIn;
 use oidc_oauth2::{Fault, HttpRequest, Recorded};
+use oidc_types::{CsrfToken, Nonce, RedirectUrl};
+use oidc_user_info::EmptyAdditionalProviderMetadata;
 use std::alloc::{AllocError, Global};
 use url::Url;
 
@@ -80,25 +82,77 @@ fn client_line_of(event: Option<Event>) -> Option<ClientLine>
 }
 
 // The client of a client line.
-fn client_of(alloc: Global, line: ClientLine) -> Client
+fn client_of(alloc: Global, line: ClientLine) -> LoginClient
     ensures { result ≡ client_seen line }
 {
     let ClientLine {
         id,
         secret,
         issuer,
+        jwks_uri,
         auth,
         token,
+        redirect,
         algorithms,
     } = line;
-    let keys = CoreJsonWebKeySet::new(Vec::new(alloc));
-    Client::new(id, secret, issuer, keys, auth, algorithms).set_token_uri(token)
+    let nothing_more = EmptyAdditionalProviderMetadata {};
+    let provider = CoreProviderMetadata::new(
+        alloc,
+        issuer,
+        auth,
+        jwks_uri,
+        algorithms,
+        nothing_more,
+    ).set_token_endpoint(Some(token));
+    let client: LoginClient = Client::from_provider_metadata(provider, id, secret);
+    match redirect {
+        None => client,
+        Some(redirect) => client.set_redirect_uri(redirect),
+    }
 }
 
 // ---- begins
 
+// A client's request for a code.
+fn code_request<'c>(
+    alloc: Global,
+    client: &'c LoginClient,
+    state: CsrfToken,
+    nonce: Nonce,
+) -> Result<LoginRequest<'c>, AllocError>
+    ensures { IfOk result (λ request. request ≡ request_for_code client.now state nonce) }
+{
+    let flow: CoreAuthenticationFlow = AuthenticationFlow::AuthorizationCode;
+    client.authorize_url(alloc, flow, move || state, move || nonce)
+}
+
+// The same, with a redirect of its own, where there is one.
+fn request_with<'c>(
+    alloc: Global,
+    client: &'c LoginClient,
+    state: CsrfToken,
+    nonce: Nonce,
+    redirect: Option<RedirectUrl>,
+) -> Result<LoginRequest<'c>, AllocError>
+    ensures { IfOk result (λ request. request ≡ record (request_for_code client.now state nonce) {
+      redirect_uri = option_or redirect client.now.redirect_uri;
+    }) }
+{
+    let request = code_request(alloc, client, state, nonce)?;
+    match redirect {
+        None => Ok(request),
+        Some(redirect) => Ok(request.set_redirect_uri(redirect)),
+    }
+}
+
 // What a begin line gets, unless there is no memory.
-fn begin(logins: &mut Logins<'_>, line: BeginLine) -> Result<Result<Url, BeginError>, AllocError>
+fn begin<'c>(
+    alloc: Global,
+    client: &'c LoginClient,
+    logins: &mut Logins<'c>,
+    line: BeginLine,
+) -> Result<Result<Url, BeginError>, AllocError>
+    requires same { logins.old.client ≡ client.now }
     ensures reply { IfOk result
         (λ reply. reply ≡ reply_of_begin logins.old.client logins.old.pending line) }
     ensures client { logins.new.client ≡ logins.old.client }
@@ -109,9 +163,11 @@ fn begin(logins: &mut Logins<'_>, line: BeginLine) -> Result<Result<Url, BeginEr
     let BeginLine {
         state,
         nonce,
+        redirect,
         verifier,
     } = line;
-    match logins.begin(AuthorizationRequest::new(state, nonce), verifier) {
+    let request = request_with(alloc, client, state, nonce, redirect)?;
+    match logins.begin(request, verifier) {
         Ok(url) => Ok(Ok(url)),
         Err(BeginError::Memory) => Err(AllocError),
         Err(refusal) => Ok(Err(refusal)),
@@ -120,12 +176,14 @@ fn begin(logins: &mut Logins<'_>, line: BeginLine) -> Result<Result<Url, BeginEr
 
 // Runs a begin line and puts its line.
 #[tactic(auto, using(crate::proofs::Passing::prefix_none))]
-fn put_begin<O: Sink>(
+fn put_begin<'c, O: Sink>(
     alloc: Global,
-    logins: &mut Logins<'_>,
+    client: &'c LoginClient,
+    logins: &mut Logins<'c>,
     line: BeginLine,
     sink: &mut O,
 ) -> Result<(), Halt>
+    requires same { logins.old.client ≡ client.now }
     ensures whole { OnOk result
         (Puts (O.written sink.old) (O.written sink.new)
         (step_lines logins.old.client logins.old.pending (Some (Event.Begin line)))) }
@@ -139,7 +197,7 @@ fn put_begin<O: Sink>(
     ensures blamed { IsErrOf result Halt.Sink → HasRisen (O.faults sink.old) (O.faults sink.new) }
     ensures counts { O.faults sink.old ≤ O.faults sink.new }
 {
-    let reply = begin(logins, line)?;
+    let reply = begin(alloc, client, logins, line)?;
     let text = begin_line(alloc, &reply)?;
     sink.put(text.as_str().as_bytes())?;
     Ok(())
@@ -248,21 +306,27 @@ fn put_callback<O: Sink>(
     ensures blamed { IsErrOf result Halt.Sink → HasRisen (O.faults sink.old) (O.faults sink.new) }
     ensures counts { O.faults sink.old ≤ O.faults sink.new }
 {
-    // What came is large: it is let go once, and not on each way out.
-    let replied = call_back(alloc, logins, line)?;
-    put_replied(alloc, &replied, sink)
+    // What came is large: it is let go once, by a call, and not on each way out.
+    let Ok(replied) = call_back(alloc, logins, line) else {
+        return Err(Halt::Memory);
+    };
+    let put = put_replied(alloc, &replied, sink);
+    drop(replied);
+    put
 }
 
 // ---- the report
 
 // Runs a begin or a callback and puts its lines. The result is whether the event is one.
 #[tactic(auto, using(crate::proofs::Passing::puts_nothing))]
-fn put_step<O: Sink>(
+fn put_step<'c, O: Sink>(
     alloc: Global,
-    logins: &mut Logins<'_>,
+    client: &'c LoginClient,
+    logins: &mut Logins<'c>,
     event: Option<Event>,
     sink: &mut O,
 ) -> Result<bool, Halt>
+    requires same { logins.old.client ≡ client.now }
     ensures placed { IfOk result (λ placed. placed ≡ is_step event) }
     ensures whole { OnOk result
         (Puts (O.written sink.old) (O.written sink.new)
@@ -278,7 +342,7 @@ fn put_step<O: Sink>(
 {
     match event {
         Some(Event::Begin(line)) => {
-            put_begin(alloc, logins, line, sink)?;
+            put_begin(alloc, client, logins, line, sink)?;
             Ok(true)
         }
         Some(Event::Callback(line)) => {
@@ -337,11 +401,11 @@ fn put_pending<O: Sink>(alloc: Global, logins: &Logins<'_>, sink: &mut O) -> Res
 // Puts the report of the lines behind the client line.
 fn put_steps<O: Sink>(
     alloc: Global,
-    client: &Client,
+    client: &LoginClient,
     script: &[u8],
     sink: &mut O,
 ) -> Result<Ending, Halt>
-    requires endpoint { IsSome client.now.token_endpoint }
+    requires endpoint { IsSome client.now.token_uri }
     ensures ending { IfOk result
         (λ ending. ending ≡ ending_of (fault_from 2 (lines script.now))) }
     ensures whole { OnOk result
@@ -362,7 +426,7 @@ fn put_steps<O: Sink>(
     let mut left = script;
     while let Some((line, rest)) = first_line(left) {
         let event = read_line(alloc, line)?;
-        if !put_step(alloc, &mut logins, event, sink)? {
+        if !put_step(alloc, client, &mut logins, event, sink)? {
             return put_fault(alloc, number, sink);
         }
         number += 1;

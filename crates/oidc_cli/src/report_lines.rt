@@ -94,8 +94,11 @@ pub fn begin_line(alloc: Global, reply: &Result<Url, BeginError>) -> Result<Stri
 {
     match reply {
         Ok(url) => begin_ok_line(alloc, url),
+        Err(BeginError::Flow) => String::from_str(alloc, "begin refused flow\n"),
+        Err(BeginError::ClientId) => String::from_str(alloc, "begin refused client_id\n"),
         Err(BeginError::Verifier) => String::from_str(alloc, "begin refused verifier\n"),
         Err(BeginError::Pending) => String::from_str(alloc, "begin refused pending\n"),
+        Err(BeginError::TooLong) => String::from_str(alloc, "begin refused too_long\n"),
         Err(BeginError::Memory) => Err(AllocError),
     }
 }

@@ -1,6 +1,5 @@
 pub mod Theorems
 pub mod Entries
-pub mod Extended
 pub mod Begun
 pub mod Verification
 pub mod TokenHash

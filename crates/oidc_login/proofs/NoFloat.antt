@@ -13,13 +13,13 @@ use Rattle.oidc_oauth2.specs.Words.{token_type_of}
 use Rattle.oidc_oauth2.specs.TokenResponse.{token_rule, access_token, token_type, tokens_of}
 use Rattle.oidc_tokens.proofs.Theorems.{response_free}
 use Rattle.oidc_login.specs.IdTokens.{SeenIdToken}
-use Rattle.oidc_login.specs.TokenResponse.{Fields, Tokens, no_others, fields_of}
+use Rattle.oidc_login.specs.TokenResponse.{Tokens, no_others, fields_of}
 use Rattle.oidc_login.specs.SignedIn.{additional_in}
 
--- a step that gave a value stands on one
-first_step : {A B : Type 0} (o : Result A Refusal) (f : A → Result B Refusal) (y : B) → (o >>= f) ≡ Ok y → (x : A) × (o ≡ Ok x) × (f x ≡ Ok y)
-first_step (Ok x) f y h = (x, refl, h)
-first_step (Err refusal) f y h = absurd cc
+-- what follows from two steps that gave a value, by the value between them
+after : {A B Goal : Type 0} (o : Result A Refusal) (f : A → Result B Refusal) (y : B) → (o >>= f) ≡ Ok y → ((x : A) → o ≡ Ok x → f x ≡ Ok y → Goal) → Goal
+after (Ok x) f y h next = next x refl h
+after (Err refusal) f y h next = absurd cc
 
 same_ok : {A : Type 0} (x y : A) → ◌≡◌ {A = Result A Refusal} (Ok x) (Ok y) → x ≡ y
 same_ok x y h = cc
@@ -27,11 +27,10 @@ same_ok x y h = cc
 fields_read : (members : List SeenMember) (tokens : Tokens) → tokens_of token_type_of fields_of members ≡ Ok tokens → fields_of members ≡ Ok tokens.extra_fields
 unfolding tokens_of
 fields_read members tokens h =
-    let first = first_step (faultless token_rule members) _ tokens h in
-    let access = first_step (required access_token members) _ tokens first.2 in
-    let kind = first_step (required token_type members) _ tokens access.2 in
-    let extra = first_step (fields_of members) _ tokens kind.2 in
-    extra.1 ∙ ap Ok (ap (λ t. t.extra_fields) (same_ok _ tokens extra.2))
+    after (faultless token_rule members) _ tokens h λ _ _ first.
+    after (required access_token members) _ tokens first λ access _ second.
+    after (required token_type members) _ tokens second λ kind _ third.
+    after (fields_of members) _ tokens third λ extra read made. read ∙ ap Ok (ap (λ t. t.extra_fields) (same_ok _ tokens made))
 
 each_free : (o : Option SeenIdToken) → ((token : SeenIdToken) → o ≡ Some token → any_float (list_of token.payload.additional_claims) ≡ false)
     → any_float (option_map_or (λ token. list_of token.payload.additional_claims) o []) ≡ false

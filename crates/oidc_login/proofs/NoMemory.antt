@@ -1,5 +1,5 @@
 -- No check of an ID token wants memory.
-use Rattle.std.proofs.Common.{◌≡◌, ◌≢◌, ℕ, ℤ, List, Some, Err, arith}
+use Rattle.std.proofs.Common.{◌≢◌, ℕ, ℤ, List, Some, Err, arith}
 use Rattle.oidc_types.specs.declared.core_algorithms.CoreJwsSigningAlgorithm.{CoreJwsSigningAlgorithm}
 use Rattle.oidc_keys.specs.CoreJwk.{symmetric_verdict}
 use Rattle.oidc_keys.specs.declared.refusals.SignatureVerificationError.TheVariants as signature

@@ -1,5 +1,5 @@
 -- An ID token that is there, and its additional claims.
-use Rattle.std.proofs.Common.{◌≡◌, List, [], true, false, Option, None, Some}
+use Rattle.std.proofs.Common.{◌≡◌, [], true, false, Option, None, Some}
 use Rattle.std.specs.Prelude.{is_some}
 use Rattle.std.specs.Option.{option_map_or}
 use Rattle.std.proofs.lemmas.Bool.{false≢true}

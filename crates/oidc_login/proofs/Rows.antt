@@ -14,9 +14,9 @@ use Rattle.oidc_oauth2.specs.declared.token_answers.RequestTokenError.TheVariant
 use Rattle.oidc_login.specs.Logins.{SeenLogin}
 use Rattle.oidc_login.specs.TokenRequest.{token_request}
 use Rattle.oidc_login.specs.TokenResponse.{Tokens, TokenError, tokens_or_refusal}
-use Rattle.oidc_login.specs.IdTokens.{SeenIdToken, core_keys, verifier_of, is_nonce, IsAcceptedBy, failure_for}
+use Rattle.oidc_login.specs.IdTokens.{core_keys, verifier_of, is_nonce, IsAcceptedBy, failure_for}
 use Rattle.oidc_tokens.proofs.Theorems.{failure_cause}
-use Rattle.oidc_login.specs.TokenHash.{claimed_hash, hash_under, hash_beside, FitsHash}
+use Rattle.oidc_login.specs.TokenHash.{claimed_hash, FitsHash}
 use Rattle.oidc_login.specs.Errors.{Error}
 use Rattle.oidc_login.specs.Rows.{Attempt, Meant, SeenOpened, login_named_by, error_in, code_in, opening, tokens_in, hash_rows, accepting, signing_in, after_token, with_token, outcome}
 use Rattle.oidc_login.specs.Causes.{Names, HasCode, Asks, Held, Answered, Reads, Holds, Accepted, own_hash, IsSignedIn, TokenCause, Cause}

@@ -1,5 +1,5 @@
 -- The hash beside an accepted ID token is that of its algorithm under its key, and what its rows say.
-use Rattle.std.proofs.Common.{◌≡◌, ◌≢◌, ℕ, List, [], Bool, true, false, Option, None, Some, Result, Ok, Err, refl, sym, ap, ◌∙◌}
+use Rattle.std.proofs.Common.{◌≡◌, ◌≢◌, ℕ, List, [], Bool, true, false, Some, Result, Ok, Err, refl, sym, ap, ◌∙◌}
 use Rattle.std.specs.Prelude.{not}
 use Rattle.std.specs.Option.{ok_or}
 use Rattle.std.specs.Str.{bytes_eq}
@@ -17,7 +17,6 @@ use Rattle.oidc_tokens.specs.Steps.{◌>>=◌}
 use Rattle.oidc_login.specs.IdTokens.{SeenIdToken, CoreVerifier, core_keys}
 use Rattle.oidc_login.specs.TokenHash.{hash_under, hashing_found, or_no_hash, hash_beside}
 use Rattle.oidc_oauth2.specs.TokenAnswers.{◌when◌}
-use Rattle.oidc_login.specs.Errors.{Error}
 use Rattle.oidc_login.specs.Rows.{Meant, hash_rows}
 use Rattle.oidc_login.specs.declared.errors.LoginError.TheVariants as login
 

@@ -1,6 +1,6 @@
 -- The ID tokens that a client takes, and what it expects of them: OpenID Connect Core 1.0 sections 2
 -- and 3.1.3.7.
-use Rattle.std.specs.Prelude.{ℕ, ℤ, List, Bool, false, Option, None, Some, option_map, Result}
+use Rattle.std.specs.Prelude.{ℕ, ℤ, List, Bool, false, Option, None, Result}
 use Rattle.std.specs.Option.{option_map_or}
 use Rattle.std.specs.Str.{bytes_eq}
 use Rattle.serde_json.specs.Data.{string}
@@ -26,6 +26,7 @@ use Rattle.oidc_tokens.specs.Signatures.{KeyMeanings, SeenVerifier, meanings}
 use Rattle.oidc_tokens.specs.Verification.{Accepts, first_failure}
 use Rattle.oidc_tokens.specs.Causes.{Cause}
 use Rattle.oidc_tokens.specs.declared.verification.refusals.ClaimsVerificationError.{ClaimsVerificationError}
+use Rattle.oidc_client.specs.Client as clients
 use Rattle.oidc_login.specs.Client.{SeenClient}
 
 -- ---- tokens and their claims
@@ -64,13 +65,7 @@ key_of_secret secret = record { secret = secret; id = None }
 -- what a client expects: a token for itself, by its issuer, signed by an algorithm that it allows under its
 -- own secret or under one of the issuer's keys
 abbrev pub verifier_of : SeenClient → CoreVerifier
-verifier_of client = record {
-  client_id = client.client_id;
-  issuer = client.issuer;
-  secret_key = option_map key_of_secret client.client_secret;
-  keys = client.keys;
-  allowed = Some client.algorithms;
-}
+verifier_of = clients.verifier_of key_of_secret
 
 -- a nonce is there, and is the one that was sent
 abbrev pub is_nonce : List ℕ → Option (List ℕ) → Bool

@@ -1,8 +1,7 @@
--- In reading order: the client and its authorization URL; the ID tokens that it accepts; pending logins
--- and what a begin leaves; the token request and its answer, and the hash of its access token; the table
+-- In reading order: the client; the ID tokens that it accepts; pending logins, what a begin answers and
+-- what it leaves; the token request and its answer, and the hash of its access token; the table
 -- of a callback, what each reply rests on, and what a callback leaves of a transport and of the store.
 pub mod Client
-pub mod Authorization
 pub mod IdTokens
 pub mod Logins
 pub mod Begins

@@ -21,12 +21,21 @@ pub enum NewLoginsError {
 /// Why a login doesn't begin.
 #[derive(Clone, Copy, Debug, PartialEq, Eq, Error)]
 pub enum BeginError {
+    /// The request's flow isn't `AuthenticationFlow::AuthorizationCode`.
+    #[error("the request isn't for a code alone")]
+    Flow,
+    /// The request has another client ID than the store's client.
+    #[error("the request is another client's")]
+    ClientId,
     /// The verifier hasn't 43 to 128 bytes (RFC 7636 section 4.1).
     #[error("the verifier hasn't 43 to 128 bytes")]
     Verifier,
     /// A login of this state is pending.
     #[error("the state is pending")]
     Pending,
+    /// The URL would have more than 1,048,576 bytes.
+    #[error("a URL that is too long")]
+    TooLong,
     /// There was no memory.
     #[error("out of memory")]
     Memory,

@@ -1,7 +1,8 @@
 //! The pending logins of one client, from the URL that sends a user to the provider to the claims
 //! that sign the user in.
 //!
-//! - [`client::Client`] is what is known of the client and its provider.
+//! - [`MetadataClient`] is the client of a provider's metadata, of `oidc_client`; [`LoginClient`] is the one that the
+//!   store takes, and [`LoginRequest`] its request.
 //! - [`logins::Logins`] is the store. [`logins::Logins::begin`] gives the authorization URL of a
 //!   login and keeps its nonce and its PKCE verifier; [`logins::Logins::callback`] takes the login
 //!   that a callback names, exchanges its code, and signs the user in.
@@ -27,10 +28,10 @@
 //! then.
 //!
 //! The standards: RFC 6749 (section 4.1), RFC 7636, RFC 7515 section 7.1, and OpenID Connect Core
-//! 1.0 (sections 2, 3.1.2.1, 3.1.3.3, 3.1.3.6 and 3.1.3.7). The module `client` holds what this
-//! path needs of a layer that will stand below it.
+//! 1.0 (sections 2, 3.1.2.1, 3.1.3.3, 3.1.3.6 and 3.1.3.7).
 #![tactic(auto)]
 
+mod begins;
 pub mod client;
 pub mod errors;
 pub mod laws;
@@ -39,8 +40,7 @@ pub mod signed_in;
 mod steps;
 mod store;
 
-pub use client::Client;
-pub use client::authorization::AuthorizationRequest;
+pub use client::{LoginClient, LoginRequest, MetadataClient};
 pub use errors::{BeginError, LoginError, NewLoginsError, TooLong};
 pub use logins::Logins;
 pub use signed_in::{LoginClaims, LoginIdToken, SignedIn};

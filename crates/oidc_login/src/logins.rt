@@ -1,13 +1,15 @@
 //! The pending logins of one client.
 
-ghost use Rattle.std.specs.Prelude.{◌≡◌, ◌≢◌, ◌↔◌, ◌≤◌, IfOk, OnOk, OnErr, IsErrOf, IsTrue, IsNone, IsSome, not, true, false, None};
+ghost use Rattle.std.specs.Prelude.{◌≡◌, ◌≢◌, ◌↔◌, ◌≤◌, ◌<◌, length, IfOk, OnOk, OnErr, IsErrOf, IsTrue, IsNone, IsSome, not, true, false, None};
 ghost use Rattle.std.specs.FinMap as finite;
+ghost use Rattle.url.specs.Parts.{serialize};
 ghost use Rattle.oidc_pairs.specs.Pairs.{pairs};
 ghost use Rattle.oidc_oauth2.specs.Pkce.{is_verifier, s256};
 ghost use Rattle.oidc_oauth2.specs.Exchanges.{known};
+ghost use Rattle.oidc_client.specs.Authorization.{HasChallenge, IsUnmanagedBeside, StandOnce};
 ghost use Rattle.oidc_login.specs.Errors.{is_spent_by, OrMemory};
 ghost use Rattle.oidc_login.specs.Logins.{HasVerifiers};
-ghost use Rattle.oidc_login.specs.Begins.{begin_reply, Begins, with_login};
+ghost use Rattle.oidc_login.specs.Begins.{begin_reply, is_code_flow, url_with, Begins, with_login};
 ghost use Rattle.oidc_login.specs.Rows.{login_named_by, callback_store};
 ghost use Rattle.oidc_login.specs.Causes.{AsksNothing};
 ghost use Rattle.oidc_login.specs.Runs.{Ran, IsBlamed, Leaves, attempt};
@@ -15,14 +17,14 @@ ghost use Rattle.oidc_keys.specs.declared.refusals.SignatureVerificationError.Th
 ghost use Rattle.oidc_tokens.specs.declared.verification.refusals.ClaimsVerificationError.TheVariants as check;
 ghost use Rattle.oidc_types.specs.declared.signing_error.SigningError.TheVariants as signing;
 
-use crate::client::Client;
-use crate::client::authorization::{AuthorizationRequest, authorize_url};
+use crate::begins::start;
+use crate::client::{LoginClient, LoginRequest};
 use crate::errors::{BeginError, LoginError, NewLoginsError};
 use crate::signed_in::SignedIn;
 use crate::steps::drive;
-use crate::store::{Login, Store};
+use crate::store::Store;
 use jiff::Timestamp;
-use oidc_oauth2::{PkceCodeChallenge, PkceError, SyncHttpClient};
+use oidc_oauth2::SyncHttpClient;
 use oidc_types::PkceCodeVerifier;
 use std::alloc::Global;
 use std::marker::Model;
@@ -33,7 +35,7 @@ use url::Url;
 #[derive(Drop)]
 pub struct Logins<'c> {
     alloc: Global,
-    client: &'c Client,
+    client: &'c LoginClient,
     pending: Store,
 }
 
@@ -53,11 +55,11 @@ impl<'c> Model for Logins<'c> {
 impl<'c> Logins<'c> {
     /// The empty store over a client. `TokenEndpoint` exactly where the client has no token
     /// endpoint. It takes no memory.
-    pub fn new(alloc: Global, client: &'c Client) -> Result<Self, NewLoginsError>
+    pub fn new(alloc: Global, client: &'c LoginClient) -> Result<Self, NewLoginsError>
         ensures empty { IfOk result (λ logins.
             logins ≡ record { client = client.now; pending = finite.empty }) }
         ensures token_endpoint { IsErrOf result NewLoginsError.TokenEndpoint
-            ↔ IsNone client.now.token_endpoint }
+            ↔ IsNone client.now.token_uri }
     {
         if client.token_endpoint().is_none() {
             return Err(NewLoginsError::TokenEndpoint);
@@ -84,37 +86,48 @@ impl<'c> Logins<'c> {
         self.pending.contains(state)
     }
 
-    /// Begins a login: the URL that sends the user to the provider, with the S256 challenge of the
-    /// verifier. The login is then pending under its state. The errors are, in this order,
-    /// `Verifier`, `Pending` and `Memory`; each leaves the store as it was.
+    /// Begins a login: the URL that sends the user to the provider, which is the request's with the S256
+    /// challenge of the verifier in the place of any other. The login is then pending under the request's
+    /// state, with its nonce, the verifier, and its redirect: its own, else that of the client that made it.
+    ///
+    /// The errors are, in this order: `Flow`, where its flow isn't that of a code; `ClientId`, where it
+    /// has another client ID than the store's client; `Verifier`, where the verifier hasn't 43 to 128 bytes;
+    /// `Pending`, where a login of the state is pending; `TooLong`, where the URL has more than 1,048,576
+    /// bytes. `Memory` may come at any point. Each leaves the store as it was.
     pub fn begin(
         &mut self,
-        request: AuthorizationRequest,
+        request: LoginRequest<'c>,
         verifier: PkceCodeVerifier,
     ) -> Result<Url, BeginError>
         ensures reply { Begins result
-            (begin_reply self.old.client self.old.pending request verifier) }
+            (begin_reply self.old.client.client_id self.old.pending request.entry verifier) }
         ensures client { self.new.client ≡ self.old.client }
         ensures recorded { OnOk result
-            (self.new.pending ≡ with_login self.old.pending request verifier) }
+            (self.new.pending ≡ with_login self.old.pending request.entry verifier) }
         ensures unchanged { OnErr result (self.new.pending ≡ self.old.pending) }
         ensures verifiers { HasVerifiers self.new.pending }
 
+        // What the URL has.
+        ensures challenge { IfOk result (HasChallenge (s256 verifier)) }
+        ensures once { IsUnmanagedBeside request.entry → IfOk result (StandOnce request.entry) }
+
         // Each refusal has its cause.
-        ensures verifier { IsErrOf result BeginError.Verifier
-            ↔ IsTrue (not (is_verifier verifier)) }
+        ensures flow { IsErrOf result BeginError.Flow → is_code_flow request.entry.flow ≡ false }
+        ensures client_id { IsErrOf result BeginError.ClientId
+            → request.entry.client_id ≢ self.old.client.client_id }
+        ensures verifier { IsErrOf result BeginError.Verifier → is_verifier verifier ≡ false }
         ensures pending { IsErrOf result BeginError.Pending
-            → IsTrue (finite.contains_key self.old.pending request.state) }
+            → finite.contains_key self.old.pending request.entry.state ≡ true }
+        ensures too_long { IsErrOf result BeginError.TooLong
+            → 1_048_576 < length (serialize (url_with request.entry (s256 verifier))) }
     {
-        let challenge = challenge_of(self.alloc, &verifier)?;
-        if self.pending.contains(request.state().secret()) {
-            return Err(BeginError::Pending);
-        }
-        let url = authorize_url(self.alloc, self.client, &request, &challenge)?;
-        let (state, nonce) = request.into_parts();
-        self.pending
-            .insert(state.into_string(), Login { nonce, verifier })?;
-        Ok(url)
+        start(
+            self.alloc,
+            self.client.client_id(),
+            &mut self.pending,
+            request,
+            verifier,
+        )
     }
 
     /// Answers a callback: takes the login that the query names by its one `state`, hands the
@@ -181,19 +194,5 @@ impl<'c> Logins<'c> {
         ensures no_wanting_hash { result ≢ Err (LoginError.Signing signing.Memory) }
     {
         drive(self.alloc, self.client, &mut self.pending, query, http, now)
-    }
-}
-
-// The challenge of a verifier, or why there is none.
-fn challenge_of(alloc: Global, verifier: &PkceCodeVerifier) -> Result<PkceCodeChallenge, BeginError>
-    ensures challenge { IfOk result (λ challenge. challenge ≡ s256 verifier.now) }
-    ensures verifier { IsErrOf result BeginError.Verifier
-        ↔ IsTrue (not (is_verifier verifier.now)) }
-    ensures not_pending { result ≢ Err BeginError.Pending }
-{
-    match PkceCodeChallenge::from_code_verifier_sha256(alloc, verifier) {
-        Ok(challenge) => Ok(challenge),
-        Err(PkceError::Length) => Err(BeginError::Verifier),
-        Err(PkceError::Memory) => Err(BeginError::Memory),
     }
 }

@@ -22,16 +22,16 @@ ghost use Rattle.oidc_login.specs.Causes.{AsksNothing};
 ghost use Rattle.oidc_login.specs.Runs.{Ran, IsBlamed, Leaves, start};
 ghost use Rattle.oidc_login.specs.Steps.{answer_of, Exchanged, Untouched, Faults, IsPassed};
 
-use crate::client::Client;
+use crate::client::LoginClient;
 use crate::errors::LoginError;
 use crate::signed_in::{LoginIdToken, SignedIn, TokenResponse};
 use crate::store::{Login, Store};
 use jiff::Timestamp;
 use oidc_members::FieldName;
 use oidc_oauth2::{
-    AuthType, CallError, ClientAuth, CodeTokenRequest, CoreErrorResponseType, HttpRequest,
-    HttpResponse, OAuth2TokenResponse, OtherCause, PrepareError, RequestTokenError,
-    StandardErrorResponse, SyncHttpClient, token_answer,
+    CallError, ClientAuth, CodeTokenRequest, CoreErrorResponseType, HttpRequest, HttpResponse,
+    OAuth2TokenResponse, OtherCause, PrepareError, RequestTokenError, StandardErrorResponse,
+    SyncHttpClient, token_answer,
 };
 use oidc_pairs::Pairs;
 use oidc_tokens::{CoreIdTokenVerifier, from_token};
@@ -69,11 +69,11 @@ fn take_named(pending: &mut Store, query: &Pairs) -> Option<Login>
     }
 }
 
-// The request for a code, with the login's verifier, to the client's token endpoint.
+// The request for a code, with the login's verifier and its redirect, to the client's token endpoint.
 #[tactic(auto, unfolding(crate::specs::TokenRequest::token_request))]
 fn token_request(
     alloc: Global,
-    client: &Client,
+    client: &LoginClient,
     login: &Login,
     code: &str,
 ) -> Result<HttpRequest, PrepareError>
@@ -85,20 +85,23 @@ fn token_request(
     let auth = ClientAuth {
         client_id: client.client_id(),
         client_secret: client.client_secret(),
-        auth_type: AuthType::BasicAuth,
+        auth_type: *client.auth_type(),
     };
     let code = AuthorizationCode::new(String::from_str(alloc, code)?);
     let verifier = login.verifier.clone_in(alloc)?;
     let request: CodeTokenRequest<'_, StandardErrorResponse<CoreErrorResponseType>, TokenResponse> =
         CodeTokenRequest::new(alloc, endpoint, auth, code).set_pkce_verifier(verifier);
-    request.prepare(alloc)
+    match &login.redirect_uri {
+        None => request.prepare(alloc),
+        Some(redirect) => request.set_redirect_uri(redirect).prepare(alloc),
+    }
 }
 
 // The rows before the token request, of a query whose pairs are read.
 #[tactic(auto, unfolding(crate::specs::Rows::opening))]
 fn open<E>(
     alloc: Global,
-    client: &Client,
+    client: &LoginClient,
     pending: &mut Store,
     query: &Pairs,
 ) -> Result<Opened, LoginError<E>>
@@ -129,7 +132,7 @@ fn open<E>(
 // The rows before the token request.
 fn opening<E>(
     alloc: Global,
-    client: &Client,
+    client: &LoginClient,
     pending: &mut Store,
     query: &[u8],
 ) -> Result<Opened, LoginError<E>>
@@ -219,7 +222,7 @@ fn check_hash<E>(
 // The rows on the ID token, which came beside this access token.
 fn accepting<E>(
     alloc: Global,
-    client: &Client,
+    client: &LoginClient,
     now: Timestamp,
     login: &Login,
     token: &LoginIdToken,
@@ -242,7 +245,7 @@ fn accepting<E>(
 // The rows on tokens that somebody else keeps.
 fn checking<E>(
     alloc: Global,
-    client: &Client,
+    client: &LoginClient,
     now: Timestamp,
     login: &Login,
     tokens: &TokenResponse,
@@ -264,7 +267,7 @@ fn checking<E>(
 // The rows on the tokens.
 fn signing_in<E>(
     alloc: Global,
-    client: &Client,
+    client: &LoginClient,
     now: Timestamp,
     login: &Login,
     tokens: TokenResponse,
@@ -276,7 +279,10 @@ fn signing_in<E>(
 {
     match checking(alloc, client, now, login, &tokens) {
         Ok(()) => Ok(SignedIn::new(tokens)),
-        Err(error) => Err(error),
+        Err(error) => {
+            drop(tokens);
+            Err(error)
+        }
     }
 }
 
@@ -284,7 +290,7 @@ fn signing_in<E>(
 #[tactic(auto, unfolding(crate::specs::Rows::after_token))]
 fn after_token<E>(
     alloc: Global,
-    client: &Client,
+    client: &LoginClient,
     now: Timestamp,
     login: &Login,
     answer: Result<HttpResponse, E>,
@@ -333,7 +339,7 @@ fn exchange<H: SyncHttpClient>(
 #[tactic(auto, using(crate::proofs::Drives::either))]
 pub(crate) fn drive<H: SyncHttpClient>(
     alloc: Global,
-    client: &Client,
+    client: &LoginClient,
     pending: &mut Store,
     query: &[u8],
     http: &mut H,

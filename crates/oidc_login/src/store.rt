@@ -6,7 +6,7 @@ ghost use Rattle.std.specs.FinMap as finite;
 ghost use Rattle.oidc_oauth2.specs.Pkce.{is_verifier};
 ghost use Rattle.oidc_login.specs.Logins.{HasVerifiers};
 
-use oidc_types::{Nonce, PkceCodeVerifier};
+use oidc_types::{Nonce, PkceCodeVerifier, RedirectUrl};
 use std::alloc::{AllocError, Global};
 use std::marker::Model;
 
@@ -14,6 +14,7 @@ use std::marker::Model;
 #[derive(Drop)]
 pub(crate) struct Login {
     pub(crate) nonce: Nonce,
+    pub(crate) redirect_uri: Option<RedirectUrl>,
     pub(crate) verifier: PkceCodeVerifier,
 }
 
@@ -24,7 +25,11 @@ impl Model for Login {
 
     ghost coded = { seen_login_code };
 
-    ghost view = { λ l. record { nonce = l.nonce; verifier = l.verifier } };
+    ghost view = { λ l. record {
+      nonce = l.nonce;
+      redirect_uri = l.redirect_uri;
+      verifier = l.verifier;
+    } };
 }
 
 // A login under its state.

@@ -14,7 +14,7 @@ use oidc_oauth2::{
 };
 use oidc_tokens::{ClaimsVerificationError, JsonWebTokenError};
 use oidc_types::{SigningError, UrlTextError};
-use oidc_user_info::{InfoOther, PrepareInfoError, ResponseCause, UserInfoError};
+use oidc_user_info::{BuildUrlError, InfoOther, PrepareInfoError, ResponseCause, UserInfoError};
 use std::alloc::Global;
 use std::fmt::{Debug, Display};
 
@@ -58,9 +58,12 @@ const CLAIMS: [ClaimsVerificationError; 8] = [
 
 const STORES: [NewLoginsError; 1] = [NewLoginsError::TokenEndpoint];
 
-const BEGINS: [BeginError; 3] = [
+const BEGINS: [BeginError; 6] = [
+    BeginError::Flow,
+    BeginError::ClientId,
     BeginError::Verifier,
     BeginError::Pending,
+    BeginError::TooLong,
     BeginError::Memory,
 ];
 
@@ -85,6 +88,8 @@ const OTHERS: [OtherCause; 3] = [
 ];
 
 const CHALLENGES: [PkceError; 2] = [PkceError::Length, PkceError::Memory];
+
+const BUILDS: [BuildUrlError; 2] = [BuildUrlError::TooLong, BuildUrlError::Memory];
 
 const REQUESTS: [PrepareError; 2] = [PrepareError::Uri, PrepareError::Memory];
 
@@ -130,6 +135,7 @@ fn token_layer(alloc: Global, kind: &str, variant: &str) -> Result<String, CaseE
         "Fault" => one_of(alloc, &FAULTS, variant),
         "OtherCause" => one_of(alloc, &OTHERS, variant),
         "PkceError" => one_of(alloc, &CHALLENGES, variant),
+        "BuildUrlError" => one_of(alloc, &BUILDS, variant),
         "PrepareError" => one_of(alloc, &REQUESTS, variant),
         "RequestTokenError" => request_error(alloc, variant),
         "UnexpectedType" => one_of(alloc, &TYPES, variant),

@@ -57,6 +57,20 @@ pub fn pair_url<M: Marker>(alloc: Global, line: &Pairs, name: &str) -> Result<Ur
     url_of(alloc, only_text(line, name)?)
 }
 
+/// The URL text of the one pair with this name, where there is such a pair.
+pub fn optional_url<M: Marker>(
+    alloc: Global,
+    line: &Pairs,
+    name: &str,
+) -> Result<Option<UrlText<M>>, LineError>
+    ensures { Reads (λ url. url) result (spec.optional_value url_of_text line.now name.now) }
+{
+    if lacks(line, name) {
+        return Ok(None);
+    }
+    Ok(Some(pair_url(alloc, line, name)?))
+}
+
 // A URL text, where the URL Standard takes it.
 fn url_of<M: Marker>(alloc: Global, text: &str) -> Result<UrlText<M>, LineError>
     ensures { Reads (λ url. url) result (url_of_text text.now) }

@@ -5,15 +5,16 @@ use crate::tests::oauth2::transports::{Down, Fleeting, TOKEN, echo};
 use http::StatusCode;
 use http_header::{CONTENT_TYPE, HeaderValue};
 use jiff::Timestamp;
-use oidc_keys::CoreJsonWebKeySet;
-use oidc_login::{AuthorizationRequest, Client, LoginError, Logins, NewLoginsError, SignedIn};
+use oidc_client::{AuthenticationFlow, Client, CoreAuthenticationFlow, CoreProviderMetadata};
+use oidc_login::{LoginClient, LoginError, LoginRequest, Logins, NewLoginsError, SignedIn};
 use oidc_oauth2::{
     Adapter, Answer, Body, Fault, HttpRequest, HttpResponse, Recorded, SyncHttpClient,
 };
 use oidc_types::{
-    AuthUrl, ClientId, ClientSecret, CoreJwsSigningAlgorithm, CsrfToken, IssuerUrl, Nonce,
-    PkceCodeVerifier, TokenUrl,
+    AuthUrl, ClientId, ClientSecret, CoreJwsSigningAlgorithm, CsrfToken, IssuerUrl,
+    JsonWebKeySetUrl, Nonce, PkceCodeVerifier, RedirectUrl, TokenUrl,
 };
+use oidc_user_info::EmptyAdditionalProviderMetadata;
 use std::alloc::{AllocError, Global};
 use std::test::Fail;
 
@@ -21,26 +22,33 @@ fn text(alloc: Global, text: &str) -> Result<String, Fail> {
     Ok(String::from_str(alloc, text)?)
 }
 
-fn names(alloc: Global) -> Result<(ClientId, ClientSecret), Fail> {
-    let id = ClientId::new(text(alloc, "aaa")?);
+fn names(alloc: Global, id: &str) -> Result<(ClientId, ClientSecret), Fail> {
+    let id = ClientId::new(text(alloc, id)?);
     let secret = ClientSecret::new(text(alloc, "bbb")?);
     Ok((id, secret))
 }
 
-fn urls(alloc: Global) -> Result<(IssuerUrl, AuthUrl), Fail> {
+// What the provider says of itself, with a token endpoint or without.
+fn provider(alloc: Global, token: Option<TokenUrl>) -> Result<CoreProviderMetadata, Fail> {
     let issuer = IssuerUrl::new(alloc, text(alloc, "https://example")?)?;
     let endpoint = AuthUrl::new(alloc, text(alloc, "https://example/authorize")?)?;
-    Ok((issuer, endpoint))
+    let keys = JsonWebKeySetUrl::new(alloc, text(alloc, "https://example/keys")?)?;
+    let algorithms = [CoreJwsSigningAlgorithm::HmacSha256].to_vec(alloc)?;
+    let more = EmptyAdditionalProviderMetadata {};
+    let provider = CoreProviderMetadata::new(alloc, issuer, endpoint, keys, algorithms, more);
+    Ok(provider.set_token_endpoint(token))
 }
 
-// The client that the token is for, without a token endpoint. What is tried at a client stands in
-// functions that borrow it.
-fn client(alloc: Global) -> Result<Client, Fail> {
-    let (id, secret) = names(alloc)?;
-    let algorithms = [CoreJwsSigningAlgorithm::HmacSha256].to_vec(alloc)?;
-    let (issuer, endpoint) = urls(alloc)?;
-    let keys = CoreJsonWebKeySet::new(Vec::new(alloc));
-    Ok(Client::new(id, Some(secret), issuer, keys, endpoint, algorithms))
+// A client of this ID. What is tried at a client stands in functions that borrow it.
+fn client_of(alloc: Global, id: &str, token: Option<TokenUrl>) -> Result<LoginClient, Fail> {
+    let (id, secret) = names(alloc, id)?;
+    let provider = provider(alloc, token)?;
+    Ok(Client::from_provider_metadata(provider, id, Some(secret)))
+}
+
+// The client that the token is for, without a token endpoint.
+fn client(alloc: Global) -> Result<LoginClient, Fail> {
+    client_of(alloc, "aaa", None)
 }
 
 // A token endpoint of so many bytes behind `https://example/`.
@@ -51,19 +59,26 @@ fn token_endpoint(alloc: Global, len: usize) -> Result<TokenUrl, Fail> {
 }
 
 // The same client, with such a token endpoint.
-fn client_with(alloc: Global, len: usize) -> Result<Client, Fail> {
-    let endpoint = token_endpoint(alloc, len)?;
-    let client = client(alloc)?;
-    Ok(client.set_token_uri(endpoint))
+fn client_with(alloc: Global, len: usize) -> Result<LoginClient, Fail> {
+    client_of(alloc, "aaa", Some(token_endpoint(alloc, len)?))
 }
 
-// Begins a login.
-fn begin(alloc: Global, logins: &mut Logins<'_>) -> Result<(), Fail> {
+// A client's request of a flow.
+fn request<'c>(
+    alloc: Global,
+    client: &'c LoginClient,
+    flow: CoreAuthenticationFlow,
+) -> Result<LoginRequest<'c>, Fail> {
     let state = CsrfToken::new(text(alloc, "CSRF123")?);
     let nonce = Nonce::new(text(alloc, "NONCE456")?);
+    Ok(client.authorize_url(alloc, flow, move || state, move || nonce)?)
+}
+
+// Begins a login with a request of this client.
+fn begin<'c>(alloc: Global, client: &'c LoginClient, logins: &mut Logins<'c>) -> Result<(), Fail> {
+    let request = request(alloc, client, AuthenticationFlow::AuthorizationCode)?;
     let verifier = text(alloc, "dBjftJeZ4CVP-mB92K27uhbUJU1p1r_wW1gFWFOEjXk")?;
-    let verifier = PkceCodeVerifier::new(verifier);
-    let _ = logins.begin(AuthorizationRequest::new(state, nonce), verifier)?;
+    let _ = logins.begin(request, PkceCodeVerifier::new(verifier))?;
     Ok(())
 }
 
@@ -155,15 +170,16 @@ fn called_back<E: Drop, H: SyncHttpClient<Error = E>>(
 
 // A login in this store over any transport, in one line: whether its state alone is pending before its
 // callback, whether it is pending after it, and what the callback answers.
-fn login_in<E: Drop, H: SyncHttpClient<Error = E>>(
+fn login_in<'c, E: Drop, H: SyncHttpClient<Error = E>>(
     alloc: Global,
-    logins: &mut Logins<'_>,
+    client: &'c LoginClient,
+    logins: &mut Logins<'c>,
     http: &mut H,
 ) -> Result<String, Fail>
     requires { H.ready http.old }
     ensures { H.ready http.new }
 {
-    begin(alloc, logins)?;
+    begin(alloc, client, logins)?;
     let before = logins.is_pending("CSRF123") && !logins.is_pending("CSRF12");
     let answered = called_back(alloc, logins, http)?;
     let after = logins.is_pending("CSRF123");
@@ -173,20 +189,20 @@ fn login_in<E: Drop, H: SyncHttpClient<Error = E>>(
 // A login at this client.
 fn login<E: Drop, H: SyncHttpClient<Error = E>>(
     alloc: Global,
-    client: &Client,
+    client: &LoginClient,
     http: &mut H,
 ) -> Result<String, Fail>
     requires { H.ready http.old }
     ensures { H.ready http.new }
 {
     let mut logins = Logins::new(alloc, client)?;
-    login_in(alloc, &mut logins, http)
+    login_in(alloc, client, &mut logins, http)
 }
 
 // ---- in memory
 
 // How many requests are handed over at a login at this client, and its line.
-fn login_over(alloc: Global, client: &Client, given: Given) -> Result<String, Fail> {
+fn login_over(alloc: Global, client: &LoginClient, given: Given) -> Result<String, Fail> {
     let mut http = Recorded::new(alloc, answers(alloc, given)?);
     let line = login(alloc, client, &mut http)?;
     Ok(format!(in alloc; "{} {line}", http.requests().len())?)
@@ -266,6 +282,136 @@ fn callbacks_over_each_transport(rt: HostRuntime) -> Result<(), Fail> {
     Ok(())
 }
 
+// ---- begins
+
+fn flow_of(alloc: Global, flow: &str) -> CoreAuthenticationFlow {
+    match flow {
+        "id_token" => AuthenticationFlow::Implicit(false),
+        "id_token token" => AuthenticationFlow::Implicit(true),
+        "hybrid" => AuthenticationFlow::Hybrid(Vec::new(alloc)),
+        _ => AuthenticationFlow::AuthorizationCode,
+    }
+}
+
+// What the store of a client answers to a begin with another client's request and a verifier of so many
+// letters, and how many logins are pending after it.
+fn begun<'c>(
+    alloc: Global,
+    client: &'c LoginClient,
+    other: &'c LoginClient,
+    flow: &str,
+    letters: usize,
+) -> Result<String, Fail> {
+    let mut logins = Logins::new(alloc, client)?;
+    let request = request(alloc, other, flow_of(alloc, flow))?;
+    let verifier = PkceCodeVerifier::new("v".repeat(alloc, letters)?);
+    match logins.begin(request, verifier) {
+        Ok(_) => Ok(format!(in alloc; "ok {}", logins.pending())?),
+        Err(error) => Ok(format!(in alloc; "{error} {}", logins.pending())?),
+    }
+}
+
+fn begun_line(alloc: Global, other: &str, flow: &str, letters: usize) -> Result<String, Fail> {
+    let client = client_with(alloc, 5)?;
+    let other = client_of(alloc, other, None)?;
+    begun(alloc, &client, &other, flow, letters)
+}
+
+// The ID of the client that makes the request, the flow, the letters of the verifier, and the line: the first
+// refusal is answered.
+static BEGINS: [(&str, &str, usize, &str); 8] = [
+    ("aaa", "code", 43, "ok 1"),
+    (
+        "aaa",
+        "id_token",
+        43,
+        "the request isn't for a code alone 0",
+    ),
+    (
+        "aaa",
+        "id_token token",
+        43,
+        "the request isn't for a code alone 0",
+    ),
+    ("aaa", "hybrid", 43, "the request isn't for a code alone 0"),
+    ("aab", "hybrid", 42, "the request isn't for a code alone 0"),
+    ("aab", "code", 43, "the request is another client's 0"),
+    ("aab", "code", 42, "the request is another client's 0"),
+    ("aaa", "code", 42, "the verifier hasn't 43 to 128 bytes 0"),
+];
+
+#[test]
+fn begins_with_requests_of_other_clients_and_flows(rt: HostRuntime) -> Result<(), Fail> {
+    for (other, flow, letters, wanted) in &BEGINS {
+        assert_eq!(rt;
+            begun_line(rt.alloc(), other, flow, *letters)?.as_str(),
+            *wanted,
+            "{wanted}"
+        );
+    }
+    Ok(())
+}
+
+// A client with this redirect, or none.
+fn client_sending(alloc: Global, redirect: Option<&str>) -> Result<LoginClient, Fail> {
+    let client = client_with(alloc, 5)?;
+    match redirect {
+        None => Ok(client),
+        Some(redirect) => {
+            Ok(client.set_redirect_uri(RedirectUrl::new(alloc, text(alloc, redirect)?)?))
+        }
+    }
+}
+
+// The body of the token request of a login in the store of a client, which began with another client's request.
+fn body_sent<'c>(
+    alloc: Global,
+    client: &'c LoginClient,
+    other: &'c LoginClient,
+) -> Result<String, Fail> {
+    let mut logins = Logins::new(alloc, client)?;
+    begin(alloc, other, &mut logins)?;
+    let mut http = Recorded::new(alloc, Vec::new(alloc));
+    let _ = called_back(alloc, &mut logins, &mut http)?;
+    match http.requests() {
+        [request] => Ok(String::from_utf8(request.body().as_slice().to_vec(alloc)?)?),
+        _ => text(alloc, "none"),
+    }
+}
+
+fn body_line(alloc: Global, own: Option<&str>, other: Option<&str>) -> Result<String, Fail> {
+    let client = client_sending(alloc, own)?;
+    let other = client_sending(alloc, other)?;
+    body_sent(alloc, &client, &other)
+}
+
+// The redirect of the store's client, that of the client that makes the request, and the body.
+static BODIES: [(Option<&str>, Option<&str>, &str); 3] = [
+    (
+        Some("https://own/"),
+        None,
+        "grant_type=authorization_code&code=c1&code_verifier=dBjftJeZ4CVP-mB92K27uhbUJU1p1r_wW1gFWFOEjXk",
+    ),
+    (
+        None,
+        Some("https://other/"),
+        "grant_type=authorization_code&code=c1&code_verifier=dBjftJeZ4CVP-mB92K27uhbUJU1p1r_wW1gFWFOEjXk&redirect_uri=https%3A%2F%2Fother%2F",
+    ),
+    (
+        Some("https://own/"),
+        Some("https://other/"),
+        "grant_type=authorization_code&code=c1&code_verifier=dBjftJeZ4CVP-mB92K27uhbUJU1p1r_wW1gFWFOEjXk&redirect_uri=https%3A%2F%2Fother%2F",
+    ),
+];
+
+#[test]
+fn redirects_are_those_of_the_client_that_made_the_request(rt: HostRuntime) -> Result<(), Fail> {
+    for (own, other, wanted) in &BODIES {
+        assert_eq!(rt; body_line(rt.alloc(), *own, *other)?.as_str(), *wanted);
+    }
+    Ok(())
+}
+
 // ---- over a closure, and over a transport of the test's own
 
 // A login over a closure that always answers, or never does, and how often it has failed.
@@ -296,7 +442,7 @@ fn callbacks_over_closures(rt: HostRuntime) -> Result<(), Fail> {
 }
 
 // Two logins at this client over a transport that answers one request alone, and its counts.
-fn two_logins(alloc: Global, client: &Client) -> Result<String, Fail> {
+fn two_logins(alloc: Global, client: &LoginClient) -> Result<String, Fail> {
     let mut http = Fleeting::new();
     let first = login(alloc, client, &mut http)?;
     let second = login(alloc, client, &mut http)?;

@@ -57,6 +57,7 @@ loop-line-preserved g c =
       put = rw same at so_far;
       fault = sym (later_fault s.number c.in_ok-event.event (lines s.left.now) c.in-Some.line.now (lines c.in-Some.rest.now) c.in-Some.ensures.first c.in_ok-event.ensures step)
           ∙ s.invariant.fault;
+      same = c.in_ok-put_step.ensures.client ∙ s.invariant.same;
       counts = omega arith;
       numbered = let shorter = c.in-Some.ensures.shorter in omega arith;
     }

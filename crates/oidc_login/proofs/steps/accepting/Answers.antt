@@ -5,14 +5,14 @@ use Rattle.oidc_login.proofs.steps.accepting.Goals as goal
 
 pub returns-in-Ok-claims-clause-gives : goal.returns-in-Ok-claims-clause-gives
 returns-in-Ok-claims-clause-gives g c =
-    let same = same_failure c.args.client.now c.args.now.nanosecond c.args.login.now c.args.token.now c.args.access_token.now c.in-Ok.verifier _ c.in-Ok.ensures (ap (λ (l : SeenLogin). l.nonce) c.login.view_is) in
+    let same = same_failure c.args.client.now c.args.now.nanosecond c.args.login.now c.args.token.now c.args.access_token.now c.in-Ok.verifier _ c.in-Ok.ensures.verifier (ap (λ (l : SeenLogin). l.nonce) c.login.view_is) in
     passed c.args.client.now c.args.now.nanosecond c.args.login.now c.args.token.now c.args.access_token.now c.check_hash.result
     (sym same ∙ c.in-Ok-claims.ensures.judged)
-    (same_hash c.args.client.now c.args.now.nanosecond c.args.login.now c.args.token.now c.args.access_token.now c.check_hash.result c.in-Ok.verifier c.in-Ok.ensures c.check_hash.ensures.gives)
+    (same_hash c.args.client.now c.args.now.nanosecond c.args.login.now c.args.token.now c.args.access_token.now c.check_hash.result c.in-Ok.verifier c.in-Ok.ensures.verifier c.check_hash.ensures.gives)
 
 pub returns : goal.returns
 returns g c =
-    let same = same_failure c.args.client.now c.args.now.nanosecond c.args.login.now c.args.token.now c.args.access_token.now c.in-Ok.verifier _ c.in-Ok.ensures (ap (λ (l : SeenLogin). l.nonce) c.login.view_is) in
+    let same = same_failure c.args.client.now c.args.now.nanosecond c.args.login.now c.args.token.now c.args.access_token.now c.in-Ok.verifier _ c.in-Ok.ensures.verifier (ap (λ (l : SeenLogin). l.nonce) c.login.view_is) in
     record {
       gives = rw c.of_check.ensures (refused_by c.args.client.now c.args.now.nanosecond c.args.login.now c.args.token.now c.args.access_token.now _ (Unit {0}) _ same c.in-Err.error c.in-Err.ensures.judged);
       no_fault = rw c.of_check.ensures (of_check_no_fault _ c.in-Err.error);
