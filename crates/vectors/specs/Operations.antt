@@ -2,7 +2,7 @@
 use Rattle.std.specs.Prelude.{ℕ, List, [], ◌∷◌, Option, codes, find}
 use Rattle.std.specs.Str.{bytes_eq}
 use Rattle.vectors.specs.declared.operations.Operation.{Operation}
-use Rattle.vectors.specs.declared.operations.Operation.TheVariants.{Pairs, Members, Standard, Url, Join, Word, Localized, Random, Hmac, Verdict, Digest, Challenge, Display, Run, TokenResponse, ErrorResponse, DeviceError, RevocationError, DeviceResponse, Introspection, TokenType, Essence, Bearer, CodeRequest, TokenAnswer, Header, IdClaims, IdToken, Verify, Hash, Issue, InfoClaims, InfoRequest, InfoAnswer, InfoIssue}
+use Rattle.vectors.specs.declared.operations.Operation.TheVariants.{Pairs, Members, Standard, Url, Join, Word, Localized, Random, Hmac, Verdict, Digest, Challenge, Display, Run, TokenResponse, ErrorResponse, DeviceError, RevocationError, DeviceResponse, Introspection, TokenType, Essence, Bearer, CodeRequest, TokenAnswer, Header, IdClaims, IdToken, Verify, Hash, Issue, InfoClaims, InfoRequest, InfoAnswer, InfoIssue, Authorize}
 
 -- the name of an operation, the value of `op`
 abbrev pub operation_name : Operation → List ℕ
@@ -41,12 +41,13 @@ operation_name InfoClaims = codes "info_claims"
 operation_name InfoRequest = codes "info_request"
 operation_name InfoAnswer = codes "info_answer"
 operation_name InfoIssue = codes "info_issue"
+operation_name Authorize = codes "authorize"
 
 -- all operations
 abbrev pub operations : List Operation
 operations = Pairs ∷ Members ∷ Standard ∷ Url ∷ Join ∷ Word ∷ Localized ∷ Random ∷ Hmac ∷ Verdict ∷ Digest ∷ Challenge ∷ Display ∷ Run
     ∷ TokenResponse ∷ ErrorResponse ∷ DeviceError ∷ RevocationError ∷ DeviceResponse ∷ Introspection ∷ TokenType ∷ Essence ∷ Bearer ∷ CodeRequest ∷ TokenAnswer
-    ∷ Header ∷ IdClaims ∷ IdToken ∷ Verify ∷ Hash ∷ Issue ∷ InfoClaims ∷ InfoRequest ∷ InfoAnswer ∷ InfoIssue ∷ []
+    ∷ Header ∷ IdClaims ∷ IdToken ∷ Verify ∷ Hash ∷ Issue ∷ InfoClaims ∷ InfoRequest ∷ InfoAnswer ∷ InfoIssue ∷ Authorize ∷ []
 
 -- the operation of that name
 abbrev pub operation_of : List ℕ → Option Operation

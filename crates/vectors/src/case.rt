@@ -64,18 +64,18 @@ impl Case {
 
     /// The same, where each of `optional` may stand once too.
     pub(crate) fn check_with(&self, names: &[&str], optional: &[&str]) -> Result<(), CaseError> {
-        self.check_all(names, optional, None)
+        self.check_all(names, optional, &[])
     }
 
-    /// The same, where `repeated` may stand too, as often as it likes.
+    /// The same, where each of `repeated` may stand too, as often as it likes.
     pub(crate) fn check_all(
         &self,
         names: &[&str],
         optional: &[&str],
-        repeated: Option<&str>,
+        repeated: &[&str],
     ) -> Result<(), CaseError> {
         for pair in self.pairs() {
-            if !is_name(pair.name(), repeated) {
+            if !is_one_of(pair.name(), repeated) {
                 self.check_name(pair.name(), names, optional)?;
             }
         }
@@ -84,7 +84,7 @@ impl Case {
 
     // Whether a name is one of these, and stands once.
     fn check_name(&self, name: &str, names: &[&str], optional: &[&str]) -> Result<(), CaseError> {
-        if !names.contains(&name) && !optional.contains(&name) {
+        if !is_one_of(name, names) && !is_one_of(name, optional) {
             return Err(CaseError::NoCase);
         }
         self.check_once(name)
@@ -120,12 +120,9 @@ impl Case {
     }
 }
 
-// Whether a name is this one, where there is one.
-fn is_name(name: &str, wanted: Option<&str>) -> bool {
-    match wanted {
-        Some(wanted) => name == wanted,
-        None => false,
-    }
+// Whether a name is one of these.
+fn is_one_of(name: &str, names: &[&str]) -> bool {
+    names.contains(&name)
 }
 
 /// The bytes that hexadecimal digits are.

@@ -13,8 +13,8 @@ use oidc_oauth2::{
     OtherCause, PkceError, PrepareError, RequestTokenError, StandardErrorResponse, UnexpectedType,
 };
 use oidc_tokens::{ClaimsVerificationError, JsonWebTokenError};
-use oidc_types::{SigningError, UrlTextError};
-use oidc_user_info::{InfoOther, PrepareInfoError, ResponseCause, UserInfoError};
+use oidc_types::{CoreAuthErrorResponseType, SigningError, UrlTextError};
+use oidc_user_info::{BuildUrlError, InfoOther, PrepareInfoError, ResponseCause, UserInfoError};
 use std::alloc::Global;
 use std::fmt::{Debug, Display};
 
@@ -56,11 +56,21 @@ const CLAIMS: [ClaimsVerificationError; 8] = [
     ClaimsVerificationError::Memory,
 ];
 
+const PLACES: [TooLong; 3] = [
+    TooLong::Callback,
+    TooLong::TokenAnswer,
+    TooLong::UserInfoAnswer,
+];
+
 const STORES: [NewLoginsError; 1] = [NewLoginsError::TokenEndpoint];
 
-const BEGINS: [BeginError; 3] = [
+const BEGINS: [BeginError; 7] = [
+    BeginError::Flow,
+    BeginError::ClientId,
     BeginError::Verifier,
+    BeginError::UserInfoEndpoint,
     BeginError::Pending,
+    BeginError::TooLong,
     BeginError::Memory,
 ];
 
@@ -85,6 +95,8 @@ const OTHERS: [OtherCause; 3] = [
 ];
 
 const CHALLENGES: [PkceError; 2] = [PkceError::Length, PkceError::Memory];
+
+const BUILDS: [BuildUrlError; 2] = [BuildUrlError::TooLong, BuildUrlError::Memory];
 
 const REQUESTS: [PrepareError; 2] = [PrepareError::Uri, PrepareError::Memory];
 
@@ -117,6 +129,7 @@ pub(crate) fn display(alloc: Global, case: &Case) -> Result<String, CaseError> {
         "PlacedError" => placed_error(alloc, variant),
         "SignatureVerificationError" => one_of(alloc, &SIGNATURES, variant),
         "SigningError" => signing_error(alloc, variant),
+        "TooLong" => one_of(alloc, &PLACES, variant),
         "UrlTextError" => one_of(alloc, &URLS, variant),
         kind => token_layer(alloc, kind, variant),
     }
@@ -130,6 +143,7 @@ fn token_layer(alloc: Global, kind: &str, variant: &str) -> Result<String, CaseE
         "Fault" => one_of(alloc, &FAULTS, variant),
         "OtherCause" => one_of(alloc, &OTHERS, variant),
         "PkceError" => one_of(alloc, &CHALLENGES, variant),
+        "BuildUrlError" => one_of(alloc, &BUILDS, variant),
         "PrepareError" => one_of(alloc, &REQUESTS, variant),
         "RequestTokenError" => request_error(alloc, variant),
         "UnexpectedType" => one_of(alloc, &TYPES, variant),
@@ -178,16 +192,17 @@ fn request_error(alloc: Global, variant: &str) -> Result<String, CaseError> {
 
 fn login_error(alloc: Global, variant: &str) -> Result<String, CaseError> {
     let none = FieldName::new(String::from_str(alloc, "ES256")?);
-    let all: [LoginError<Fault>; 10] = [
+    let all: [LoginError<Fault>; 11] = [
         LoginError::TooLong(TooLong::TokenAnswer),
         LoginError::State,
-        LoginError::Unbuilt,
+        LoginError::Provider(CoreAuthErrorResponseType::AccessDenied),
         LoginError::Callback,
         LoginError::Token(RequestTokenError::Request(Fault)),
         LoginError::NoIdToken,
         LoginError::Claims(ClaimsVerificationError::Expired),
         LoginError::Signing(SigningError::UnsupportedAlg(none)),
         LoginError::TokenHash,
+        LoginError::UserInfo(UserInfoError::Request(Fault)),
         LoginError::Memory { spent: false },
     ];
     one_of(alloc, &all, variant)

@@ -33,21 +33,51 @@ type Request<'a> = CodeTokenRequest<'a, Refused, Tokens<EmptyExtraTokenFields>>;
 pub(crate) fn code_request(alloc: Global, case: &Case) -> Result<String, CaseError> {
     let required = ["endpoint", "id", "auth", "code"];
     let optional = ["secret", "verifier", "redirect"];
-    case.check_all(&required, &optional, Some("extra"))?;
-    let endpoint: TokenUrl = url_of(alloc, case.value("endpoint"))?;
+    case.check_all(&required, &optional, &["extra"])?;
+    let sender = sender_in(alloc, case)?;
+    let request = request_in(alloc, case, &sender)?;
+    prepared_line(alloc, request)
+}
+
+// Who asks where, and the redirect of the login.
+#[derive(Drop)]
+struct Sender {
+    endpoint: TokenUrl,
+    id: ClientId,
+    secret: Option<ClientSecret>,
+    redirect: Option<RedirectUrl>,
+}
+
+fn sender_in(alloc: Global, case: &Case) -> Result<Sender, CaseError> {
+    let endpoint = url_of(alloc, case.value("endpoint"))?;
     let id = ClientId::new(String::from_str(alloc, case.value("id"))?);
     let secret = secret_in(alloc, case)?;
     let redirect = redirect_in(alloc, case)?;
+    Ok(Sender {
+        endpoint,
+        id,
+        secret,
+        redirect,
+    })
+}
+
+fn request_in<'a>(
+    alloc: Global,
+    case: &Case,
+    sender: &'a Sender,
+) -> Result<Request<'a>, CaseError> {
     let auth = ClientAuth {
-        client_id: &id,
-        client_secret: secret.as_ref(),
+        client_id: &sender.id,
+        client_secret: sender.secret.as_ref(),
         auth_type: auth_type(case.value("auth"))?,
     };
     let code = AuthorizationCode::new(String::from_str(alloc, case.value("code"))?);
-    let request: Request<'_> = Request::new(alloc, &endpoint, auth, code);
-    let request = with_redirect(request, redirect.as_ref());
-    let request = with_verifier(alloc, request, case)?;
-    let request = with_extra(alloc, request, case)?;
+    let request = Request::new(alloc, &sender.endpoint, auth, code);
+    let request = with_redirect(request, sender.redirect.as_ref());
+    with_extra(alloc, with_verifier(alloc, request, case)?, case)
+}
+
+fn prepared_line(alloc: Global, request: Request<'_>) -> Result<String, CaseError> {
     match request.prepare(alloc) {
         Ok(request) => request_line(alloc, &request),
         Err(PrepareError::Uri) => refused_word(alloc, "uri"),
@@ -122,8 +152,8 @@ fn with_extra<'a>(
     Ok(request)
 }
 
-// The one pair of a form text.
-fn extra_in(alloc: Global, text: &str) -> Result<(String, String), CaseError> {
+/// The one pair of a form text.
+pub(crate) fn extra_in(alloc: Global, text: &str) -> Result<(String, String), CaseError> {
     let pairs = Pairs::parse(alloc, text.as_bytes())?;
     match pairs.as_slice() {
         [pair] => {

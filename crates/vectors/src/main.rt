@@ -9,6 +9,7 @@
 #![tactic(auto)]
 
 mod answers;
+mod authorization;
 mod case;
 mod claims;
 mod displays;

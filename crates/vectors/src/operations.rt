@@ -5,8 +5,8 @@ ghost use Rattle.vectors.specs.Operations.{operation_of};
 
 use crate::case::{Case, CaseError};
 use crate::{
-    claims, displays, exchanges, headers, keys, members, pkce, records, scripts, tokens, types,
-    user_info, verifiers, vocabularies,
+    authorization, claims, displays, exchanges, headers, keys, members, pkce, records, scripts,
+    tokens, types, user_info, verifiers, vocabularies,
 };
 use std::alloc::Global;
 
@@ -48,6 +48,7 @@ pub(crate) enum Operation {
     InfoRequest,
     InfoAnswer,
     InfoIssue,
+    Authorize,
 }
 
 /// The operation of that name.
@@ -90,6 +91,7 @@ pub(crate) fn operation_named(name: &str) -> Option<Operation>
         "info_request" => Some(Operation::InfoRequest),
         "info_answer" => Some(Operation::InfoAnswer),
         "info_issue" => Some(Operation::InfoIssue),
+        "authorize" => Some(Operation::Authorize),
         _ => None,
     }
 }
@@ -133,6 +135,7 @@ impl Operation {
             Operation::InfoRequest => user_info::info_request(alloc, case),
             Operation::InfoAnswer => user_info::info_answer(alloc, case),
             Operation::InfoIssue => user_info::info_issue(alloc, case),
+            Operation::Authorize => authorization::authorize(alloc, case),
         }
     }
 }

@@ -230,19 +230,49 @@ pub(crate) fn issue(alloc: Global, case: &Case) -> Result<String, CaseError> {
     case.check_with(&["claims", "secret", "alg"], &["access_token", "code"])?;
     let alg = algorithm(case.value("alg"))?;
     let claims = claims_of(alloc, case.value("claims"))?;
+    let handed = handed_in(alloc, case)?;
+    issued_line(alloc, claims, &handed, alg)
+}
+
+// The signer, and what comes beside the token.
+#[derive(Drop)]
+struct Handed {
+    key: CoreHmacKey,
+    access_token: Option<AccessToken>,
+    code: Option<AuthorizationCode>,
+}
+
+fn handed_in(alloc: Global, case: &Case) -> Result<Handed, AllocError> {
     let key = CoreHmacKey::new(Vec::from_slice(alloc, case.value("secret").as_bytes())?);
     let access_token = access_token_in(alloc, case)?;
     let code = code_in(alloc, case)?;
-    match Token::new(
-        alloc,
-        claims,
-        &key,
-        alg,
-        access_token.as_ref(),
-        code.as_ref(),
-    ) {
-        Ok(token) => ok_pair(alloc, "token", token.to_string(alloc)?.as_str()),
-        Err(JsonWebTokenError::SigningError(refusal)) => unsigned_line(alloc, &refusal),
+    Ok(Handed {
+        key,
+        access_token,
+        code,
+    })
+}
+
+fn issued_line(
+    alloc: Global,
+    claims: Claims,
+    handed: &Handed,
+    alg: CoreJwsSigningAlgorithm,
+) -> Result<String, CaseError> {
+    let (access_token, code) = (handed.access_token.as_ref(), handed.code.as_ref());
+    let issued = Token::new(alloc, claims, &handed.key, alg, access_token, code);
+    let line = token_or_refusal(alloc, &issued);
+    drop(issued);
+    line
+}
+
+fn token_or_refusal(
+    alloc: Global,
+    issued: &Result<Token, JsonWebTokenError>,
+) -> Result<String, CaseError> {
+    match issued {
+        Ok(token) => ok_pair(alloc, "token", token.token().as_str()),
+        Err(JsonWebTokenError::SigningError(refusal)) => unsigned_line(alloc, refusal),
         Err(JsonWebTokenError::Memory) => Err(CaseError::Memory),
     }
 }

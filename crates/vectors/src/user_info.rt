@@ -6,7 +6,7 @@ use crate::exchanges::{parse_line, request_line, response_in, url_of};
 use crate::keys::algorithm;
 use crate::tokens::unsigned_line;
 use crate::verifier_keys::VerifierKey;
-use crate::verifiers::keys_in;
+use crate::verifiers::{Parties, parties_in};
 use crate::words::claims_word;
 use oidc_claims::{AdditionalClaims, AllOtherClaims};
 use oidc_keys::{CoreHmacKey, JsonWebKeySet};
@@ -15,7 +15,7 @@ use oidc_pairs::FormText;
 use oidc_tokens::{ClaimsVerificationError, JsonWebTokenError, Payload, UserInfoVerifier};
 use oidc_types::{
     AccessToken, ClientId, CoreGenderClaim, CoreJweContentEncryptionAlgorithm,
-    CoreJwsSigningAlgorithm, IssuerUrl, SubjectIdentifier, UserInfoUrl,
+    CoreJwsSigningAlgorithm, SubjectIdentifier, UserInfoUrl,
 };
 use oidc_user_info::{
     InfoOther, PrepareInfoError, ResponseCause, UserInfoClaims, UserInfoError,
@@ -72,14 +72,29 @@ fn written_claims(alloc: Global, claims: &Claims) -> Result<String, CaseError> {
 /// `info_request`: the request for user info.
 pub(crate) fn info_request(alloc: Global, case: &Case) -> Result<String, CaseError> {
     case.check(&["endpoint", "token", "accept"])?;
+    let accepts = response_type(case.value("accept"))?;
     let endpoint: UserInfoUrl = url_of(alloc, case.value("endpoint"))?;
-    let issuer: IssuerUrl = url_of(alloc, case.value("endpoint"))?;
-    let id = ClientId::new(String::new(alloc));
-    let keys = JsonWebKeySet::new(Vec::new(alloc));
-    let verifier = Verifier::new(&id, &issuer, &keys, None);
+    let parties = nobody(alloc)?;
     let token = AccessToken::new(String::from_str(alloc, case.value("token"))?);
-    let request = Request::new(&endpoint, token, verifier);
-    let request = request.set_response_type(response_type(case.value("accept"))?);
+    let request = Request::new(&endpoint, token, verifier_of(&parties, None));
+    prepared_line(alloc, request.set_response_type(accepts))
+}
+
+// Parties for a request whose answer nobody judges.
+fn nobody(alloc: Global) -> Result<Parties, CaseError> {
+    let issuer = url_of(alloc, "https://example")?;
+    Ok(Parties {
+        id: ClientId::new(String::new(alloc)),
+        issuer,
+        keys: JsonWebKeySet::new(Vec::new(alloc)),
+    })
+}
+
+fn verifier_of<'a>(parties: &'a Parties, subject: Option<SubjectIdentifier>) -> Verifier<'a> {
+    Verifier::new(&parties.id, &parties.issuer, &parties.keys, subject)
+}
+
+fn prepared_line(alloc: Global, request: Request<'_>) -> Result<String, CaseError> {
     match request.prepare(alloc) {
         Ok(request) => request_line(alloc, &request),
         Err(PrepareInfoError::Bearer) => refused_word(alloc, "bearer"),
@@ -102,46 +117,27 @@ fn response_type(text: &str) -> Result<UserInfoResponseType, CaseError> {
 pub(crate) fn info_answer(alloc: Global, case: &Case) -> Result<String, CaseError> {
     let required = ["status", "body", "id", "issuer"];
     let optional = ["type", "subject", "signed", "any_issuer", "any_audience"];
-    case.check_all(&required, &optional, Some("key"))?;
-    let expected = expected_in(alloc, case)?;
+    case.check_all(&required, &optional, &["key"])?;
+    let endpoint: UserInfoUrl = url_of(alloc, "https://example/userinfo")?;
+    let parties = parties_in(alloc, case)?;
     let mut http = transport(alloc, case)?;
-    let request = request_in(alloc, case, &expected)?;
+    let request = request_in(alloc, case, &endpoint, &parties)?;
     reply_line(alloc, request, &mut http)
-}
-
-// What a line expects of an answer, and where it comes from.
-#[derive(Drop)]
-struct Expected {
-    endpoint: UserInfoUrl,
-    id: ClientId,
-    issuer: IssuerUrl,
-    keys: JsonWebKeySet<VerifierKey>,
-}
-
-fn expected_in(alloc: Global, case: &Case) -> Result<Expected, CaseError> {
-    let endpoint = url_of(alloc, "https://example/userinfo")?;
-    let id = ClientId::new(String::from_str(alloc, case.value("id"))?);
-    let issuer = url_of(alloc, case.value("issuer"))?;
-    let keys = keys_in(alloc, case)?;
-    Ok(Expected {
-        endpoint,
-        id,
-        issuer,
-        keys,
-    })
 }
 
 // The request, with the subject and the switches of a line.
 fn request_in<'a>(
     alloc: Global,
     case: &Case,
-    expected: &'a Expected,
+    endpoint: &'a UserInfoUrl,
+    parties: &'a Parties,
 ) -> Result<Request<'a>, CaseError> {
     let subject = subject_in(alloc, case)?;
     let token = AccessToken::new(String::from_str(alloc, "abc")?);
-    let verifier = Verifier::new(&expected.id, &expected.issuer, &expected.keys, subject);
-    let request = Request::new(&expected.endpoint, token, verifier);
-    switched(case, request)
+    switched(
+        case,
+        Request::new(endpoint, token, verifier_of(parties, subject)),
+    )
 }
 
 fn switched<'a>(case: &Case, request: Request<'a>) -> Result<Request<'a>, CaseError> {
@@ -226,9 +222,19 @@ pub(crate) fn info_issue(alloc: Global, case: &Case) -> Result<String, CaseError
     let alg = algorithm(case.value("alg"))?;
     let claims = claims_of(alloc, case.value("claims"))?;
     let key = CoreHmacKey::new(Vec::from_slice(alloc, case.value("secret").as_bytes())?);
-    match Token::new(alloc, claims, &key, alg) {
+    let issued = Token::new(alloc, claims, &key, alg);
+    let line = token_or_refusal(alloc, &issued);
+    drop(issued);
+    line
+}
+
+fn token_or_refusal(
+    alloc: Global,
+    issued: &Result<Token, JsonWebTokenError>,
+) -> Result<String, CaseError> {
+    match issued {
         Ok(token) => ok_pair(alloc, "token", token.as_str()),
-        Err(JsonWebTokenError::SigningError(refusal)) => unsigned_line(alloc, &refusal),
+        Err(JsonWebTokenError::SigningError(refusal)) => unsigned_line(alloc, refusal),
         Err(JsonWebTokenError::Memory) => Err(CaseError::Memory),
     }
 }

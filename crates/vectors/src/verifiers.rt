@@ -4,7 +4,7 @@ use crate::answers::{ok_pair, refused_word};
 use crate::case::{Case, CaseError};
 use crate::exchanges::url_of;
 use crate::keys::algorithm;
-use crate::tokens::{token_of, written_claims};
+use crate::tokens::{Claims, Token, token_of, written_claims};
 use crate::types::number;
 use crate::verifier_keys::{VerifierKey, key_of};
 use crate::words::claims_word;
@@ -12,45 +12,81 @@ use jiff::Timestamp;
 use oidc_keys::JsonWebKeySet;
 use oidc_tokens::{ClaimsVerificationError, IdTokenVerifier};
 use oidc_types::{ClientId, ClientSecret, CoreJwsSigningAlgorithm, IssuerUrl, Nonce};
-use std::alloc::Global;
+use std::alloc::{AllocError, Global};
 
 /// `verify`: the claims of an ID token that a client accepts, or the first check that fails.
 pub(crate) fn verify(alloc: Global, case: &Case) -> Result<String, CaseError> {
     let required = ["token", "id", "issuer", "nonce", "now"];
-    case.check_all(&required, &["secret", "algs"], Some("key"))?;
+    case.check_all(&required, &["secret", "algs"], &["key"])?;
+    let parties = parties_in(alloc, case)?;
+    let verifier = verifier_in(alloc, case, &parties)?;
     let token = token_of(alloc, case.value("token"))?;
+    verdict_line(alloc, case, &verifier, &token)
+}
+
+/// Whom a token is for, who issues it, and by which keys.
+#[derive(Drop)]
+pub(crate) struct Parties {
+    pub(crate) id: ClientId,
+    pub(crate) issuer: IssuerUrl,
+    pub(crate) keys: JsonWebKeySet<VerifierKey>,
+}
+
+/// The parties that a line names by `id`, `issuer` and any `key`.
+pub(crate) fn parties_in(alloc: Global, case: &Case) -> Result<Parties, CaseError> {
     let id = ClientId::new(String::from_str(alloc, case.value("id"))?);
-    let issuer: IssuerUrl = url_of(alloc, case.value("issuer"))?;
+    let issuer = url_of(alloc, case.value("issuer"))?;
     let keys = keys_in(alloc, case)?;
-    let verifier = verifier_in(alloc, case, &id, &issuer, &keys)?;
+    Ok(Parties { id, issuer, keys })
+}
+
+// The verifier of a client with a list of algorithms, or without.
+fn verifier_in<'a>(
+    alloc: Global,
+    case: &Case,
+    parties: &'a Parties,
+) -> Result<IdTokenVerifier<'a, VerifierKey>, CaseError> {
+    let verifier = client_verifier(alloc, case.optional("secret"), parties)?;
+    match case.optional("algs") {
+        Some(algs) => Ok(verifier.set_allowed_algs(algorithms(alloc, algs)?)),
+        None => Ok(verifier),
+    }
+}
+
+// The verifier of a client with a secret, or without.
+fn client_verifier<'a>(
+    alloc: Global,
+    secret: Option<&str>,
+    parties: &'a Parties,
+) -> Result<IdTokenVerifier<'a, VerifierKey>, AllocError> {
+    let (id, issuer, keys) = (&parties.id, &parties.issuer, &parties.keys);
+    match secret {
+        Some(secret) => {
+            let secret = ClientSecret::new(String::from_str(alloc, secret)?);
+            IdTokenVerifier::new_confidential_client(alloc, id, &secret, issuer, keys)
+        }
+        None => Ok(IdTokenVerifier::new_public_client(id, issuer, keys)),
+    }
+}
+
+fn verdict_line(
+    alloc: Global,
+    case: &Case,
+    verifier: &IdTokenVerifier<'_, VerifierKey>,
+    token: &Token,
+) -> Result<String, CaseError> {
     let nonce = Nonce::new(String::from_str(alloc, case.value("nonce"))?);
     let now = moment(case.value("now"))?;
-    match token.claims(alloc, &verifier, &nonce, now) {
-        Ok(claims) => ok_pair(alloc, "written", written_claims(alloc, claims)?.as_str()),
+    match token.claims(alloc, verifier, &nonce, now) {
+        Ok(claims) => written_line(alloc, claims),
         Err(ClaimsVerificationError::Memory) => Err(CaseError::Memory),
         Err(refusal) => refused_word(alloc, claims_word(refusal)),
     }
 }
 
-// The verifier of a client with a secret, or without, and with a list of algorithms, or without.
-fn verifier_in<'a>(
-    alloc: Global,
-    case: &Case,
-    id: &'a ClientId,
-    issuer: &'a IssuerUrl,
-    keys: &'a JsonWebKeySet<VerifierKey>,
-) -> Result<IdTokenVerifier<'a, VerifierKey>, CaseError> {
-    let verifier = match case.optional("secret") {
-        Some(secret) => {
-            let secret = ClientSecret::new(String::from_str(alloc, secret)?);
-            IdTokenVerifier::new_confidential_client(alloc, id, &secret, issuer, keys)?
-        }
-        None => IdTokenVerifier::new_public_client(id, issuer, keys),
-    };
-    match case.optional("algs") {
-        Some(algs) => Ok(verifier.set_allowed_algs(algorithms(alloc, algs)?)),
-        None => Ok(verifier),
-    }
+fn written_line(alloc: Global, claims: &Claims) -> Result<String, CaseError> {
+    let written = written_claims(alloc, claims)?;
+    ok_pair(alloc, "written", written.as_str())
 }
 
 // The algorithms of a list, with a space between each two.
@@ -65,8 +101,8 @@ fn algorithms(alloc: Global, text: &str) -> Result<Vec<CoreJwsSigningAlgorithm>,
     Ok(algorithms)
 }
 
-/// The keys of the issuer, in their order.
-pub(crate) fn keys_in(alloc: Global, case: &Case) -> Result<JsonWebKeySet<VerifierKey>, CaseError> {
+// The keys of the issuer, in their order.
+fn keys_in(alloc: Global, case: &Case) -> Result<JsonWebKeySet<VerifierKey>, CaseError> {
     let mut keys = Vec::new(alloc);
     for pair in case.pairs() {
         if pair.name() == "key" {

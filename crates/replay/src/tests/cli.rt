@@ -297,6 +297,43 @@ fn address_limit(rt: HostRuntime) -> Result<(), Fail> {
     Ok(())
 }
 
+// ---- the limit of a URL
+
+const STATE_FRONT: &str =
+    "op=client&id=aaa&secret=bbb&issuer=https://example&auth=https://example/authorize&algs=HS256&token=https://example/token\nop=begin&nonce=NONCE456&verifier=dBjftJeZ4CVP-mB92K27uhbUJU1p1r_wW1gFWFOEjXk&state=";
+
+const URL_FRONT: &str =
+    "client ok\nbegin ok https://example/authorize?response_type=code&client_id=aaa&state=";
+
+const URL_REST: &str =
+    "&code_challenge=E9Melhoa2OwvFrEMTJguCHaoeK1t8URWbuGJSstw-cM&code_challenge_method=S256&scope=openid&nonce=NONCE456\npending 1\n";
+
+const TOO_LONG: &str = "client ok\nbegin refused too_long\npending 0\n";
+
+// Whether a begin with a state of so many letters is Ok, or refused for its URL.
+fn is_begun(alloc: Global, letters: usize, is_ok: bool) -> Result<bool, AllocError> {
+    let state = "a".repeat(alloc, letters)?;
+    let script = format!(in alloc; "{STATE_FRONT}{state}")?;
+    let wanted = if is_ok {
+        format!(in alloc; "{URL_FRONT}{state}{URL_REST}")?
+    } else {
+        String::from_str(alloc, TOO_LONG)?
+    };
+    let ran = ran(alloc, ",replay", script.into_bytes(), 0, 0, 2_097_152)?;
+    Ok(ran.status == DONE && ran.sink.bytes() == wanted.as_bytes())
+}
+
+// A URL has at most 1,048,576 bytes: beside this state it has 179.
+static STATES: [(usize, bool); 3] = [(1_048_397, true), (1_048_398, false), (1_048_576, false)];
+
+#[test]
+fn url_limit(rt: HostRuntime) -> Result<(), Fail> {
+    for (letters, is_ok) in &STATES {
+        assert!(rt; is_begun(rt.alloc(), *letters, *is_ok)?, "{letters}");
+    }
+    Ok(())
+}
+
 // ---- many logins
 
 const MANY: usize = 10_000;
