@@ -1,67 +1,28 @@
 #!/usr/bin/env python3
-"""Judges the answers of a provider, and answers the cases of crates/vectors of that: scripts (`run`), and
-the operations of oidc_oauth2 but `challenge`.
+"""Judges the answers of a provider, and answers the cases of crates/vectors of that: the operations of
+oidc_oauth2 but `challenge`. Those with an ID token are cases of crates/vectors_tokens.
 
     tools/plain_answers.py answers   reads cases from standard input, and answers each: a line each; a line of
                                      an operation that isn't in OPERATIONS comes back as it came
 
-It is a second reader of scripts beside oidc_cli, oidc_login and oidc_oauth2, over Python's json, hashlib,
-base64 and urllib.parse: RFC 6749 sections 2.3.1 and 4.1.2 to 5.2, RFC 6750 section 2.1, RFC 7009 section
-2.2.1, RFC 7636 section 4.2, RFC 7662 section 2.2, RFC 8628 sections 3.2 and 3.5, OpenID Connect Core 1.0
-sections 3.1.2.1 and 3.1.3.3. ID tokens are read and judged by plain_tokens.py. It takes URLs as they are
-written, so it is right where these are written as the URL Standard writes them, and it judges neither the URLs
-nor the algorithms of a script's client line.
+It is a second reader beside oidc_oauth2, over Python's json, base64 and urllib.parse: RFC 6749 sections 2.3.1 and
+4.1.2 to 5.2, RFC 6750 section 2.1, RFC 7009 section 2.2.1, RFC 7636 section 4.5, RFC 7662 section 2.2, RFC 8628
+sections 3.2 and 3.5, OpenID Connect Core 1.0 section 3.1.3.3. ID tokens are read and judged by plain_tokens.py,
+scripts by plain_callback.py. It takes URLs as they are written, so it is right where these are written as the URL
+Standard writes them.
 """
 import base64
-import hashlib
 import re
 
 import plain_tokens as tokens
 from plain_records import (
-    ERROR, NoCase, answer_of, cut_scopes, escaped, flag_fault, form, has_essence, members_of, moment_fault, ok,
-    pairs, read_case, record, run_reader, text_fault, text_or_texts_fault, there, token_type_of, tokens_in, url_fault,
-    values, whole_fault,
+    ERROR, NoCase, cut_scopes, escaped, flag_fault, form, has_essence, members_of, moment_fault, ok, pairs, read_case,
+    record, run_reader, text_fault, text_or_texts_fault, there, token_type_of, url_fault, whole_fault,
 )
 
 LONGEST_ADDRESS = 65_534
 
-# ---- sign-ins
-
-
-def verifier_of(client):
-    """The client of a script as a judge of tokens, whose issuer has no keys of its own."""
-    algs = client["algs"].split(" ") if client["algs"] else []
-    return {"id": client["id"], "issuer": client["issuer"], "secret": client.get("secret"), "algs": algs, "keys": []}
-
-
-def signed_in(client, nonce, now, found):
-    """The verdict on the fields of a token response."""
-    if found.get("id_token") is None:
-        return "refused no_id_token"
-    token = tokens.token_of(found["id_token"])
-    failure = tokens.first_failure(verifier_of(client), nonce, now, token)
-    if failure:
-        return "refused claims " + failure
-    if not tokens.fits_hash(token, found["access_token"]):
-        return "refused token_hash"
-    shown = [("access_token", found["access_token"])]
-    if found.get("refresh_token") is not None:
-        shown.append(("refresh_token", found["refresh_token"]))
-    return "ok " + form(shown + [("claims", tokens.written(token.members))])
-
-
-# ---- lines of a script
-
-ANSWER = {"token_status", "token_type", "token_body", "token_fault"}
-
-
-def fields(line, required, optional=frozenset()):
-    """The values of a line by their names, where each stands once and no other does."""
-    of = pairs(line)
-    found = dict(of)
-    if len(found) != len(of) or not required <= set(found) <= required | optional:
-        return None
-    return found
+# ---- requests
 
 
 def request_pairs(address, client, is_basic, own, later=()):
@@ -78,81 +39,9 @@ def request_pairs(address, client, is_basic, own, later=()):
     return form(sent + [("body", form(own + named + list(later)))])
 
 
-def request_line(client, code, verifier):
-    own = [("grant_type", "authorization_code"), ("code", code), ("code_verifier", verifier)]
-    return "request " + request_pairs(client["token"], client, True, own)
-
-
-def authorization_url(client, begin):
-    endpoint, mark, fragment = client["auth"].partition("#")
-    digest = hashlib.sha256(begin["verifier"].encode()).digest()
-    challenge = base64.urlsafe_b64encode(digest).rstrip(b"=").decode()
-    added = form([("response_type", "code"), ("client_id", client["id"]), ("state", begin["state"]),
-                  ("code_challenge", challenge), ("code_challenge_method", "S256"), ("scope", "openid"),
-                  ("nonce", begin["nonce"])])
-    path, question, query = endpoint.partition("?")
-    return path + "?" + (query + "&" if query else "") + added + mark + fragment
-
-
-def callback_lines(client, logins, line, answer):
-    query = pairs(line["query"])
-    state, code = values(query, "state"), values(query, "code")
-    if len(state) != 1 or state[0] not in logins:
-        return ["callback refused state"]
-    login = logins.pop(state[0])
-    if values(query, "error"):
-        return ["callback refused unbuilt"]
-    if len(code) != 1:
-        return ["callback refused callback"]
-    if len(client["token"].encode()) > LONGEST_ADDRESS:
-        return ["callback refused token uri"]
-    sent = request_line(client, code[0], login["verifier"])
-    if answer[0] == "fault":
-        return [sent, "callback refused token request"]
-    found, refusal = tokens_in(*answer[1], tokens.ID_TOKEN)
-    verdict = "refused " + refusal if refusal else signed_in(client, login["nonce"], int(line["now"]), found)
-    return [sent, "callback " + verdict]
-
-
-def step_lines(client, logins, line):
-    """The lines of a begin or a callback, or None where it is neither."""
-    of = pairs(line)
-    op = of[0][1] if of and of[0][0] == "op" else None
-    if op == "begin":
-        begin = fields(line, {"op", "state", "nonce", "verifier"})
-        if begin is None:
-            return None
-        if not 43 <= len(begin["verifier"].encode()) <= 128:
-            return ["begin refused verifier"]
-        if begin["state"] in logins:
-            return ["begin refused pending"]
-        logins[begin["state"]] = begin
-        return ["begin ok " + authorization_url(client, begin)]
-    if op == "callback":
-        callback = fields(line, {"op", "now", "query"}, ANSWER)
-        if callback is None or not re.fullmatch("-?[0-9]+", callback["now"]):
-            return None
-        answer = answer_of(callback)
-        if answer is None or moment_fault(int(callback["now"])):
-            return None
-        return callback_lines(client, logins, callback, answer)
-    return None
-
-
-def report(script):
-    """Status and report of a script whose URLs are written as the URL Standard writes them."""
-    lines = script.split("\n")
-    lines = lines[:-1] if lines[-1] == "" else lines
-    client = fields(lines[0], {"op", "id", "issuer", "auth", "token", "algs"}, {"secret"}) if lines else None
-    if client is None or not lines[0].startswith("op=client"):
-        return 3, "script fault line 1\n"
-    out, logins = ["client ok"], {}
-    for number, line in enumerate(lines[1:], 2):
-        step = step_lines(client, logins, line)
-        if step is None:
-            return 3, "\n".join(out + [f"script fault line {number}", ""])
-        out += step
-    return 0, "\n".join(out + [f"pending {len(logins)}", ""])
+def fits_address(address):
+    """Whether a request may go to an address: visible ASCII, of limited length."""
+    return len(address.encode()) <= LONGEST_ADDRESS and re.fullmatch("[!-~]*", address) is not None
 
 
 # ---- cases of the token layer
@@ -235,7 +124,7 @@ def code_request(line):
     urls = [found[name] for name in ("endpoint", "redirect") if name in found]
     if found["auth"] not in ("basic", "body") or any(len(of) != 1 for of in further) or any(map(url_fault, urls)):
         raise NoCase
-    if len(found["endpoint"]) > LONGEST_ADDRESS or not re.fullmatch("[!-~]*", found["endpoint"]):
+    if not fits_address(found["endpoint"]):
         return "refused uri"
     own = [("grant_type", "authorization_code"), ("code", found["code"])]
     own += [("code_verifier", found["verifier"])] if "verifier" in found else []
@@ -244,12 +133,7 @@ def code_request(line):
     return "ok " + request_pairs(found["endpoint"], found, found["auth"] == "basic", own, later)
 
 
-def run(line):
-    status, text = report(read_case(line, {"script"})[0]["script"])
-    return ok([("status", str(status)), ("report", text)])
-
-
-OPERATIONS = {"run": run, "token_response": tokens.token_response, "device_response": device_response,
+OPERATIONS = {"token_response": tokens.token_response, "device_response": device_response,
               "error_response": error_answer(CORE_ERRORS, "Extension"),
               "device_error": error_answer(DEVICE_ERRORS, "Basic"),
               "revocation_error": error_answer(REVOCATION_ERRORS, "Basic"),

@@ -1,5 +1,5 @@
 #!/usr/bin/env python3
-"""Reads, judges and issues user info, and answers the cases of crates/vectors of that.
+"""Reads, judges and issues user info, and answers the cases of crates/vectors_tokens of that.
 
     tools/plain_info.py answers   reads cases of info_claims, info_request, info_answer and info_issue
                                   and answers each: a line each; any other line comes back as it came
@@ -10,11 +10,9 @@ OpenID Connect Core 1.0 sections 5.1, 5.1.2 and 5.3, RFC 6750 section 2.1. Each 
 looking back at all that stand before it. It takes URLs as they are written, so it is right where these are written
 as the URL Standard writes them.
 """
-import re
-
 import plain_claims
 import plain_tokens
-from plain_answers import LONGEST_ADDRESS
+from plain_answers import fits_address
 from plain_records import (
     LONGEST_BODY, NoCase, Refused, answer_of, has_essence, is_text, members_of, ok, read_case, run_reader,
     text_or_texts_fault, url_fault,
@@ -87,6 +85,19 @@ def first_failure(client, token):
     return None if is_expected else "invalid_subject"
 
 
+# ---- requests
+
+
+def request_pairs(endpoint, token, accept):
+    """The pairs of the request for user info, or the word of its refusal."""
+    if not all(byte == 9 or 32 <= byte <= 126 for byte in token.encode()):
+        return None, "bearer"
+    if not fits_address(endpoint):
+        return None, "uri"
+    return [("method", "GET"), ("address", endpoint), ("accept", "application/" + accept),
+            ("authorization", "Bearer " + token)], None
+
+
 # ---- answers
 
 
@@ -135,13 +146,8 @@ def info_request(line):
     found, _ = read_case(line, {"endpoint", "token", "accept"})
     if found["accept"] not in ("json", "jwt") or url_fault(found["endpoint"]):
         raise NoCase
-    if not all(byte == 9 or 32 <= byte <= 126 for byte in found["token"].encode()):
-        return "refused bearer"
-    address = found["endpoint"]
-    if len(address.encode()) > LONGEST_ADDRESS or not re.fullmatch("[!-~]*", address):
-        return "refused uri"
-    return ok([("method", "GET"), ("address", address), ("accept", "application/" + found["accept"]),
-               ("authorization", "Bearer " + found["token"])])
+    asked, refusal = request_pairs(found["endpoint"], found["token"], found["accept"])
+    return "refused " + refusal if refusal else ok(asked)
 
 
 def flag(found, name):
@@ -153,7 +159,7 @@ def flag(found, name):
 def info_answer(line):
     optional = {"type", "subject", "signed", "any_issuer", "any_audience"}
     found, keys = read_case(line, {"status", "body", "id", "issuer"}, optional, "key")
-    answer = answer_of({"token_" + name: found[name] for name in ("status", "type", "body") if name in found})
+    answer = answer_of(found)
     if answer is None or url_fault(found["issuer"]):
         raise NoCase
     client = {"id": found["id"], "issuer": found["issuer"], "subject": found.get("subject"),

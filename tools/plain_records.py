@@ -1,5 +1,5 @@
-"""Reads form texts, records and the answers to a token request: what plain_tokens.py, plain_answers.py and
-plain_info.py share. It is imported by these, and is no program.
+"""Reads form texts, records and the answers to a token request: what plain_tokens.py, plain_answers.py,
+plain_info.py, plain_urls.py and plain_callback.py share. It is imported by these, and is no program.
 
 It stands on Python's json and urllib.parse, and on the reader of members of plain_claims.py: URL Standard
 sections 5.1 and 5.2, RFC 6749 sections 5.1 and 5.2, RFC 9110 sections 5.5, 5.6.3 and 8.3.1.
@@ -15,12 +15,16 @@ LONGEST_BODY = 1_048_576
 # ---- form texts
 
 
-def pairs(text):
-    """The pairs of a form text (URL Standard section 5.1)."""
+def pairs_in(line):
+    """The pairs of the bytes of a form text (URL Standard section 5.1)."""
     def read(part):
         return unquote_to_bytes(part.replace(b"+", b" ")).decode("utf-8", "replace")
-    cut = [piece.partition(b"=") for piece in text.encode().split(b"&") if piece]
+    cut = [piece.partition(b"=") for piece in line.split(b"&") if piece]
     return [(read(name), read(value)) for name, _, value in cut]
+
+
+def pairs(text):
+    return pairs_in(text.encode())
 
 
 def values(query, name):
@@ -191,17 +195,19 @@ def has_essence(value, expected):
     return is_plain and value.partition(b";")[0].strip(b" \t").lower() == expected.encode().lower()
 
 
-def answer_of(line):
-    """What the provider answers: `ok` and a response, or a fault; None where the line can't be."""
-    if "token_status" not in line:
-        wrong = "token_type" in line or "token_body" in line or line.get("token_fault", "1") != "1"
+def answer_of(line, layer=""):
+    """What the provider answers: `ok` and a response, or a fault; None where the line can't be. The names on the
+    line begin with `layer`."""
+    found = {name: line[layer + name] for name in ("status", "type", "body", "fault") if layer + name in line}
+    if "status" not in found:
+        wrong = "type" in found or "body" in found or found.get("fault", "1") != "1"
         return None if wrong else ("fault", None)
-    status, kind = line["token_status"], line.get("token_type")
-    if "token_fault" in line or not re.fullmatch("[1-9][0-9]{2}", status):
+    status, kind = found["status"], found.get("type")
+    if "fault" in found or not re.fullmatch("[1-9][0-9]{2}", status):
         return None
     if kind is not None and not all(byte == 9 or 32 <= byte <= 126 for byte in kind.encode()):
         return None
-    return ("ok", (int(status), kind, line.get("token_body", "").encode()))
+    return ("ok", (int(status), kind, found.get("body", "").encode()))
 
 
 def tokens_of(members, further=()):

@@ -1,5 +1,5 @@
 #!/usr/bin/env python3
-"""Reads, judges and issues ID tokens, and answers the cases of crates/vectors of that.
+"""Reads, judges and issues ID tokens, and answers the cases of crates/vectors_tokens of that.
 
     tools/plain_tokens.py answers   reads cases of header, id_claims, token, verify, hash, issue, token_response
                                     and token_answer from standard input, and answers each: a line each; any
@@ -10,7 +10,7 @@ It is a second reader, verifier and issuer beside oidc_tokens, over Python's jso
 RFC 7515 sections 2, 4.1, 5 and 7.1, RFC 7518 section 3.1, RFC 7519 sections 5 and 7, OpenID Connect Core 1.0
 sections 2, 3.1.3.3, 3.1.3.6, 3.1.3.7, 3.3.2.11, 5.1, 5.2 and 10.1. Each member of an object is judged by
 looking back at all that stand before it. It takes URLs as they are written, so it is right where these are
-written as the URL Standard writes them. Scripts are judged by plain_answers.py, which stands on this one.
+written as the URL Standard writes them. Scripts are judged by plain_callback.py, which stands on this one.
 """
 import base64
 import hashlib
@@ -208,10 +208,14 @@ def signature_failure(client, header, message, signature):
     return None if fitting[0].signature == signature else "crypto_error"
 
 
-def fits_hash(token, access_token):
-    """Whether a token has no `at_hash`, or that of this access token."""
-    claimed = own_of(token.members).get("at_hash")
-    return claimed is None or claimed == half_hash(token.header["alg"], access_token)
+def hash_failure(token, access_token):
+    """Why the `at_hash` of a token, where it has one, isn't that of this access token."""
+    claimed, alg = own_of(token.members).get("at_hash"), token.header["alg"]
+    if claimed is None:
+        return None
+    if digest_by(alg) is None:
+        return "signing unsupported_alg"
+    return None if claimed == half_hash(alg, access_token) else "token_hash"
 
 
 def is_supported(header):
@@ -362,7 +366,7 @@ def token_response(line):
 def token_answer(line):
     case, _ = read_case(line, {"status", "body"}, {"type", "extra"})
     further = further_in(case)
-    answer = answer_of({"token_" + name: value for name, value in case.items() if name != "extra"})
+    answer = answer_of(case)
     if answer is None:
         raise NoCase
     found, refusal = tokens_in(*answer[1], further)

@@ -3,13 +3,10 @@ use Rattle.std.proofs.Common.{◌≡◌, ℕ, List, [], ◌∷◌, ◌++◌, cod
 use Rattle.form_urlencoded.specs.Form.{serialize_pair}
 use Rattle.http_header.specs.HeaderMap.{get}
 use Rattle.oidc_pairs.specs.Form.{form}
-use Rattle.oidc_members.specs.Write.{object_text}
 use Rattle.oidc_oauth2.specs.Messages.{SeenRequest}
 use Rattle.oidc_members.specs.declared.refusal.Refusal.{Refusal}
-use Rattle.oidc_login.specs.SignedIn.{SeenSignedIn}
-use Rattle.oidc_login.specs.IdTokens.{written}
-use Rattle.oidc_cli.specs.ReportLines.{behind}
-use Rattle.oidc_cli.specs.ReportLines.{header_pair, body_pair, request_line, refresh_pair, kind_word, parse_words, verdict_line}
+use Rattle.oidc_cli.specs.Types.{SeenSignedIn, claims_text}
+use Rattle.oidc_cli.specs.ReportLines.{behind, header_pair, body_pair, request_line, refresh_pair, user_info_pair, kind_word, parse_words, verdict_line}
 
 form_first : (pair : List ℕ × List ℕ) (list : List (List ℕ × List ℕ)) → form (pair ∷ list) ≡ serialize_pair pair ++ behind list
 unfolding form
@@ -52,23 +49,25 @@ request_text request t1 t2 t3 t4 t5 t6 t7 e1 e2 e3 e4 e5 e6 e7 =
     (ap (λ t. serialize_pair (codes "method", request.method) ++ t) (sym (behind_parts a x1 x2 x3 x4))
     ∙ sym (form_first (codes "method", request.method) (((a ∷ x1 ++ x2) ++ x3) ++ x4))))
 
-chained : (w s r c l : List ℕ) → (((w ++ s) ++ r) ++ c) ++ l ≡ (w ++ (s ++ (r ++ c))) ++ l
-chained w s r c l = simp append_assoc
+chained : (w s r c u l : List ℕ) → ((((w ++ s) ++ r) ++ (c ++ [])) ++ u) ++ l ≡ (w ++ (s ++ (r ++ (c ++ u)))) ++ l
+chained w s r c u l = simp (append_assoc, append-nil)
 
-pub signed_text : (signed : SeenSignedIn) (t1 t2 t3 t4 : List ℕ)
+pub signed_text : (signed : SeenSignedIn) (t1 t2 t3 t4 t5 : List ℕ)
     → t1 ≡ codes "callback ok " ++ serialize_pair (codes "access_token", signed.access_token)
     → t2 ≡ t1 ++ behind (refresh_pair signed.refresh_token)
-    → t3 ≡ t2 ++ behind ((codes "claims", object_text (written signed.id_token.payload)) ∷ [])
-    → t4 ≡ t3 ++ 10 ∷ []
-    → t4 ≡ verdict_line (Ok signed)
+    → t3 ≡ t2 ++ behind ((codes "claims", claims_text signed.id_token.payload) ∷ [])
+    → t4 ≡ t3 ++ behind (user_info_pair signed.user_info)
+    → t5 ≡ t4 ++ 10 ∷ []
+    → t5 ≡ verdict_line (Ok signed)
 unfolding verdict_line
-signed_text signed t1 t2 t3 t4 e1 e2 e3 e4 =
+signed_text signed t1 t2 t3 t4 t5 e1 e2 e3 e4 e5 =
     let a : List ℕ × List ℕ = (codes "access_token", signed.access_token) in
+    let c : List ℕ × List ℕ = (codes "claims", claims_text signed.id_token.payload) in
     let r = refresh_pair signed.refresh_token in
-    let c : List (List ℕ × List ℕ) = (codes "claims", object_text (written signed.id_token.payload)) ∷ [] in
-    rw (e4, e3, e2, e1)
-    (chained (codes "callback ok ") (serialize_pair a) (behind r) (behind c) (10 ∷ [])
-    ∙ ap (λ t. (codes "callback ok " ++ t) ++ 10 ∷ []) (sym (form_first a (r ++ c) ∙ ap (λ t. serialize_pair a ++ t) (behind-append r c))))
+    let u = user_info_pair signed.user_info in
+    rw (e5, e4, e3, e2, e1)
+    (chained (codes "callback ok ") (serialize_pair a) (behind r) (38 ∷ serialize_pair c) (behind u) (10 ∷ [])
+    ∙ ap (λ t. (codes "callback ok " ++ t) ++ 10 ∷ []) (sym (form_first a (r ++ c ∷ u) ∙ ap (λ t. serialize_pair a ++ t) (behind-append r (c ∷ u)))))
 
 -- the words of a refusal to read
 joined_words : (t w s f : List ℕ) → ((t ++ w) ++ s) ++ f ≡ t ++ (w ++ (s ++ f))

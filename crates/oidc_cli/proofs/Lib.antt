@@ -8,6 +8,7 @@ pub mod Algorithms
 pub mod Numbers
 pub mod ContentTypes
 pub mod FormTexts
+pub mod NoFloat
 pub mod Callbacks
 pub mod Steps
 pub mod Statuses

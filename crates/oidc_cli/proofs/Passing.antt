@@ -1,8 +1,9 @@
 -- Bytes that are taken and put, call after call.
-use Rattle.std.proofs.Common.{◌≡◌, ℕ, ◌+◌, List, [], ◌++◌, Option, None, Some, option_map, take, length, min, Result, Ok, Err, OnOk, OnErr, refl, sym, ap, subst, ◌∙◌, append_assoc, append-nil, arith}
+use Rattle.std.proofs.Common.{◌≡◌, inl, inr, ℕ, ◌+◌, ◌≤◌, List, [], ◌++◌, Option, None, Some, option_map, take, length, min, Result, Ok, Err, OnOk, OnErr, refl, sym, ap, subst, ◌∙◌, append_assoc, append-nil, arith}
 use Rattle.std.proofs.Math.Seq.{take-append_seam, take-append-add}
 use Rattle.std.proofs.lemmas.List.{take-append-le}
 use Rattle.std.proofs.lemmas.Grind.{common_steps}
+use Rattle.oidc_cli.specs.Calls.{HasRisen}
 use Rattle.oidc_cli.specs.Sources.{Takes}
 use Rattle.oidc_cli.specs.Sinks.{Puts, PutsPrefix}
 
@@ -90,3 +91,10 @@ on_ok_behind r a b c xs ys p = on_ok_weaker r (Puts b c ys) (Puts a c (xs ++ ys)
 
 pub on_err_behind : {T E : Type 0} (r : Result T E) (a b c : Option (List ℕ)) (xs ys : List ℕ) → Puts a b xs → OnErr r (PutsPrefix b c ys) → OnErr r (PutsPrefix a c (xs ++ ys))
 on_err_behind r a b c xs ys p = on_err_weaker r (PutsPrefix b c ys) (PutsPrefix a c (xs ++ ys)) (prefix_behind a b c xs ys p)
+
+-- ---- counts of faults
+
+-- a count that rises later has risen from before
+pub risen_before : (a b c : ℕ) → a ≤ b → HasRisen b c → HasRisen a c
+risen_before a b c least (inl rises) = inl (omega arith)
+risen_before a b c least (inr last) = inr last

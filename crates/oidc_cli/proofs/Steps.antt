@@ -5,12 +5,13 @@ use Rattle.std.specs.FinMap as finite
 use Rattle.std.proofs.lemmas.Bool.{false≢true}
 use Rattle.std.proofs.lemmas.Bool.Decides.{nat_tests}
 use Rattle.std.proofs.lemmas.Grind.{common_steps}
-use Rattle.oidc_login.specs.Client.{SeenClient}
 use Rattle.oidc_login.specs.Logins.{Pending}
+use Rattle.oidc_login.specs.Events as runs
+use Rattle.oidc_cli.specs.Types.{types, SeenClient}
 use Rattle.oidc_cli.specs.Events.{SeenClientLine}
 use Rattle.oidc_cli.specs.Script.{limit, lines, event_of, is_client, is_step, fault_from, fault_in, fault_of}
-use Rattle.oidc_cli.specs.ReportLines.{pending_line, fault_line}
-use Rattle.oidc_cli.specs.Report.{client_of, step_lines, store_after, steps_lines, store_after_steps, events_lines, store_after_events, lines_before, last_line, rest_of_report, report}
+use Rattle.oidc_cli.specs.ReportLines.{step_lines, pending_line, fault_line}
+use Rattle.oidc_cli.specs.Report.{client_of, login_event, before, login_events, lines_of_event, store_after_event, event_lines, store_after, steps_lines, events_lines, store_after_events, lines_before, last_line, rest_of_report, report}
 use Rattle.oidc_cli.proofs.Cuts.{lines_nil}
 use Rattle.oidc_cli.specs.declared.events.Event.{Event}
 use Rattle.oidc_cli.specs.declared.events.Event.TheVariants.{Client, Begin, Callback}
@@ -48,20 +49,33 @@ lines_before-here n all = let e : n - n ≡ 0 = omega arith in ap (λ k. take k 
 
 -- ---- steps
 
+-- the rest of a report from the events that are left, and the fault behind them
+abbrev rest_from : SeenClient → Pending → Option ℕ → List runs.Event → List ℕ
+rest_from client pending fault events =
+    steps_lines (runs.steps_from types client pending events) ++ last_line fault (runs.store_from types client pending events)
+
+-- the lines of the first event come first
+rest_before : (client : SeenClient) (pending : Pending) (fault : Option ℕ) (event : Option runs.Event) (later : List runs.Event)
+    → rest_from client pending fault (before event later)
+    ≡ lines_of_event client pending event ++ rest_from client (store_after_event client pending event) fault later
+rest_before client pending fault None later = refl
+rest_before client pending fault (Some event) later =
+    let next = runs.step types client pending event in
+    append_assoc (step_lines next) (steps_lines (runs.steps_from types client next.pending later)) (last_line fault (runs.store_from types client next.pending later))
+
 pub first_step : (client : SeenClient) (pending : Pending) (n : ℕ) (event : Option Event) (all : List (List ℕ)) (line : List ℕ) (later : List (List ℕ))
     → all ≡ line ∷ later → event ≡ event_of line → is_step event ≡ true
     → (fault : Option ℕ) → fault_from n all ≡ fault
     → rest_of_report client pending n all fault
-    ≡ step_lines client pending event ++ rest_of_report client (store_after client pending event) (n + 1) later fault
+    ≡ event_lines client pending event ++ rest_of_report client (store_after client pending event) (n + 1) later fault
 first_step client pending n event all line later cut read step fault first =
     let known : fault_from (n + 1) later ≡ fault =
     sym (ap (fault_from n) cut ∙ ap (λ t. if t then fault_from (n + 1) later else Some n) (ap is_step (sym read) ∙ step)) ∙ first in
     let steps = lines_before-cons n fault line later (λ number e. fault_from-least (n + 1) later number (known ∙ e)) in
     ap (λ l. rest_of_report client pending n l fault) cut
-    ∙ ap (λ l. steps_lines client pending (map event_of l) ++ last_line fault (store_after_steps client pending (map event_of l))) steps
-    ∙ append_assoc (step_lines client pending (event_of line)) (steps_lines client (store_after client pending (event_of line)) (map event_of (lines_before (n + 1) fault later)))
-    (last_line fault (store_after_steps client (store_after client pending (event_of line)) (map event_of (lines_before (n + 1) fault later))))
-    ∙ ap (λ e. step_lines client pending e ++ rest_of_report client (store_after client pending e) (n + 1) later fault) (sym read)
+    ∙ ap (λ l. rest_from client pending fault (login_events client (map event_of l))) steps
+    ∙ rest_before client pending fault (login_event client (event_of line)) (login_events client (map event_of (lines_before (n + 1) fault later)))
+    ∙ ap (λ e. event_lines client pending e ++ rest_of_report client (store_after client pending e) (n + 1) later fault) (sym read)
 
 -- the fault behind a step is that of the later lines
 pub later_fault : (n : ℕ) (event : Option Event) (all : List (List ℕ)) (line : List ℕ) (later : List (List ℕ))
@@ -75,7 +89,7 @@ fault_here n event all line later cut read fault =
     ap (fault_from n) cut ∙ ap (λ t. if t then fault_from (n + 1) later else Some n) (ap is_step (sym read) ∙ fault)
 
 -- what is no step has no lines
-no_lines : (client : SeenClient) (pending : Pending) (event : Option Event) → is_step event ≡ false → step_lines client pending event ≡ []
+no_lines : (client : SeenClient) (pending : Pending) (event : Option Event) → is_step event ≡ false → event_lines client pending event ≡ []
 no_lines client pending None other = refl
 no_lines client pending (Some (Client line)) other = refl
 no_lines client pending (Some (Begin line)) other = absurd (false≢true (sym other))
@@ -83,17 +97,17 @@ no_lines client pending (Some (Callback line)) other = absurd (false≢true (sym
 
 -- at a fault the rest of a report is its line
 pub rest_at_fault : (client : SeenClient) (pending : Pending) (n : ℕ) (event : Option Event) (all : List (List ℕ)) → is_step event ≡ false
-    → (fault : Option ℕ) → fault ≡ Some n → rest_of_report client pending n all fault ≡ step_lines client pending event ++ fault_line n
+    → (fault : Option ℕ) → fault ≡ Some n → rest_of_report client pending n all fault ≡ event_lines client pending event ++ fault_line n
 rest_at_fault client pending n event all other fault here =
     ap (rest_of_report client pending n all) here
-    ∙ ap (λ l. steps_lines client pending (map event_of l) ++ fault_line n) (lines_before-here n all)
+    ∙ ap (λ l. rest_from client pending (Some n) (login_events client (map event_of l))) (lines_before-here n all)
     ∙ ap (λ l. l ++ fault_line n) (sym (no_lines client pending event other))
 
 -- whatever the next event is, its lines come first
 by_step : (client : SeenClient) (pending : Pending) (n : ℕ) (event : Option Event) (all : List (List ℕ)) (line : List ℕ) (later : List (List ℕ))
     → all ≡ line ∷ later → event ≡ event_of line → (fault : Option ℕ) → fault_from n all ≡ fault
     → (step : Bool) → is_step event ≡ step
-    → (behind : List ℕ) × (rest_of_report client pending n all fault ≡ step_lines client pending event ++ behind)
+    → (behind : List ℕ) × (rest_of_report client pending n all fault ≡ event_lines client pending event ++ behind)
 by_step client pending n event all line later cut read fault first true step =
     (rest_of_report client (store_after client pending event) (n + 1) later fault, first_step client pending n event all line later cut read step fault first)
 by_step client pending n event all line later cut read fault first false other =
@@ -101,7 +115,7 @@ by_step client pending n event all line later cut read fault first false other =
 
 pub step_first : (client : SeenClient) (pending : Pending) (n : ℕ) (event : Option Event) (all : List (List ℕ)) (line : List ℕ) (later : List (List ℕ))
     → all ≡ line ∷ later → event ≡ event_of line → (fault : Option ℕ) → fault_from n all ≡ fault
-    → (behind : List ℕ) × (rest_of_report client pending n all fault ≡ step_lines client pending event ++ behind)
+    → (behind : List ℕ) × (rest_of_report client pending n all fault ≡ event_lines client pending event ++ behind)
 step_first client pending n event all line later cut read fault first =
     by_step client pending n event all line later cut read fault first (is_step event) refl
 
@@ -177,4 +191,5 @@ with_client_report script first later event line short cut read is =
     report_is script fault (first ∷ later) (with_client_fault script first later event line short cut read is) cut
     ∙ ap (λ l. events_lines (map event_of l) ++ last_line fault (store_after_events (map event_of l))) all
     ∙ ap (λ e. events_lines (e ∷ steps) ++ last_line fault (store_after_events (e ∷ steps))) (sym read ∙ is)
-    ∙ append_assoc (codes "client ok\n") (steps_lines (client_of line) finite.empty steps) (last_line fault (store_after_steps (client_of line) finite.empty steps))
+    ∙ append_assoc (codes "client ok\n") (steps_lines (runs.run_of types (client_of line) (login_events (client_of line) steps)))
+    (last_line fault (runs.store_of types (client_of line) (login_events (client_of line) steps)))

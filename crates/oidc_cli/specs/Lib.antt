@@ -6,6 +6,7 @@ pub mod Sinks
 pub mod Events
 pub mod Values
 pub mod Script
+pub mod Types
 pub mod ReportLines
 pub mod Report
 pub mod Program

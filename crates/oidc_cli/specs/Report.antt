@@ -1,88 +1,89 @@
 -- The report of a script.
-use Rattle.std.specs.Prelude.{ℕ, ◌-◌, List, [], ◌∷◌, ◌++◌, map, take, Option, None, Some, Result, codes}
+use Rattle.std.specs.Prelude.{ℕ, ◌-◌, List, [], ◌∷◌, ◌++◌, map, take, Option, None, Some, unwrap_or, codes}
+use Rattle.std.specs.Option.{option_or}
 use Rattle.std.specs.FinMap as finite
-use Rattle.url.specs.Parts.{Parts}
-use Rattle.oidc_pairs.specs.Pairs.{pairs}
-use Rattle.oidc_login.specs.declared.errors.BeginError.{BeginError}
-use Rattle.oidc_login.specs.Client.{SeenClient}
-use Rattle.oidc_login.specs.Authorization.{SeenAuthorization}
+use Rattle.oidc_types.specs.{TextAndUrl}
+use Rattle.oidc_client.specs.Client.{new_client}
+use Rattle.oidc_client.specs.Authorization.{new_request, Code}
 use Rattle.oidc_login.specs.Logins.{Pending}
-use Rattle.oidc_login.specs.Begins.{begin_reply, begin_store}
-use Rattle.oidc_login.specs.Rows.{Attempt, Run, callback_store, outcome}
+use Rattle.oidc_login.specs.Begins.{LoginRequest, Begin as BeginOf, begin_of}
+use Rattle.oidc_login.specs.Events as runs
+use Rattle.oidc_cli.specs.Types.{types, SeenClient}
 use Rattle.oidc_cli.specs.Events.{SeenClientLine, SeenBeginLine, SeenCallbackLine}
 use Rattle.oidc_cli.specs.Script.{lines, event_of, fault_of}
-use Rattle.oidc_cli.specs.ReportLines.{begin_line, callback_lines, pending_line, fault_line}
+use Rattle.oidc_cli.specs.ReportLines.{Step, step_lines, pending_line, fault_line}
 use Rattle.oidc_cli.specs.declared.events.Event.{Event}
 use Rattle.oidc_cli.specs.declared.events.Event.TheVariants.{Client, Begin, Callback}
 use Rattle.oidc_cli.specs.declared.report.Ending.{Ending}
 use Rattle.oidc_cli.specs.declared.report.Ending.TheVariants as ending
 
--- ---- events
+-- ---- the logins that a script is about
 
 -- the client of a client line; nothing is known of its provider's keys
 abbrev pub client_of : SeenClientLine → SeenClient
-client_of line = record {
-  client_id = line.id;
+client_of line = record (new_client line.id line.provider.issuer []) {
   client_secret = line.secret;
-  issuer = line.issuer;
-  keys = [];
-  auth_uri = line.auth;
-  token_endpoint = Some line.token;
-  algorithms = line.algorithms;
+  redirect_uri = line.redirect;
+  allowed = Some line.algorithms;
+  auth_uri = Some line.provider.auth;
+  token_uri = Some line.provider.token;
+  user_info_url = line.provider.user_info;
 }
 
--- the request of a begin line
-abbrev pub request_of : SeenBeginLine → SeenAuthorization
-request_of line = record { state = line.state; nonce = line.nonce }
+-- the authorization endpoint: the issuer would stand for none, but each client of a script has one (`client_of`)
+abbrev pub endpoint_of : SeenClient → TextAndUrl
+endpoint_of client = unwrap_or client.auth_uri client.issuer
 
-abbrev pub reply_of_begin : SeenClient → Pending → SeenBeginLine → Result Parts BeginError
-reply_of_begin client pending line = begin_reply client pending (request_of line) line.verifier
+-- a client's request for a code, with this state and nonce
+abbrev pub code_request : SeenClient → List ℕ → List ℕ → LoginRequest
+code_request client state nonce = new_request client (endpoint_of client) Code state nonce
 
--- the callback of a callback line
-abbrev pub attempt_of : SeenClient → Pending → SeenCallbackLine → Attempt
-attempt_of client pending line =
-    record { client = client; pending = pending; query = line.query; now = line.now }
+-- the request of a begin line: its redirect is the line's, or else the client's
+abbrev pub request_of : SeenClient → SeenBeginLine → LoginRequest
+request_of client line = record (code_request client line.state line.nonce) {
+  redirect_uri = option_or line.redirect client.redirect_uri;
+}
 
-abbrev pub run_of_callback : SeenClient → Pending → SeenCallbackLine → Run
-run_of_callback client pending line = outcome (attempt_of client pending line) line.answers
+abbrev pub begin_of_line : SeenClient → SeenBeginLine → BeginOf
+begin_of_line client line = begin_of (request_of client line) line.verifier line.user_info
 
--- the lines of a begin or a callback
-abbrev pub step_lines : SeenClient → Pending → Option Event → List ℕ
-step_lines client pending None = []
-step_lines client pending (Some (Client line)) = []
-step_lines client pending (Some (Begin line)) = begin_line (reply_of_begin client pending line)
-step_lines client pending (Some (Callback line)) = callback_lines (run_of_callback client pending line)
+abbrev pub call_of_line : SeenCallbackLine → runs.Call
+call_of_line line = record { query = line.query; now = line.now; answers = line.answers }
 
--- the store after it
-abbrev pub store_after : SeenClient → Pending → Option Event → Pending
-store_after client pending None = pending
-store_after client pending (Some (Client line)) = pending
-store_after client pending (Some (Begin line)) =
-    begin_store (reply_of_begin client pending line) pending (request_of line) line.verifier
-store_after client pending (Some (Callback line)) = callback_store pending (pairs line.query)
+-- what a line is among the events of logins: a begin, a callback, or nothing
+abbrev pub login_event : SeenClient → Option Event → Option runs.Event
+login_event client (Some (Begin line)) = Some (runs.begins (begin_of_line client line))
+login_event client (Some (Callback line)) = Some (runs.calls (call_of_line line))
+login_event client (Some (Client line)) = None
+login_event client None = None
+
+-- an event, where there is one, before others
+abbrev pub before : Option runs.Event → List runs.Event → List runs.Event
+before None later = later
+before (Some event) later = event ∷ later
+
+-- the begins and callbacks of lines, in their order
+abbrev pub login_events : SeenClient → List (Option Event) → List runs.Event
+login_events client [] = []
+login_events client (event ∷ later) = before (login_event client event) (login_events client later)
 
 -- ---- the report
 
--- the lines of these begins and callbacks, one after another, each over the store that those before it left
-abbrev pub steps_lines : SeenClient → Pending → List (Option Event) → List ℕ
-steps_lines client pending [] = []
-steps_lines client pending (event ∷ later) =
-    step_lines client pending event ++ steps_lines client (store_after client pending event) later
+abbrev pub steps_lines : List Step → List ℕ
+steps_lines [] = []
+steps_lines (step ∷ later) = step_lines step ++ steps_lines later
 
--- the store after them
-abbrev pub store_after_steps : SeenClient → Pending → List (Option Event) → Pending
-store_after_steps client pending [] = pending
-store_after_steps client pending (event ∷ later) =
-    store_after_steps client (store_after client pending event) later
-
--- the lines of a script's events, of which the first is the client, and the store after them
+-- The lines of a script's events, of which the first is the client: those of a run of the begins and callbacks behind
+-- it, from the empty store.
 abbrev pub events_lines : List (Option Event) → List ℕ
-events_lines (Some (Client line) ∷ steps) =
-    codes "client ok\n" ++ steps_lines (client_of line) finite.empty steps
+events_lines (Some (Client line) ∷ later) =
+    let client = client_of line in codes "client ok\n" ++ steps_lines (runs.run_of types client (login_events client later))
 events_lines others = []
 
+-- the pending logins that the run leaves
 abbrev pub store_after_events : List (Option Event) → Pending
-store_after_events (Some (Client line) ∷ steps) = store_after_steps (client_of line) finite.empty steps
+store_after_events (Some (Client line) ∷ later) =
+    let client = client_of line in runs.store_of types client (login_events client later)
 store_after_events others = finite.empty
 
 -- of lines whose first has number n, those before the line with a fault; all of them where there is none
@@ -106,11 +107,28 @@ report script =
     let events = events_before_fault script in
     events_lines events ++ last_line (fault_of script) (store_after_events events)
 
+-- ---- the same, event by event, for the contracts of private functions
+
+-- the lines of what one line says, over a store, and the store after it
+abbrev pub lines_of_event : SeenClient → Pending → Option runs.Event → List ℕ
+lines_of_event client pending None = []
+lines_of_event client pending (Some event) = step_lines (runs.step types client pending event)
+
+abbrev pub store_after_event : SeenClient → Pending → Option runs.Event → Pending
+store_after_event client pending None = pending
+store_after_event client pending (Some event) = (runs.step types client pending event).pending
+
+abbrev pub event_lines : SeenClient → Pending → Option Event → List ℕ
+event_lines client pending event = lines_of_event client pending (login_event client event)
+
+abbrev pub store_after : SeenClient → Pending → Option Event → Pending
+store_after client pending event = store_after_event client pending (login_event client event)
+
 -- the rest of a report, from the begin or callback line with number n on
 abbrev pub rest_of_report : SeenClient → Pending → ℕ → List (List ℕ) → Option ℕ → List ℕ
 rest_of_report client pending n all fault =
-    let steps = map event_of (lines_before n fault all) in
-    steps_lines client pending steps ++ last_line fault (store_after_steps client pending steps)
+    let events = login_events client (map event_of (lines_before n fault all)) in
+    steps_lines (runs.steps_from types client pending events) ++ last_line fault (runs.store_from types client pending events)
 
 -- how it ends
 abbrev pub ending_of : Option ℕ → Ending

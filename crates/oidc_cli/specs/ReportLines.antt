@@ -1,33 +1,39 @@
 -- The lines of a report.
-use Rattle.std.specs.Prelude.{ℕ, List, [], ◌∷◌, ◌++◌, Option, None, Some, Result, Ok, Err, if◌then◌else◌, bytes_eq, codes, decimal}
+use Rattle.std.specs.Prelude.{◌≡◌, ℕ, List, [], ◌∷◌, ◌++◌, Option, None, Some, Result, Ok, Err, IfSome, false, if◌then◌else◌, bytes_eq, codes, decimal}
 use Rattle.std.specs.FinMap as finite
 use Rattle.url.specs.Parts.{Parts, serialize}
 use Rattle.http_header.specs.HeaderMap.{get}
 use Rattle.http_header.specs.FieldValue.{FieldValue}
 use Rattle.form_urlencoded.specs.Form.{ampersand, serialize_pair}
 use Rattle.oidc_pairs.specs.Form.{form, escaped}
+use Rattle.oidc_members.specs.Write.{any_float}
 use Rattle.oidc_members.specs.declared.refusal.Refusal.{Refusal}
 use Rattle.oidc_members.specs.declared.refusal.ParseKind.{ParseKind}
 use Rattle.oidc_members.specs.declared.refusal.ParseKind.TheVariants as parse_kind
-use Rattle.oidc_members.specs.Write.{object_text}
+use Rattle.oidc_types.specs.CoreAuthorization.{auth_error_text}
+use Rattle.oidc_claims.specs.Others.{Others, list_of}
 use Rattle.oidc_keys.specs.declared.refusals.SignatureVerificationError.{SignatureVerificationError}
 use Rattle.oidc_keys.specs.declared.refusals.SignatureVerificationError.TheVariants as signature
 use Rattle.oidc_tokens.specs.declared.verification.refusals.ClaimsVerificationError.{ClaimsVerificationError}
 use Rattle.oidc_tokens.specs.declared.verification.refusals.ClaimsVerificationError.TheVariants as check
-use Rattle.oidc_login.specs.declared.errors.BeginError.{BeginError}
-use Rattle.oidc_login.specs.declared.errors.BeginError.TheVariants as begin
-use Rattle.oidc_login.specs.declared.errors.TooLong.TheVariants as place
-use Rattle.oidc_login.specs.declared.errors.LoginError.TheVariants as login
 use Rattle.oidc_oauth2.specs.Messages.{SeenRequest}
 use Rattle.oidc_oauth2.specs.Words.{error_text}
 use Rattle.oidc_oauth2.specs.declared.token_answers.OtherCause.TheVariants as other
 use Rattle.oidc_oauth2.specs.declared.token_answers.RequestTokenError.TheVariants as token_error
+use Rattle.oidc_user_info.specs.InfoErrors.{InfoRefusal}
+use Rattle.oidc_user_info.specs.declared.errors.InfoOther.TheVariants as info_other
+use Rattle.oidc_user_info.specs.declared.errors.ResponseCause.TheVariants as info_cause
+use Rattle.oidc_user_info.specs.declared.errors.UserInfoError.TheVariants as info_error
+use Rattle.oidc_login.specs.declared.errors.BeginError.{BeginError}
+use Rattle.oidc_login.specs.declared.errors.BeginError.TheVariants as begin
+use Rattle.oidc_login.specs.declared.errors.TooLong.{TooLong}
+use Rattle.oidc_login.specs.declared.errors.TooLong.TheVariants as place
+use Rattle.oidc_login.specs.declared.errors.LoginError.TheVariants as login
 use Rattle.oidc_login.specs.TokenResponse.{TokenError}
 use Rattle.oidc_login.specs.Errors.{Error}
 use Rattle.oidc_login.specs.Logins.{Pending}
-use Rattle.oidc_login.specs.SignedIn.{SeenSignedIn}
-use Rattle.oidc_login.specs.IdTokens.{written}
-use Rattle.oidc_login.specs.Rows.{Run}
+use Rattle.oidc_login.specs.Events as runs
+use Rattle.oidc_cli.specs.Types.{SeenSignedIn, SeenUserInfo, claims_text, user_info_text}
 
 -- each line ends in a line feed
 abbrev pub line_of : List ℕ → List ℕ
@@ -38,8 +44,12 @@ line_of words = words ++ 10 ∷ []
 -- No begin means want of memory, and so it has no line here.
 unfoldable pub begin_line : Result Parts BeginError → List ℕ
 begin_line (Ok url) = line_of (codes "begin ok " ++ serialize url)
+begin_line (Err begin.Flow) = line_of (codes "begin refused flow")
+begin_line (Err begin.ClientId) = line_of (codes "begin refused client_id")
 begin_line (Err begin.Verifier) = line_of (codes "begin refused verifier")
+begin_line (Err begin.UserInfoEndpoint) = line_of (codes "begin refused user_info_endpoint")
 begin_line (Err begin.Pending) = line_of (codes "begin refused pending")
+begin_line (Err begin.TooLong) = line_of (codes "begin refused too_long")
 begin_line (Err begin.Memory) = []
 
 -- ---- requests
@@ -75,12 +85,17 @@ abbrev pub refresh_pair : Option (List ℕ) → List (List ℕ × List ℕ)
 refresh_pair None = []
 refresh_pair (Some text) = (codes "refresh_token", text) ∷ []
 
+-- the pair of user info, where the login asks for it
+abbrev pub user_info_pair : Option SeenUserInfo → List (List ℕ × List ℕ)
+user_info_pair None = []
+user_info_pair (Some found) = (codes "user_info", user_info_text found) ∷ []
+
 abbrev pub signed_list : SeenSignedIn → List (List ℕ × List ℕ)
 signed_list signed =
     (codes "access_token", signed.access_token)
     ∷ refresh_pair signed.refresh_token
-    ++ (codes "claims", object_text (written signed.id_token.payload))
-    ∷ []
+    ++ (codes "claims", claims_text signed.id_token.payload)
+    ∷ user_info_pair signed.user_info
 
 -- No key's verdict on a signature is want of memory: that is a law of keys. So `Memory` never stands in a
 -- refusal, neither here nor below, and has no word.
@@ -132,24 +147,61 @@ token_words (token_error.Other other.MediaType) = codes "media_type"
 token_words (token_error.TooLong body) = []
 token_words token_error.Memory = []
 
+-- those of user info, in the order in which it is judged; of these two the same holds
+abbrev pub info_words : InfoRefusal → List ℕ
+info_words (info_error.Other info_other.Bearer) = codes "bearer"
+info_words (info_error.Other info_other.Uri) = codes "uri"
+info_words (info_error.Other info_other.Utf8) = codes "utf8"
+info_words (info_error.Request cause) = codes "request"
+info_words (info_error.Response status body info_cause.Status) = codes "status"
+info_words (info_error.Response status body info_cause.MediaType) = codes "media_type"
+info_words (info_error.Parse refusal) = parse_words refusal
+info_words (info_error.ClaimsVerification kind) = codes "claims " ++ claims_word kind
+info_words (info_error.TooLong body) = []
+info_words info_error.Memory = []
+
+abbrev pub place_word : TooLong → List ℕ
+place_word place.Callback = codes "callback"
+place_word place.TokenAnswer = codes "token_answer"
+place_word place.UserInfoAnswer = codes "user_info_answer"
+
 -- No callback means want of memory, and so it has no line here. A hash is refused for one cause alone: that
 -- none goes with the algorithm.
 unfoldable pub verdict_line : Result SeenSignedIn Error → List ℕ
 verdict_line (Ok signed) = line_of (codes "callback ok " ++ form (signed_list signed))
-verdict_line (Err (login.TooLong place.TokenAnswer)) = line_of (codes "callback refused too_long token_answer")
+verdict_line (Err (login.TooLong at)) = line_of (codes "callback refused too_long " ++ place_word at)
 verdict_line (Err login.State) = line_of (codes "callback refused state")
+verdict_line (Err (login.Provider code)) =
+    line_of (codes "callback refused provider " ++ escaped (auth_error_text code))
 verdict_line (Err login.Callback) = line_of (codes "callback refused callback")
-verdict_line (Err login.Unbuilt) = line_of (codes "callback refused unbuilt")
 verdict_line (Err (login.Token e)) = line_of (codes "callback refused token " ++ token_words e)
 verdict_line (Err login.NoIdToken) = line_of (codes "callback refused no_id_token")
 verdict_line (Err (login.Claims kind)) = line_of (codes "callback refused claims " ++ claims_word kind)
 verdict_line (Err (login.Signing refusal)) = line_of (codes "callback refused signing unsupported_alg")
 verdict_line (Err login.TokenHash) = line_of (codes "callback refused token_hash")
+verdict_line (Err (login.UserInfo e)) = line_of (codes "callback refused user_info " ++ info_words e)
 verdict_line (Err (login.Memory spent)) = []
 
--- the requests that a callback sends, in their order, and its verdict
-unfoldable pub callback_lines : Run → List ℕ
-callback_lines run = request_lines run.sent ++ verdict_line run.reply
+-- Neither the claims of a user who is signed in nor user info hold a float: none that was read does. No clause knows the
+-- text of claims that hold one.
+abbrev pub HasNoFloats : Result SeenSignedIn Error → Type 0
+HasNoFloats (Err e) = Unit {0}
+HasNoFloats (Ok signed) =
+    (any_float (list_of signed.id_token.payload.additional_claims) ≡ false)
+    × IfSome signed.user_info (λ found. any_float (list_of found.additional_claims) ≡ false)
+
+-- ---- steps
+
+abbrev pub Step : Type 0
+Step = runs.Step Others (List ℕ)
+
+abbrev pub reply_line : runs.Reply Others (List ℕ) → List ℕ
+reply_line (runs.begun reply) = begin_line reply
+reply_line (runs.called reply) = verdict_line reply
+
+-- the requests that a begin or a callback sends, in their order, and its reply
+abbrev pub step_lines : Step → List ℕ
+step_lines step = request_lines step.sent ++ reply_line step.reply
 
 -- ---- the last line
 

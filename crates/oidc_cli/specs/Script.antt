@@ -3,9 +3,11 @@ use Rattle.std.specs.Prelude.{ℕ, ◌==◌, ◌+◌, nat_lt, Bool, true, false,
 use Rattle.std.specs.Str.{bytes_eq}
 use Rattle.std.specs.List.{slice_split, list_all, list_any}
 use Rattle.oidc_pairs.specs.Pairs.{pairs}
-use Rattle.oidc_cli.specs.Values.{◌>>=◌, url_of_text, pair_text, pair_value, lacks, optional_value, algorithms_of, moment_of_text, status_code_of, content_type_of}
 use Rattle.oidc_oauth2.specs.Messages.{SeenResponse, SeenAnswer}
-use Rattle.oidc_cli.specs.Events.{SeenClientLine, SeenBeginLine, SeenCallbackLine}
+use Rattle.oidc_cli.specs.Values.{◌>>=◌, url_of_text, pair_text, pair_value, lacks, optional_value, algorithms_of, demand_of, moment_of_text, status_code_of, content_type_of}
+use Rattle.oidc_cli.specs.Events.{SeenProviderUrls, SeenClientLine, SeenBeginLine, SeenCallbackLine}
+use Rattle.oidc_cli.specs.declared.events.AnswerTo.{AnswerTo}
+use Rattle.oidc_cli.specs.declared.events.AnswerTo.TheVariants as answer_to
 use Rattle.oidc_cli.specs.declared.events.Event.{Event}
 use Rattle.oidc_cli.specs.declared.events.Event.TheVariants.{Client, Begin, Callback}
 
@@ -28,48 +30,119 @@ lines script = lines_of_parts (slice_split (λ b. b == 10) script)
 
 -- ---- events
 
--- A client line and a begin line have their names beside `op`; a client line may lack `secret`. As many pairs as
--- names, and exactly one pair of each name: so each stands once, in any order, and there is no other name and
--- no second `op`.
+-- A client line and a begin line have their names beside `op`; a client line may lack `secret` and `redirect`, a begin
+-- line `redirect`, and both may lack `userinfo`. As many pairs as names, and exactly one pair of each name: so each
+-- stands once, in any order, and there is no other name and no second `op`.
+
+unfoldable pub provider_urls : List (List ℕ × List ℕ) → Option SeenProviderUrls
+provider_urls line = do
+  issuer ← pair_value url_of_text line (codes "issuer")
+  auth ← pair_value url_of_text line (codes "auth")
+  token ← pair_value url_of_text line (codes "token")
+  user_info ← optional_value url_of_text line (codes "userinfo")
+  Some (record { issuer = issuer; auth = auth; token = token; user_info = user_info })
 
 abbrev pub client_values : List (List ℕ × List ℕ) → Option SeenClientLine
 client_values line = do
   id ← pair_text line (codes "id")
   secret ← optional_value Some line (codes "secret")
-  issuer ← pair_value url_of_text line (codes "issuer")
-  auth ← pair_value url_of_text line (codes "auth")
-  token ← pair_value url_of_text line (codes "token")
+  redirect ← optional_value url_of_text line (codes "redirect")
   algorithms ← pair_value algorithms_of line (codes "algs")
-  Some (record {
-    id = id;
-    secret = secret;
-    issuer = issuer;
-    auth = auth;
-    token = token;
-    algorithms = algorithms;
-  })
+  provider ← provider_urls line
+  Some (record { id = id; secret = secret; provider = provider; redirect = redirect; algorithms = algorithms })
 
 abbrev pub begin_values : List (List ℕ × List ℕ) → Option SeenBeginLine
 begin_values line = do
   state ← pair_text line (codes "state")
   nonce ← pair_text line (codes "nonce")
+  redirect ← optional_value url_of_text line (codes "redirect")
   verifier ← pair_text line (codes "verifier")
-  Some (record { state = state; nonce = nonce; verifier = verifier })
+  user_info ← optional_value demand_of line (codes "userinfo")
+  Some (record { state = state; nonce = nonce; redirect = redirect; verifier = verifier; user_info = user_info })
 
--- how many pairs a client line has: `op`, six others, and one less where `secret` isn't there
+-- one pair, where a line has this name
+abbrev pub one_if_there : List (List ℕ × List ℕ) → List ℕ → ℕ
+one_if_there line name = if lacks line name then 0 else 1
+
+-- how many pairs a client line has: `op`, five others, and those that may be there
 abbrev pub client_pairs : List (List ℕ × List ℕ) → ℕ
-client_pairs line = if lacks line (codes "secret") then 6 else 7
+client_pairs line =
+    6 + one_if_there line (codes "secret") + one_if_there line (codes "userinfo") + one_if_there line (codes "redirect")
+
+-- how many a begin line has
+abbrev pub begin_pairs : List (List ℕ × List ℕ) → ℕ
+begin_pairs line = 4 + one_if_there line (codes "redirect") + one_if_there line (codes "userinfo")
 
 unfoldable pub client_event_of : List (List ℕ × List ℕ) → Option SeenClientLine
 client_event_of line = if length line == client_pairs line then client_values line else None
 
 unfoldable pub begin_event_of : List (List ℕ × List ℕ) → Option SeenBeginLine
-begin_event_of line = if length line == 4 then begin_values line else None
+begin_event_of line = if length line == begin_pairs line then begin_values line else None
+
+-- ---- answers
+
+-- The answer to each of the two requests stands under four names: a fault alone, or a status and with it the other
+-- two, each where it is given.
+
+abbrev pub status_name : AnswerTo → List ℕ
+status_name answer_to.Token = codes "token_status"
+status_name answer_to.UserInfo = codes "info_status"
+
+abbrev pub type_name : AnswerTo → List ℕ
+type_name answer_to.Token = codes "token_type"
+type_name answer_to.UserInfo = codes "info_type"
+
+abbrev pub body_name : AnswerTo → List ℕ
+body_name answer_to.Token = codes "token_body"
+body_name answer_to.UserInfo = codes "info_body"
+
+abbrev pub fault_name : AnswerTo → List ℕ
+fault_name answer_to.Token = codes "token_fault"
+fault_name answer_to.UserInfo = codes "info_fault"
+
+-- a fault is `1`
+abbrev pub fault_of_text : List ℕ → Option SeenAnswer
+fault_of_text text = if bytes_eq text (codes "1") then Some None else None
+
+-- the answer without a status, where there is one: a fault
+unfoldable pub answer_without_status : AnswerTo → List (List ℕ × List ℕ) → Option (Option SeenAnswer)
+answer_without_status to line =
+    if not (lacks line (type_name to)) then None
+    else if not (lacks line (body_name to)) then None
+    else optional_value fault_of_text line (fault_name to)
+
+-- the response with a status: its body is empty where it isn't given
+unfoldable pub response_of : AnswerTo → List (List ℕ × List ℕ) → Option SeenResponse
+response_of to line = do
+  status ← pair_value status_code_of line (status_name to)
+  content_type ← optional_value content_type_of line (type_name to)
+  body ← optional_value Some line (body_name to)
+  Some (record { status = status; content_type = content_type; body = unwrap_or body [] })
+
+-- the answer to a request, where there is one: a response, or a fault
+unfoldable pub answer_of : AnswerTo → List (List ℕ × List ℕ) → Option (Option SeenAnswer)
+answer_of to line =
+    if lacks line (status_name to) then answer_without_status to line
+    else if not (lacks line (fault_name to)) then None
+    else option_map (λ response. Some (Some response)) (response_of to line)
+
+-- the answers in the order of their requests: the second is given only where the first is
+abbrev pub in_order : Option SeenAnswer → Option SeenAnswer → Option (List SeenAnswer)
+in_order None None = Some []
+in_order None (Some info) = None
+in_order (Some token) None = Some (token ∷ [])
+in_order (Some token) (Some info) = Some (token ∷ info ∷ [])
+
+-- what the provider answers
+unfoldable pub answers_of : List (List ℕ × List ℕ) → Option (List SeenAnswer)
+answers_of line = do
+  token ← answer_of answer_to.Token line
+  info ← answer_of answer_to.UserInfo line
+  in_order token info
 
 -- ---- callbacks
 
--- A callback line has `op`, `now` and `query`, each once. It may have `token_fault`, or `token_status` and
--- with it `token_type` and `token_body`, each at most once; and no other name.
+-- A callback line has `op`, `now` and `query`, each once, and it may have the names of answers; and no other name.
 
 abbrev pub is_callback_name : List ℕ → Bool
 is_callback_name name =
@@ -81,34 +154,11 @@ is_callback_name name =
     ∷ codes "token_type"
     ∷ codes "token_body"
     ∷ codes "token_fault"
+    ∷ codes "info_status"
+    ∷ codes "info_type"
+    ∷ codes "info_body"
+    ∷ codes "info_fault"
     ∷ [])
-
--- a fault is `1`
-abbrev pub fault_of_text : List ℕ → Option (List SeenAnswer)
-fault_of_text text = if bytes_eq text (codes "1") then Some (None ∷ []) else None
-
--- the answers of a line without a status: a fault, or none
-unfoldable pub answers_without_status : List (List ℕ × List ℕ) → Option (List SeenAnswer)
-answers_without_status line =
-    if not (lacks line (codes "token_type")) then None
-    else if not (lacks line (codes "token_body")) then None
-    else if lacks line (codes "token_fault") then Some []
-    else pair_value fault_of_text line (codes "token_fault")
-
--- the response of a line with a status: its body is empty where it isn't given
-unfoldable pub response_of : List (List ℕ × List ℕ) → Option SeenResponse
-response_of line = do
-  status ← pair_value status_code_of line (codes "token_status")
-  content_type ← optional_value content_type_of line (codes "token_type")
-  body ← optional_value Some line (codes "token_body")
-  Some (record { status = status; content_type = content_type; body = unwrap_or body [] })
-
--- the answers of a line: a response, a fault, or none
-unfoldable pub answers_of : List (List ℕ × List ℕ) → Option (List SeenAnswer)
-answers_of line =
-    if lacks line (codes "token_status") then answers_without_status line
-    else if not (lacks line (codes "token_fault")) then None
-    else option_map (λ response. Some response ∷ []) (response_of line)
 
 abbrev pub callback_values : List (List ℕ × List ℕ) → Option SeenCallbackLine
 callback_values line = do

@@ -1,7 +1,7 @@
 -- The values on the lines of a script, and their kinds.
-use Rattle.std.specs.Prelude.{◌≡◌, ℕ, ◌==◌, nat_lt, nat_le, ℤ, pos, neg_ℤ, List, [], ◌∷◌, length, Bool, ◌&&◌, Option, None, Some, Result, Ok, Err, option_and_then, option_map, if◌then◌else◌, is_none}
+use Rattle.std.specs.Prelude.{◌≡◌, ℕ, ◌==◌, nat_lt, nat_le, ℤ, pos, neg_ℤ, List, [], ◌∷◌, length, Bool, true, false, ◌&&◌, Option, None, Some, Result, Ok, Err, option_and_then, option_map, if◌then◌else◌, is_none, codes}
 use Rattle.std.specs.List.{list_all, slice_split}
-use Rattle.std.specs.Str.{all_ascii_digits}
+use Rattle.std.specs.Str.{all_ascii_digits, bytes_eq}
 use Rattle.std.specs.Str.Parse.{digits_value}
 use Rattle.url.specs.Parser.{parse_url}
 use Rattle.http_header.specs.Token.{is_visible_or_blank}
@@ -9,6 +9,9 @@ use Rattle.oidc_types.specs.declared.core_algorithms.CoreJwsSigningAlgorithm.{Co
 use Rattle.oidc_types.specs.{TextAndUrl, find_word, signing_text, signing_algorithms}
 use Rattle.oidc_readers.specs.Moments.{moment_at}
 use Rattle.oidc_pairs.specs.Pairs.{values_in, first_of, only_of}
+use Rattle.oidc_user_info.specs.declared.requests.UserInfoResponseType.{UserInfoResponseType}
+use Rattle.oidc_user_info.specs.declared.requests.UserInfoResponseType.TheVariants.{Json, Jwt}
+use Rattle.oidc_login.specs.declared.demand.UserInfoDemand.{UserInfoDemand}
 use Rattle.oidc_cli.specs.declared.events.LineError.{LineError}
 use Rattle.oidc_cli.specs.declared.events.LineError.TheVariants.{NoEvent, Memory}
 
@@ -62,6 +65,20 @@ all_algorithms (text ∷ texts) =
 unfoldable pub algorithms_of : List ℕ → Option (List CoreJwsSigningAlgorithm)
 algorithms_of [] = Some []
 algorithms_of (b ∷ text) = all_algorithms (slice_split (λ c. c == 32) (b ∷ text))
+
+-- ---- demands
+
+-- what is demanded of user info in an answer of this kind: that a token has this issuer and is for this client
+abbrev pub demanding : Bool → UserInfoResponseType → UserInfoDemand
+demanding signed kind =
+    record { signed = signed; issuer_match = true; audience_match = true; response_type = kind }
+
+-- `json` asks for an object; `jwt` asks for a token, and takes no other answer
+abbrev pub demand_of : List ℕ → Option UserInfoDemand
+demand_of text =
+    if bytes_eq text (codes "json") then Some (demanding false Json)
+    else if bytes_eq text (codes "jwt") then Some (demanding true Jwt)
+    else None
 
 -- ---- numbers
 

@@ -1,21 +1,45 @@
 //! What the lines of a script say.
 use jiff::Timestamp;
+use oidc_login::UserInfoDemand;
 use oidc_oauth2::Answer;
 use oidc_types::{
-    AuthUrl, ClientId, ClientSecret, CoreJwsSigningAlgorithm, CsrfToken, IssuerUrl, Nonce,
-    PkceCodeVerifier, TokenUrl,
+    AuthUrl, ClientId, ClientSecret, CoreJwsSigningAlgorithm, CsrfToken, IssuerUrl,
+    JsonWebKeySetUrl, Nonce, PkceCodeVerifier, RedirectUrl, TokenUrl, UserInfoUrl,
 };
 use std::alloc::{AllocError, AllocFailed};
 use std::marker::Model;
+
+/// What a client line says of the client's provider. The issuer also stands for the place of the provider's keys,
+/// which are never fetched.
+#[derive(Drop)]
+pub struct ProviderUrls {
+    pub issuer: IssuerUrl,
+    pub jwks_uri: JsonWebKeySetUrl,
+    pub auth: AuthUrl,
+    pub token: TokenUrl,
+    pub user_info: Option<UserInfoUrl>,
+}
+
+impl Model for ProviderUrls {
+    ghost use Rattle.oidc_cli.specs.Events.{SeenProviderUrls};
+
+    ghost Value = { SeenProviderUrls };
+
+    ghost view = { λ u. record {
+      issuer = u.issuer;
+      auth = u.auth;
+      token = u.token;
+      user_info = u.user_info;
+    } };
+}
 
 /// What a client line says.
 #[derive(Drop)]
 pub struct ClientLine {
     pub id: ClientId,
     pub secret: Option<ClientSecret>,
-    pub issuer: IssuerUrl,
-    pub auth: AuthUrl,
-    pub token: TokenUrl,
+    pub provider: ProviderUrls,
+    pub redirect: Option<RedirectUrl>,
     pub algorithms: Vec<CoreJwsSigningAlgorithm>,
 }
 
@@ -27,9 +51,8 @@ impl Model for ClientLine {
     ghost view = { λ c. record {
       id = c.id;
       secret = c.secret;
-      issuer = c.issuer;
-      auth = c.auth;
-      token = c.token;
+      provider = c.provider;
+      redirect = c.redirect;
       algorithms = c.algorithms.items;
     } };
 }
@@ -39,7 +62,9 @@ impl Model for ClientLine {
 pub struct BeginLine {
     pub state: CsrfToken,
     pub nonce: Nonce,
+    pub redirect: Option<RedirectUrl>,
     pub verifier: PkceCodeVerifier,
+    pub user_info: Option<UserInfoDemand>,
 }
 
 impl Model for BeginLine {
@@ -47,7 +72,13 @@ impl Model for BeginLine {
 
     ghost Value = { SeenBeginLine };
 
-    ghost view = { λ b. record { state = b.state; nonce = b.nonce; verifier = b.verifier } };
+    ghost view = { λ b. record {
+      state = b.state;
+      nonce = b.nonce;
+      redirect = b.redirect;
+      verifier = b.verifier;
+      user_info = b.user_info;
+    } };
 }
 
 /// What a callback line says: the moment, the query, and what the provider answers.
@@ -71,6 +102,15 @@ impl Model for CallbackLine {
       query = string_bytes c.query;
       answers = map seen_answer c.answers.items;
     } };
+}
+
+/// Which of a callback's two requests an answer is for.
+#[derive(Clone, Copy, Debug, PartialEq, Eq)]
+pub enum AnswerTo {
+    /// The token request.
+    Token,
+    /// The user info request.
+    UserInfo,
 }
 
 /// What a line of a script says.

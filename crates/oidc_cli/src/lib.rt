@@ -14,25 +14,25 @@
 //! # Scripts
 //!
 //! A script is cut into lines at line feeds. Each line is form pairs (URL Standard, section 5.1), of
-//! which the first is `op`; no name stands twice, the order of the others is free, and all of them
-//! stand but those of the answer. The first line is a client line, and each later one a begin or a
-//! callback line.
+//! which the first is `op`; no name stands twice, and the order of the others is free. The first line is a client
+//! line, and each later one a begin or a callback line. A name with a `?` may be left out.
 //!
-//! - `op=client`: `id`, `secret`, and the URL texts `issuer`, `auth` and `token`; `algs`, the texts
-//!   of signing algorithms with one space between them.
-//! - `op=begin`: `state`, `nonce` and `verifier`.
+//! - `op=client`: `id`, `secret?`, and the URL texts `issuer`, `auth`, `token`, `userinfo?` and `redirect?`; `algs`,
+//!   the texts of signing algorithms with one space between them.
+//! - `op=begin`: `state`, `nonce` and `verifier`; `redirect?`, a URL text; `userinfo?`, which is `json` or `jwt`, where
+//!   user info is asked for.
 //! - `op=callback`: `now`, whole seconds since the Unix epoch; `query`; and the answer to the token
 //!   request, where there is one: `token_fault`, which is `1`, or `token_status`, three digits from
-//!   100 on, and with it, each where it is given, `token_type`, a content type, and `token_body`,
-//!   which is empty where it isn't given.
+//!   100 on, and with it `token_type?`, a content type, and `token_body?`; and behind it the answer to the user info
+//!   request, where there is one, under the same names with `info_` in the place of `token_`.
 //!
 //! # Reports
 //!
 //! Each line ends in a line feed: `client ok`; `begin ok` and the URL, or `begin refused` and why;
 //! for a callback a line `request` for each request that was sent, and then `callback ok` with access
-//! token, any refresh token, and claims, or `callback refused` and why; at last `pending` and the
-//! number of pending logins, or
-//! `script fault line` and the number of the first line that is no event in its place.
+//! token, any refresh token, claims, and user info where it was asked for, or `callback refused` and why; at last
+//! `pending` and the number of pending logins, or `script fault line` and the number of the first line that is no
+//! event in its place.
 #![tactic(auto)]
 
 mod calls;
@@ -44,6 +44,7 @@ mod report_lines;
 mod script;
 mod sinks;
 mod sources;
+mod user;
 
 pub use crate::calls::Failed;
 pub use crate::program::{

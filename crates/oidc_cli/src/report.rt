@@ -1,28 +1,30 @@
 //! A script's events, one after another, and their report.
-ghost use Rattle.std.specs.Prelude.{◌≡◌, ◌+◌, ◌≤◌, ◌<◌, ◌^◌, IfOk, OnOk, OnErr, IsErrOf, IfSome, IsSome, IsNone, Some, false};
+ghost use Rattle.std.specs.Prelude.{◌≡◌, ◌++◌, ◌+◌, ◌≤◌, ◌<◌, ◌^◌, [], IfOk, IfErr, OnOk, OnErr, IsErrOf, IfSome, IsSome, IsNone, Some, None, false};
 ghost use Rattle.std.specs.FinMap as finite;
+ghost use Rattle.std.specs.Option.{option_or};
 ghost use Rattle.std.specs.String.{string_bytes};
-ghost use Rattle.oidc_pairs.specs.Pairs.{pairs};
-ghost use Rattle.oidc_login.specs.Errors.{reply_of};
-ghost use Rattle.oidc_login.specs.Rows.{callback_store};
+ghost use Rattle.oidc_login.specs.Begins.{begin_reply};
+ghost use Rattle.oidc_login.specs.Errors.{memory_of, reply_of};
+ghost use Rattle.oidc_login.specs.Events.{called_with};
+ghost use Rattle.oidc_login.specs.Rows.{callback_store, outcome};
 ghost use Rattle.oidc_cli.specs.Calls.{HasRisen};
 ghost use Rattle.oidc_cli.specs.Sinks.{Puts, PutsPrefix};
+ghost use Rattle.oidc_cli.specs.Types.{types};
 ghost use Rattle.oidc_cli.specs.Script.{lines, is_client, is_step, fault_from, fault_of};
-ghost use Rattle.oidc_cli.specs.ReportLines.{request_lines, callback_lines, fault_line as line_of_fault, pending_line as line_of_pending};
-ghost use Rattle.oidc_cli.specs.Report.{client_of as client_seen, reply_of_begin, run_of_callback, step_lines, store_after, rest_of_report, report, ending_of};
+ghost use Rattle.oidc_cli.specs.ReportLines.{HasNoFloats, request_lines, verdict_line as line_of_verdict, fault_line as line_of_fault, pending_line as line_of_pending};
+ghost use Rattle.oidc_cli.specs.Report.{client_of as client_seen, code_request as request_for_code, begin_of_line, call_of_line, event_lines, store_after, rest_of_report, report, ending_of};
 
-use crate::events::{BeginLine, CallbackLine, ClientLine, Event};
+use crate::events::{BeginLine, CallbackLine, ClientLine, Event, ProviderUrls};
 use crate::reading::LIMIT;
 use crate::report_lines::{begin_line, fault_line, pending_line, request_line, verdict_line};
 use crate::script::{first_line, read_line};
+use crate::user::{PendingLogins, User};
 use crate::{Failed, Sink};
-use oidc_keys::CoreJsonWebKeySet;
-use oidc_login::client::Client;
-use oidc_login::client::authorization::AuthorizationRequest;
-use oidc_login::errors::{BeginError, LoginError};
-use oidc_login::logins::Logins;
-use oidc_login::signed_in::SignedIn;
+use oidc_client::{AuthenticationFlow, Client, CoreAuthenticationFlow, CoreProviderMetadata};
+use oidc_login::{BeginError, LoginClient, LoginError, LoginRequest, Logins};
 use oidc_oauth2::{Fault, HttpRequest, Recorded};
+use oidc_types::{CoreJwsSigningAlgorithm, CsrfToken, Nonce, RedirectUrl};
+use oidc_user_info::EmptyAdditionalProviderMetadata;
 use std::alloc::{AllocError, Global};
 use url::Url;
 
@@ -79,28 +81,95 @@ fn client_line_of(event: Option<Event>) -> Option<ClientLine>
     }
 }
 
+// What a provider says of itself.
+fn provider_of(
+    alloc: Global,
+    urls: ProviderUrls,
+    algorithms: Vec<CoreJwsSigningAlgorithm>,
+) -> CoreProviderMetadata
+    ensures issuer { result.issuer ≡ urls.issuer }
+    ensures auth { result.authorization_endpoint ≡ urls.auth }
+    ensures token { result.token_endpoint ≡ Some urls.token }
+    ensures user_info { result.userinfo_endpoint ≡ urls.user_info }
+    ensures algorithms { result.signing_algorithms ≡ algorithms.items }
+    ensures keys { result.jwks ≡ [] }
+{
+    let ProviderUrls {
+        issuer,
+        jwks_uri,
+        auth,
+        token,
+        user_info,
+    } = urls;
+    let nothing_more = EmptyAdditionalProviderMetadata {};
+    CoreProviderMetadata::new(alloc, issuer, auth, jwks_uri, algorithms, nothing_more)
+        .set_token_endpoint(Some(token))
+        .set_userinfo_endpoint(user_info)
+}
+
 // The client of a client line.
-fn client_of(alloc: Global, line: ClientLine) -> Client
+fn client_of(alloc: Global, line: ClientLine) -> LoginClient
     ensures { result ≡ client_seen line }
 {
     let ClientLine {
         id,
         secret,
-        issuer,
-        auth,
-        token,
+        provider,
+        redirect,
         algorithms,
     } = line;
-    let keys = CoreJsonWebKeySet::new(Vec::new(alloc));
-    Client::new(id, secret, issuer, keys, auth, algorithms).set_token_uri(token)
+    let provider = provider_of(alloc, provider, algorithms);
+    let client: LoginClient = Client::from_provider_metadata(provider, id, secret);
+    match redirect {
+        None => client,
+        Some(redirect) => client.set_redirect_uri(redirect),
+    }
 }
 
 // ---- begins
 
+// A client's request for a code.
+fn code_request<'c>(
+    alloc: Global,
+    client: &'c LoginClient,
+    state: CsrfToken,
+    nonce: Nonce,
+) -> Result<LoginRequest<'c>, AllocError>
+    ensures { IfOk result (λ request. request ≡ request_for_code client.now state nonce) }
+{
+    let flow: CoreAuthenticationFlow = AuthenticationFlow::AuthorizationCode;
+    client.authorize_url(alloc, flow, move || state, move || nonce)
+}
+
+// The same, with a redirect of its own, where there is one.
+fn request_with<'c>(
+    alloc: Global,
+    client: &'c LoginClient,
+    state: CsrfToken,
+    nonce: Nonce,
+    redirect: Option<RedirectUrl>,
+) -> Result<LoginRequest<'c>, AllocError>
+    ensures { IfOk result (λ request. request ≡ record (request_for_code client.now state nonce) {
+      redirect_uri = option_or redirect client.now.redirect_uri;
+    }) }
+{
+    let request = code_request(alloc, client, state, nonce)?;
+    match redirect {
+        None => Ok(request),
+        Some(redirect) => Ok(request.set_redirect_uri(redirect)),
+    }
+}
+
 // What a begin line gets, unless there is no memory.
-fn begin(logins: &mut Logins<'_>, line: BeginLine) -> Result<Result<Url, BeginError>, AllocError>
-    ensures reply { IfOk result
-        (λ reply. reply ≡ reply_of_begin logins.old.client logins.old.pending line) }
+fn begin<'c>(
+    alloc: Global,
+    client: &'c LoginClient,
+    logins: &mut PendingLogins<'c>,
+    line: BeginLine,
+) -> Result<Result<Url, BeginError>, AllocError>
+    requires same { logins.old.client ≡ client.now }
+    ensures reply { let b = begin_of_line logins.old.client line in
+        IfOk result (λ reply. reply ≡ begin_reply logins.old.client logins.old.pending b) }
     ensures client { logins.new.client ≡ logins.old.client }
     ensures store { OnOk result
         (logins.new.pending
@@ -109,9 +178,12 @@ fn begin(logins: &mut Logins<'_>, line: BeginLine) -> Result<Result<Url, BeginEr
     let BeginLine {
         state,
         nonce,
+        redirect,
         verifier,
+        user_info,
     } = line;
-    match logins.begin(AuthorizationRequest::new(state, nonce), verifier) {
+    let request = request_with(alloc, client, state, nonce, redirect)?;
+    match logins.begin(request, verifier, user_info) {
         Ok(url) => Ok(Ok(url)),
         Err(BeginError::Memory) => Err(AllocError),
         Err(refusal) => Ok(Err(refusal)),
@@ -120,18 +192,20 @@ fn begin(logins: &mut Logins<'_>, line: BeginLine) -> Result<Result<Url, BeginEr
 
 // Runs a begin line and puts its line.
 #[tactic(auto, using(crate::proofs::Passing::prefix_none))]
-fn put_begin<O: Sink>(
+fn put_begin<'c, O: Sink>(
     alloc: Global,
-    logins: &mut Logins<'_>,
+    client: &'c LoginClient,
+    logins: &mut PendingLogins<'c>,
     line: BeginLine,
     sink: &mut O,
 ) -> Result<(), Halt>
+    requires same { logins.old.client ≡ client.now }
     ensures whole { OnOk result
         (Puts (O.written sink.old) (O.written sink.new)
-        (step_lines logins.old.client logins.old.pending (Some (Event.Begin line)))) }
+        (event_lines logins.old.client logins.old.pending (Some (Event.Begin line)))) }
     ensures begun { OnErr result
         (PutsPrefix (O.written sink.old) (O.written sink.new)
-        (step_lines logins.old.client logins.old.pending (Some (Event.Begin line)))) }
+        (event_lines logins.old.client logins.old.pending (Some (Event.Begin line)))) }
     ensures client { logins.new.client ≡ logins.old.client }
     ensures store { OnOk result
         (logins.new.pending
@@ -139,7 +213,7 @@ fn put_begin<O: Sink>(
     ensures blamed { IsErrOf result Halt.Sink → HasRisen (O.faults sink.old) (O.faults sink.new) }
     ensures counts { O.faults sink.old ≤ O.faults sink.new }
 {
-    let reply = begin(logins, line)?;
+    let reply = begin(alloc, client, logins, line)?;
     let text = begin_line(alloc, &reply)?;
     sink.put(text.as_str().as_bytes())?;
     Ok(())
@@ -150,35 +224,23 @@ fn put_begin<O: Sink>(
 // What a callback got, and the transport that it used.
 #[derive(Drop)]
 struct Replied {
-    reply: Result<SignedIn, LoginError<Fault>>,
+    reply: Result<User, LoginError<Fault>>,
     http: Recorded,
 }
 
-// What a callback line gets, unless there is no memory.
-fn call_back(
-    alloc: Global,
-    logins: &mut Logins<'_>,
-    line: CallbackLine,
+// What a callback got, unless there was no memory.
+#[tactic(auto, using(crate::proofs::Callbacks::no_memory))]
+fn replied_with(
+    reply: Result<User, LoginError<Fault>>,
+    http: Recorded,
 ) -> Result<Replied, AllocError>
-    ensures reply { IfOk result
-        (λ replied. reply_of replied.reply
-        ≡ (run_of_callback logins.old.client logins.old.pending line).reply) }
-    ensures sent { IfOk result
-        (λ replied. replied.http.requests
-        ≡ (run_of_callback logins.old.client logins.old.pending line).sent) }
-    ensures client { logins.new.client ≡ logins.old.client }
-    ensures store { OnOk result
-        (logins.new.pending ≡ callback_store logins.old.pending (pairs line.query)) }
+    ensures reply { IfOk result (λ replied. replied.reply ≡ reply) }
+    ensures http { IfOk result (λ replied. replied.http ≡ http) }
+    ensures memory { OnOk result (IfErr reply (λ e. memory_of e ≡ None)) }
 {
-    let CallbackLine {
-        now,
-        query,
-        answers,
-    } = line;
-    let mut http = Recorded::new(alloc, answers);
-    match logins.callback(query.as_bytes(), &mut http, now) {
-        Ok(signed) => Ok(Replied {
-            reply: Ok(signed),
+    match reply {
+        Ok(user) => Ok(Replied {
+            reply: Ok(user),
             http,
         }),
         Err(refusal) => match refusal {
@@ -189,6 +251,31 @@ fn call_back(
             }),
         },
     }
+}
+
+// What a callback line gets, unless there is no memory.
+fn call_back(
+    alloc: Global,
+    logins: &mut PendingLogins<'_>,
+    line: CallbackLine,
+) -> Result<Replied, AllocError>
+    ensures reply { let a = called_with logins.old.client logins.old.pending (call_of_line line) in
+        IfOk result (λ replied. reply_of replied.reply ≡ (outcome types a line.answers).reply) }
+    ensures sent { let a = called_with logins.old.client logins.old.pending (call_of_line line) in
+        IfOk result (λ replied. replied.http.requests ≡ (outcome types a line.answers).sent) }
+    ensures no_floats { IfOk result (λ replied. HasNoFloats (reply_of replied.reply)) }
+    ensures client { logins.new.client ≡ logins.old.client }
+    ensures store { OnOk result
+        (logins.new.pending ≡ callback_store logins.old.pending line.query) }
+{
+    let CallbackLine {
+        now,
+        query,
+        answers,
+    } = line;
+    let mut http = Recorded::new(alloc, answers);
+    let reply = logins.callback(query.as_bytes(), &mut http, now);
+    replied_with(reply, http)
 }
 
 // Puts the lines of requests.
@@ -208,16 +295,16 @@ fn put_requests<O: Sink>(alloc: Global, requests: &[HttpRequest], sink: &mut O) 
     Ok(())
 }
 
-// Puts the lines of a callback.
+// Puts the lines of a callback, whose claims hold no float.
 fn put_replied<O: Sink>(alloc: Global, replied: &Replied, sink: &mut O) -> Result<(), Halt>
-    ensures whole { OnOk result
+    ensures whole { let reply = reply_of replied.now.reply in
+        HasNoFloats reply → OnOk result
         (Puts (O.written sink.old) (O.written sink.new)
-        (callback_lines
-        (record { reply = reply_of replied.now.reply; sent = replied.now.http.requests }))) }
-    ensures begun { OnErr result
+        (request_lines replied.now.http.requests ++ line_of_verdict reply)) }
+    ensures begun { let reply = reply_of replied.now.reply in
+        HasNoFloats reply → OnErr result
         (PutsPrefix (O.written sink.old) (O.written sink.new)
-        (callback_lines
-        (record { reply = reply_of replied.now.reply; sent = replied.now.http.requests }))) }
+        (request_lines replied.now.http.requests ++ line_of_verdict reply)) }
     ensures blamed { IsErrOf result Halt.Sink → HasRisen (O.faults sink.old) (O.faults sink.new) }
     ensures counts { O.faults sink.old ≤ O.faults sink.new }
 {
@@ -231,16 +318,16 @@ fn put_replied<O: Sink>(alloc: Global, replied: &Replied, sink: &mut O) -> Resul
 #[tactic(auto, using(crate::proofs::Passing::prefix_none))]
 fn put_callback<O: Sink>(
     alloc: Global,
-    logins: &mut Logins<'_>,
+    logins: &mut PendingLogins<'_>,
     line: CallbackLine,
     sink: &mut O,
 ) -> Result<(), Halt>
     ensures whole { OnOk result
         (Puts (O.written sink.old) (O.written sink.new)
-        (step_lines logins.old.client logins.old.pending (Some (Event.Callback line)))) }
+        (event_lines logins.old.client logins.old.pending (Some (Event.Callback line)))) }
     ensures begun { OnErr result
         (PutsPrefix (O.written sink.old) (O.written sink.new)
-        (step_lines logins.old.client logins.old.pending (Some (Event.Callback line)))) }
+        (event_lines logins.old.client logins.old.pending (Some (Event.Callback line)))) }
     ensures client { logins.new.client ≡ logins.old.client }
     ensures store { OnOk result
         (logins.new.pending
@@ -248,28 +335,34 @@ fn put_callback<O: Sink>(
     ensures blamed { IsErrOf result Halt.Sink → HasRisen (O.faults sink.old) (O.faults sink.new) }
     ensures counts { O.faults sink.old ≤ O.faults sink.new }
 {
-    // What came is large: it is let go once, and not on each way out.
-    let replied = call_back(alloc, logins, line)?;
-    put_replied(alloc, &replied, sink)
+    // What came is large: it is let go once, by a call, and not on each way out.
+    let Ok(replied) = call_back(alloc, logins, line) else {
+        return Err(Halt::Memory);
+    };
+    let put = put_replied(alloc, &replied, sink);
+    drop(replied);
+    put
 }
 
 // ---- the report
 
 // Runs a begin or a callback and puts its lines. The result is whether the event is one.
 #[tactic(auto, using(crate::proofs::Passing::puts_nothing))]
-fn put_step<O: Sink>(
+fn put_step<'c, O: Sink>(
     alloc: Global,
-    logins: &mut Logins<'_>,
+    client: &'c LoginClient,
+    logins: &mut PendingLogins<'c>,
     event: Option<Event>,
     sink: &mut O,
 ) -> Result<bool, Halt>
+    requires same { logins.old.client ≡ client.now }
     ensures placed { IfOk result (λ placed. placed ≡ is_step event) }
     ensures whole { OnOk result
         (Puts (O.written sink.old) (O.written sink.new)
-        (step_lines logins.old.client logins.old.pending event)) }
+        (event_lines logins.old.client logins.old.pending event)) }
     ensures begun { OnErr result
         (PutsPrefix (O.written sink.old) (O.written sink.new)
-        (step_lines logins.old.client logins.old.pending event)) }
+        (event_lines logins.old.client logins.old.pending event)) }
     ensures client { logins.new.client ≡ logins.old.client }
     ensures store { OnOk result
         (logins.new.pending ≡ store_after logins.old.client logins.old.pending event) }
@@ -278,7 +371,7 @@ fn put_step<O: Sink>(
 {
     match event {
         Some(Event::Begin(line)) => {
-            put_begin(alloc, logins, line, sink)?;
+            put_begin(alloc, client, logins, line, sink)?;
             Ok(true)
         }
         Some(Event::Callback(line)) => {
@@ -319,7 +412,11 @@ fn put_fault<O: Sink>(alloc: Global, number: usize, sink: &mut O) -> Result<Endi
 
 // Puts the line of the pending logins.
 #[tactic(auto, using(crate::proofs::Passing::prefix_none))]
-fn put_pending<O: Sink>(alloc: Global, logins: &Logins<'_>, sink: &mut O) -> Result<Ending, Halt>
+fn put_pending<O: Sink>(
+    alloc: Global,
+    logins: &PendingLogins<'_>,
+    sink: &mut O,
+) -> Result<Ending, Halt>
     ensures ending { IfOk result (λ ending. ending ≡ Ending.Pending) }
     ensures whole { OnOk result
         (Puts (O.written sink.old) (O.written sink.new) (line_of_pending logins.now.pending)) }
@@ -337,11 +434,11 @@ fn put_pending<O: Sink>(alloc: Global, logins: &Logins<'_>, sink: &mut O) -> Res
 // Puts the report of the lines behind the client line.
 fn put_steps<O: Sink>(
     alloc: Global,
-    client: &Client,
+    client: &LoginClient,
     script: &[u8],
     sink: &mut O,
 ) -> Result<Ending, Halt>
-    requires endpoint { IsSome client.now.token_endpoint }
+    requires endpoint { IsSome client.now.token_uri }
     ensures ending { IfOk result
         (λ ending. ending ≡ ending_of (fault_from 2 (lines script.now))) }
     ensures whole { OnOk result
@@ -362,7 +459,7 @@ fn put_steps<O: Sink>(
     let mut left = script;
     while let Some((line, rest)) = first_line(left) {
         let event = read_line(alloc, line)?;
-        if !put_step(alloc, &mut logins, event, sink)? {
+        if !put_step(alloc, client, &mut logins, event, sink)? {
             return put_fault(alloc, number, sink);
         }
         number += 1;

@@ -1,27 +1,32 @@
 //! The lines of a report.
-ghost use Rattle.std.specs.Prelude.{◌≡◌, ℕ, List, [], ◌∷◌, ◌++◌, decimal, codes, IfOk, OnOk, Ok, Err};
+ghost use Rattle.std.specs.Prelude.{◌≡◌, ℕ, List, [], ◌∷◌, ◌++◌, decimal, codes, false, IfOk, IfSome, OnOk, Ok, Err};
 ghost use Rattle.std.specs.Option.{option_copied};
 ghost use Rattle.std.specs.String.{string_bytes};
 ghost use Rattle.form_urlencoded.specs.Form.{serialize_pair};
 ghost use Rattle.oidc_pairs.specs.Form.{escaped};
 ghost use Rattle.oidc_oauth2.specs.Words.{error_text};
 ghost use Rattle.oidc_oauth2.specs.TokenAnswers.{seen_refusal};
+ghost use Rattle.oidc_members.specs.Write.{any_float};
+ghost use Rattle.oidc_claims.specs.Others.{list_of};
+ghost use Rattle.oidc_user_info.specs.InfoErrors.{seen_refusal as seen_info};
 ghost use Rattle.oidc_login.specs.Errors.{reply_of};
+ghost use Rattle.oidc_cli.specs.Types as types;
 ghost use Rattle.oidc_cli.specs.ReportLines as spec;
-ghost use Rattle.oidc_cli.specs.ReportLines.{behind, refresh_pair, header_pair, body_pair, begin_line as line_of_begin, request_line as line_of_request, signature_word as word_of_signature, claims_word as word_of_claims, verdict_line as line_of_verdict, fault_line as line_of_fault};
+ghost use Rattle.oidc_cli.specs.ReportLines.{behind, refresh_pair, user_info_pair, HasNoFloats, header_pair, body_pair, begin_line as line_of_begin, request_line as line_of_request, signature_word as word_of_signature, claims_word as word_of_claims, verdict_line as line_of_verdict, fault_line as line_of_fault};
 
+use crate::user::{User, UserClaims, UserInfo};
 use form_urlencoded::byte_serialize;
 use http_header::HeaderValue;
 use oidc_keys::SignatureVerificationError;
-use oidc_login::errors::{BeginError, LoginError, TooLong};
-use oidc_login::signed_in::SignedIn;
+use oidc_login::{BeginError, LoginError, TooLong};
 use oidc_members::{ParseKind, Refusal, write_object};
 use oidc_oauth2::{
     CoreErrorResponseType, CoreRequestTokenError, Fault, HttpRequest, OtherCause,
     RequestTokenError, StandardErrorResponse,
 };
 use oidc_tokens::{ClaimsVerificationError, Payload};
-use oidc_types::{RefreshToken, Vocabulary};
+use oidc_types::{CoreAuthErrorResponseType, RefreshToken, Vocabulary};
+use oidc_user_info::{InfoOther, ResponseCause, UserInfoError};
 use std::alloc::{AllocError, Global};
 use url::Url;
 
@@ -94,8 +99,14 @@ pub fn begin_line(alloc: Global, reply: &Result<Url, BeginError>) -> Result<Stri
 {
     match reply {
         Ok(url) => begin_ok_line(alloc, url),
+        Err(BeginError::Flow) => String::from_str(alloc, "begin refused flow\n"),
+        Err(BeginError::ClientId) => String::from_str(alloc, "begin refused client_id\n"),
         Err(BeginError::Verifier) => String::from_str(alloc, "begin refused verifier\n"),
+        Err(BeginError::UserInfoEndpoint) => {
+            String::from_str(alloc, "begin refused user_info_endpoint\n")
+        }
         Err(BeginError::Pending) => String::from_str(alloc, "begin refused pending\n"),
+        Err(BeginError::TooLong) => String::from_str(alloc, "begin refused too_long\n"),
         Err(BeginError::Memory) => Err(AllocError),
     }
 }
@@ -126,22 +137,21 @@ pub fn request_line(alloc: Global, request: &HttpRequest) -> Result<String, Allo
     Ok(text)
 }
 
-/// The line of a callback's verdict. For want of memory there is none.
+/// The line of a callback's verdict, whose claims hold no float. For want of memory there is none.
 #[tactic(auto, unfolding(crate::specs::ReportLines::verdict_line))]
 pub fn verdict_line(
     alloc: Global,
-    reply: &Result<SignedIn, LoginError<Fault>>,
+    reply: &Result<User, LoginError<Fault>>,
 ) -> Result<String, AllocError>
-    ensures { IfOk result (λ text. string_bytes text ≡ line_of_verdict (reply_of reply.now)) }
+    ensures { HasNoFloats (reply_of reply.now)
+        → IfOk result (λ text. string_bytes text ≡ line_of_verdict (reply_of reply.now)) }
 {
     match reply {
         Ok(signed) => signed_line(alloc, signed),
-        Err(LoginError::TooLong(TooLong::TokenAnswer)) => {
-            String::from_str(alloc, "callback refused too_long token_answer\n")
-        }
+        Err(LoginError::TooLong(place)) => too_long_line(alloc, *place),
         Err(LoginError::State) => String::from_str(alloc, "callback refused state\n"),
+        Err(LoginError::Provider(code)) => provider_line(alloc, code),
         Err(LoginError::Callback) => String::from_str(alloc, "callback refused callback\n"),
-        Err(LoginError::Unbuilt) => String::from_str(alloc, "callback refused unbuilt\n"),
         Err(LoginError::Token(error)) => token_line(alloc, error),
         Err(LoginError::NoIdToken) => String::from_str(alloc, "callback refused no_id_token\n"),
         Err(LoginError::Claims(kind)) => claims_line(alloc, *kind),
@@ -149,9 +159,12 @@ pub fn verdict_line(
             String::from_str(alloc, "callback refused signing unsupported_alg\n")
         }
         Err(LoginError::TokenHash) => String::from_str(alloc, "callback refused token_hash\n"),
+        Err(LoginError::UserInfo(error)) => user_info_line(alloc, error),
         Err(LoginError::Memory { .. }) => Err(AllocError),
     }
 }
+
+// ---- a user who is signed in
 
 // Adds the pair of a refresh token, where there is one.
 fn push_refresh(text: &mut String, token: Option<&RefreshToken>) -> Result<(), AllocError>
@@ -164,11 +177,49 @@ fn push_refresh(text: &mut String, token: Option<&RefreshToken>) -> Result<(), A
     }
 }
 
-fn signed_line(alloc: Global, signed: &SignedIn) -> Result<String, AllocError>
-    ensures { IfOk result (λ text. string_bytes text ≡ line_of_verdict (Ok signed.now)) }
+// The compact text of claims that hold no float.
+fn claims_text(alloc: Global, claims: &UserClaims) -> Result<Vec<u8>, AllocError>
+    ensures { any_float (list_of claims.now.additional_claims) ≡ false
+        → IfOk result (λ text. text.items ≡ types.claims_text claims.now) }
 {
-    let members = signed.claims().write(alloc)?;
-    let claims = write_object(alloc, members.as_slice())?;
+    let members = claims.write(alloc)?;
+    write_object(alloc, members.as_slice())
+}
+
+// The compact text of user info that holds no float.
+fn user_info_text(alloc: Global, found: &UserInfo) -> Result<Vec<u8>, AllocError>
+    ensures { any_float (list_of found.now.additional_claims) ≡ false
+        → IfOk result (λ text. text.items ≡ types.user_info_text found.now) }
+{
+    let members = found.write(alloc)?;
+    write_object(alloc, members.as_slice())
+}
+
+// Adds the pair of user info, where there is some.
+fn push_user_info(
+    text: &mut String,
+    alloc: Global,
+    found: Option<&UserInfo>,
+) -> Result<(), AllocError>
+    ensures { let given = option_copied found.entry in
+        IfSome given (λ claims. any_float (list_of claims.additional_claims) ≡ false)
+        → OnOk result
+        (string_bytes text.new ≡ string_bytes text.old ++ behind (user_info_pair given)) }
+{
+    match found {
+        Some(found) => {
+            let claims = user_info_text(alloc, found)?;
+            push_behind(text, "user_info", claims.as_slice())
+        }
+        None => Ok(()),
+    }
+}
+
+fn signed_line(alloc: Global, signed: &User) -> Result<String, AllocError>
+    ensures { HasNoFloats (Ok signed.now)
+        → IfOk result (λ text. string_bytes text ≡ line_of_verdict (Ok signed.now)) }
+{
+    let claims = claims_text(alloc, signed.claims())?;
     let mut text = String::from_str(alloc, "callback ok ")?;
     push_first(
         &mut text,
@@ -177,6 +228,41 @@ fn signed_line(alloc: Global, signed: &SignedIn) -> Result<String, AllocError>
     )?;
     push_refresh(&mut text, signed.refresh_token())?;
     push_behind(&mut text, "claims", claims.as_slice())?;
+    push_user_info(&mut text, alloc, signed.user_info())?;
+    text.push_str("\n")?;
+    Ok(text)
+}
+
+// ---- refusals
+
+fn place_word(place: TooLong) -> &'static str
+    ensures { result.now ≡ spec.place_word place }
+{
+    match place {
+        TooLong::Callback => "callback",
+        TooLong::TokenAnswer => "token_answer",
+        TooLong::UserInfoAnswer => "user_info_answer",
+    }
+}
+
+#[tactic(auto, unfolding(crate::specs::ReportLines::verdict_line))]
+fn too_long_line(alloc: Global, place: TooLong) -> Result<String, AllocError>
+    ensures { IfOk result
+        (λ text. string_bytes text ≡ line_of_verdict (Err (LoginError.TooLong place))) }
+{
+    let mut text = String::from_str(alloc, "callback refused too_long ")?;
+    text.push_str(place_word(place))?;
+    text.push_str("\n")?;
+    Ok(text)
+}
+
+#[tactic(auto, unfolding(crate::specs::ReportLines::verdict_line))]
+fn provider_line(alloc: Global, code: &CoreAuthErrorResponseType) -> Result<String, AllocError>
+    ensures { IfOk result
+        (λ text. string_bytes text ≡ line_of_verdict (Err (LoginError.Provider code.now))) }
+{
+    let mut text = String::from_str(alloc, "callback refused provider ")?;
+    push_escaped(&mut text, code.as_ref().as_bytes())?;
     text.push_str("\n")?;
     Ok(text)
 }
@@ -261,6 +347,45 @@ fn claims_line(alloc: Global, kind: ClaimsVerificationError) -> Result<String, A
     text.push_str(claims_word(kind))?;
     text.push_str("\n")?;
     Ok(text)
+}
+
+#[tactic(auto, unfolding(crate::specs::ReportLines::verdict_line))]
+fn user_info_line(alloc: Global, error: &UserInfoError<Fault>) -> Result<String, AllocError>
+    ensures { let refusal = LoginError.UserInfo (seen_info error.now) in
+        IfOk result (λ text. string_bytes text ≡ line_of_verdict (Err refusal)) }
+{
+    let mut text = String::from_str(alloc, "callback refused user_info ")?;
+    push_info_words(&mut text, error)?;
+    text.push_str("\n")?;
+    Ok(text)
+}
+
+// Adds the words for the refusal of user info.
+fn push_info_words(text: &mut String, error: &UserInfoError<Fault>) -> Result<(), AllocError>
+    ensures { OnOk result (string_bytes text.new
+        ≡ string_bytes text.old ++ spec.info_words (seen_info error.now)) }
+{
+    match error {
+        UserInfoError::Other(InfoOther::Bearer) => text.push_str("bearer"),
+        UserInfoError::Other(InfoOther::Uri) => text.push_str("uri"),
+        UserInfoError::Other(InfoOther::Utf8) => text.push_str("utf8"),
+        UserInfoError::Request(_) => text.push_str("request"),
+        UserInfoError::Response(_, _, ResponseCause::Status) => text.push_str("status"),
+        UserInfoError::Response(_, _, ResponseCause::MediaType) => text.push_str("media_type"),
+        UserInfoError::Parse(refusal) => push_parse(text, refusal),
+        UserInfoError::ClaimsVerification(kind) => push_claims(text, *kind),
+        UserInfoError::TooLong(_) => Ok(()),
+        UserInfoError::Memory => Ok(()),
+    }
+}
+
+fn push_claims(text: &mut String, kind: ClaimsVerificationError) -> Result<(), AllocError>
+    ensures { OnOk result (string_bytes text.new
+        ≡ string_bytes text.old ++ codes "claims " ++ word_of_claims kind) }
+{
+    text.push_str("claims ")?;
+    text.push_str(claims_word(kind))?;
+    Ok(())
 }
 
 fn claims_word(kind: ClaimsVerificationError) -> &'static str

@@ -1,18 +1,19 @@
 //! The lines of a script, and what they say.
-ghost use Rattle.std.specs.Prelude.{◌≡◌, ◌==◌, ◌∷◌, ◌<◌, [], length, position, codes, IfOk, IfSome, IsNone, Some, ◌↔◌};
+ghost use Rattle.std.specs.Prelude.{◌≡◌, ◌==◌, ◌∷◌, ◌<◌, ◌≤◌, [], length, position, codes, IfOk, IfSome, IsNone, Some, ◌↔◌};
 ghost use Rattle.std.specs.Option.{option_copied};
 ghost use Rattle.oidc_cli.specs.Values.{Reads, optional_value};
 ghost use Rattle.std.specs.List.{list_all};
 ghost use Rattle.oidc_cli.specs.Script as spec;
-ghost use Rattle.oidc_cli.specs.Script.{lines, kind_of as kind_in, client_event_of, begin_event_of, callback_event_of, event_of_pairs, event_of};
+ghost use Rattle.oidc_cli.specs.Script.{lines, kind_of as kind_in, provider_urls, client_event_of, begin_event_of, callback_event_of, event_of_pairs, event_of};
 
 mod answers;
 mod values;
 
-use crate::events::{BeginLine, CallbackLine, ClientLine, Event, LineError};
+use crate::events::{BeginLine, CallbackLine, ClientLine, Event, LineError, ProviderUrls};
 use crate::script::answers::read_answers;
 use crate::script::values::{
-    lacks, only_text, optional_text, pair_algorithms, pair_moment, pair_text, pair_url,
+    lacks, only_text, optional_demand, optional_text, optional_url, pair_algorithms, pair_moment,
+    pair_text, pair_url,
 };
 use oidc_pairs::Pairs;
 use oidc_types::{ClientId, ClientSecret, CsrfToken, Nonce, PkceCodeVerifier};
@@ -76,11 +77,28 @@ fn read_event(alloc: Global, line: &Pairs) -> Result<Event, LineError>
     }
 }
 
+// One pair, where a line has this name.
+fn one_if_there(line: &Pairs, name: &str) -> usize
+    ensures count { result ≡ spec.one_if_there line.now name.now }
+    ensures few { result ≤ 1 }
+{
+    if lacks(line, name) { 0 } else { 1 }
+}
+
 // How many pairs a client line has.
 fn client_pairs(line: &Pairs) -> usize
     ensures { result ≡ spec.client_pairs line.now }
 {
-    if lacks(line, "secret") { 6 } else { 7 }
+    6 + one_if_there(line, "secret")
+        + one_if_there(line, "userinfo")
+        + one_if_there(line, "redirect")
+}
+
+// How many pairs a begin line has.
+fn begin_pairs(line: &Pairs) -> usize
+    ensures { result ≡ spec.begin_pairs line.now }
+{
+    4 + one_if_there(line, "redirect") + one_if_there(line, "userinfo")
 }
 
 // The secret on a client line, where it has one.
@@ -93,6 +111,24 @@ fn read_secret(alloc: Global, line: &Pairs) -> Result<Option<ClientSecret>, Line
     }
 }
 
+#[tactic(auto, unfolding(crate::specs::Script::provider_urls))]
+fn read_urls(alloc: Global, line: &Pairs) -> Result<ProviderUrls, LineError>
+    ensures { Reads (λ read. read) result (provider_urls line.now) }
+{
+    let issuer = pair_url(alloc, line, "issuer")?;
+    let jwks_uri = pair_url(alloc, line, "issuer")?;
+    let auth = pair_url(alloc, line, "auth")?;
+    let token = pair_url(alloc, line, "token")?;
+    let user_info = optional_url(alloc, line, "userinfo")?;
+    Ok(ProviderUrls {
+        issuer,
+        jwks_uri,
+        auth,
+        token,
+        user_info,
+    })
+}
+
 #[tactic(auto, unfolding(crate::specs::Script::client_event_of))]
 fn read_client(alloc: Global, line: &Pairs) -> Result<ClientLine, LineError>
     ensures { Reads (λ read. read) result (client_event_of line.now) }
@@ -100,18 +136,22 @@ fn read_client(alloc: Global, line: &Pairs) -> Result<ClientLine, LineError>
     if line.len() != client_pairs(line) {
         return Err(LineError::NoEvent);
     }
+    client_values(alloc, line)
+}
+
+fn client_values(alloc: Global, line: &Pairs) -> Result<ClientLine, LineError>
+    ensures { Reads (λ read. read) result (spec.client_values line.now) }
+{
     let id = pair_text(alloc, line, "id")?;
     let secret = read_secret(alloc, line)?;
-    let issuer = pair_url(alloc, line, "issuer")?;
-    let auth = pair_url(alloc, line, "auth")?;
-    let token = pair_url(alloc, line, "token")?;
+    let redirect = optional_url(alloc, line, "redirect")?;
     let algorithms = pair_algorithms(alloc, line, "algs")?;
+    let provider = read_urls(alloc, line)?;
     Ok(ClientLine {
         id: ClientId::new(id),
         secret,
-        issuer,
-        auth,
-        token,
+        provider,
+        redirect,
         algorithms,
     })
 }
@@ -120,16 +160,20 @@ fn read_client(alloc: Global, line: &Pairs) -> Result<ClientLine, LineError>
 fn read_begin(alloc: Global, line: &Pairs) -> Result<BeginLine, LineError>
     ensures { Reads (λ read. read) result (begin_event_of line.now) }
 {
-    if line.len() != 4 {
+    if line.len() != begin_pairs(line) {
         return Err(LineError::NoEvent);
     }
     let state = pair_text(alloc, line, "state")?;
     let nonce = pair_text(alloc, line, "nonce")?;
+    let redirect = optional_url(alloc, line, "redirect")?;
     let verifier = pair_text(alloc, line, "verifier")?;
+    let user_info = optional_demand(line, "userinfo")?;
     Ok(BeginLine {
         state: CsrfToken::new(state),
         nonce: Nonce::new(nonce),
+        redirect,
         verifier: PkceCodeVerifier::new(verifier),
+        user_info,
     })
 }
 
@@ -139,7 +183,16 @@ fn is_callback_name(name: &str) -> bool
 {
     matches!(
         name,
-        "op" | "now" | "query" | "token_status" | "token_type" | "token_body" | "token_fault"
+        "op" | "now"
+            | "query"
+            | "token_status"
+            | "token_type"
+            | "token_body"
+            | "token_fault"
+            | "info_status"
+            | "info_type"
+            | "info_body"
+            | "info_fault"
     )
 }
 

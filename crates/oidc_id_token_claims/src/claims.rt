@@ -319,12 +319,24 @@ impl<AC: AdditionalClaims, GC: GenderClaim> IdTokenClaims<AC, GC> {
         ensures { Answers (spec.parts_in AC.read_of GC.read_of members.now) result }
     {
         match own.finish(alloc, members) {
-            Err(error) => Err(error),
+            Err(error) => {
+                drop(standard);
+                Err(error)
+            }
             Ok(own) => match standard.finish(alloc) {
-                Err(error) => Err(error),
+                Err(error) => {
+                    drop(own);
+                    Err(error)
+                }
                 Ok(standard_claims) => match read_additional(alloc, members.as_slice()) {
-                    Err(ParseError::Refused(refusal)) => Err(ParseError::Refused(refusal)),
-                    Err(ParseError::Memory) => Err(ParseError::Memory),
+                    Err(ParseError::Refused(refusal)) => {
+                        drop((own, standard_claims));
+                        Err(ParseError::Refused(refusal))
+                    }
+                    Err(ParseError::Memory) => {
+                        drop((own, standard_claims));
+                        Err(ParseError::Memory)
+                    }
                     Ok(additional_claims) => Ok(IdTokenClaims {
                         own,
                         standard_claims,

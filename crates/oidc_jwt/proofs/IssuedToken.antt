@@ -1,18 +1,16 @@
 -- What issuing a token answers, of a message that is ready.
-use Rattle.std.proofs.Common.{◌≡◌, ℕ, ◌<◌, List, [], ◌∷◌, ◌++◌, false, Option, Result, Ok, Err, codes, refl, sym, ap, subst, ◌∙◌, All, take, length, get_or, arith, length-append, append_assoc}
+use Rattle.std.proofs.Common.{◌≡◌, ℕ, ◌<◌, List, [], ◌∷◌, ◌++◌, false, Option, Result, Ok, codes, refl, sym, ap, subst, ◌∙◌, All, take, length, get_or, arith, length-append, append_assoc}
 use Rattle.std.specs.Prelude.{IsCharBoundary}
 use Rattle.std.proofs.Math.Seq.{get_or-append_seam}
 use Rattle.std.proofs.lemmas.List.{take_at}
 use Rattle.std.proofs.lemmas.Str.{IsCharBoundary-before_ascii}
 use Rattle.oidc_types.specs.declared.signing_error.SigningError.{SigningError}
-use Rattle.oidc_types.specs.declared.signing_error.SigningError.TheVariants.{CryptoError, UnsupportedAlg, Other, Memory}
-use Rattle.oidc_keys.specs.Jwk.{GivesRefusal}
 use Rattle.oidc_members.specs.Seen.{OutSeen}
 use Rattle.oidc_members.specs.Write.{any_float, object_text}
 use Rattle.oidc_readers.specs.WrittenBack.{IsUtf8Member}
 use Rattle.oidc_jwt.specs.Header.{written_header}
 use Rattle.oidc_jwt.specs.Encoded.{Encodes, IsHeaded, IsMessage, IsReady}
-use Rattle.oidc_jwt.specs.Issuing.{message_of, IsHeadedBy, compact, signed_with, token_with, with_signature, issued, Issues, IsRefusedBy, issue_error}
+use Rattle.oidc_jwt.specs.Issuing.{message_of, IsHeadedBy, compact, signed_with, token_with, with_signature, issued}
 use Rattle.oidc_jwt.specs.Tokens.{SeenToken}
 use Rattle.oidc_jwt.proofs.TokenBack.{message_is}
 use Rattle.oidc_jwt.proofs.FloatFree.{header_free}
@@ -31,25 +29,6 @@ module _ {JE JS P : Type 0} (alg_text : JS → List ℕ) (payload_out : P → Li
       → issued {JE = JE} alg_text payload_out signs id alg payload ≡ Ok (token_with {JE = JE} alg id payload message signature)
   issued_is message signature is said =
       ap (λ m. with_signature {JE = JE} alg id payload m (signs m)) (sym is) ∙ ap (with_signature {JE = JE} alg id payload message) said
-
-  pub refused_is : (message : List ℕ) (refusal : SigningError) → message ≡ meant_message alg_text payload_out id alg payload → signs message ≡ Err refusal
-      → issued {JE = JE} alg_text payload_out signs id alg payload ≡ Err refusal
-  refused_is message refusal is said =
-      ap (λ m. with_signature {JE = JE} alg id payload m (signs m)) (sym is) ∙ ap (with_signature {JE = JE} alg id payload message) said
-
--- a signer's refusal, as one of issuing
-pub issues_refused : {T : Type 0} (whole : Result T SigningError) (said : Result (List ℕ) SigningError) (refusal : SigningError) → GivesRefusal said refusal
-    → ((refusal : SigningError) → said ≡ Err refusal → whole ≡ Err refusal) → Issues whole (Err (issue_error refusal))
-issues_refused whole said CryptoError h back = back CryptoError h
-issues_refused whole said (UnsupportedAlg text) h back = back (UnsupportedAlg text) h
-issues_refused whole said (Other text) h back = back (Other text) h
-issues_refused whole said Memory h back = tt
-
-pub refused_by : (signs : List ℕ → Result (List ℕ) SigningError) (message : List ℕ) (refusal : SigningError) → GivesRefusal (signs message) refusal → IsRefusedBy signs (issue_error refusal)
-refused_by signs message CryptoError h = (message, h)
-refused_by signs message (UnsupportedAlg text) h = (message, h)
-refused_by signs message (Other text) h = (message, h)
-refused_by signs message Memory h = tt
 
 -- ---- the text
 

@@ -1,21 +1,28 @@
 -- A callback, return by return: what was handed over, and which reply and requests are meant.
-use Rattle.std.proofs.Common.{◌≡◌, ℕ, zero, suc, List, [], ◌∷◌, length, take, Bool, true, Option, None, Some, Result, Ok, Err, refl, sym, ap, subst, ◌∙◌, ◌≤◌, lit≤, arith, append-nil, inl, inr}
-use Rattle.std.specs.Prelude.{◌⊎◌, IfOk, IfErr, OnOk}
+use Rattle.std.proofs.Common.{◌≡◌, ℕ, ℤ, zero, suc, ◌+◌, List, [], ◌∷◌, ◌++◌, length, take, drop, Bool, true, Option, None, Some, Result, Ok, Err, refl, sym, ap, subst, ◌∙◌, ◌≤◌, lit≤, arith, append-nil, append_assoc, inl, inr, ⊎_elim}
+use Rattle.std.specs.Prelude.{◌⊎◌, IfOk, IfErr, IsOk, OnOk}
 use Rattle.oidc_pairs.specs.Pairs.{pairs}
 use Rattle.oidc_oauth2.specs.Messages.{SeenRequest, SeenAnswer}
-use Rattle.oidc_oauth2.specs.Transport.{Log, log_after, Plays}
+use Rattle.oidc_oauth2.specs.Transport.{Log, log_after, first_of, played, Plays}
 use Rattle.oidc_oauth2.specs.Exchanges.{Known}
-use Rattle.oidc_login.specs.SignedIn.{SeenSignedIn}
+use Rattle.oidc_user_info.specs.InfoRequests.{SeenInfoRequest}
+use Rattle.oidc_login.specs.Client.{SeenClient}
+use Rattle.oidc_login.specs.SiteTypes.{SiteTypes}
+use Rattle.oidc_login.specs.Logins.{SeenLogin}
+use Rattle.oidc_login.specs.SignedIn.{SeenSignedIn, signed_by}
 use Rattle.oidc_login.specs.Errors.{Error, seen, memory_of, Unless, OrMemory, Gives}
-use Rattle.oidc_login.specs.Rows.{Attempt, Meant, SeenOpened, Run, opening, after_token, with_token, outcome}
-use Rattle.oidc_login.specs.Causes.{Asks, AsksNothing, Cause, IsSignedIn}
-use Rattle.oidc_login.specs.Runs.{IsItsRequest, handed_over, Ran}
-use Rattle.oidc_login.specs.Steps.{Exchanged, Untouched}
+use Rattle.oidc_login.specs.Rows.{Attempt, Meant, SeenOpened, SeenAsked, Run, rest_of, preceded_by, answered_alone, opening, after_token, asking, after_info, asked_run, info_run, token_run, opened_run, outcome}
+use Rattle.oidc_login.specs.Causes.{Asks, AsksNothing, Held, AsksInfo, Cause, IsSignedIn}
+use Rattle.oidc_login.specs.ValidLogin.{IsValidLogin}
+use Rattle.oidc_login.specs.Runs.{IsItsRequest, AreBothRequests, AreItsRequests, handed_over, Ran}
+use Rattle.oidc_login.specs.Steps.{Exchanged, Untouched, Follows}
+use Rattle.oidc_login.specs.declared.demand.UserInfoDemand.{UserInfoDemand}
 use Rattle.oidc_login.specs.declared.errors.LoginError.{LoginError}
 use Rattle.oidc_login.specs.declared.errors.LoginError.TheVariants.{Memory}
 use Rattle.oidc_login.proofs.Walks.{Walk}
-use Rattle.oidc_login.proofs.Rows.{opening-walk, outcome-walk}
+use Rattle.oidc_login.proofs.Rows as rows
 use Rattle.oidc_login.proofs.Causes as causes
+use Rattle.oidc_login.proofs.Valid.{signed_of_valid}
 
 -- ---- what is meant, or want of memory: an Ok, a refusal, and Memory, and no other cases
 
@@ -31,6 +38,10 @@ pub either : {A E P : Type 0} (result : Result A (LoginError E)) → P → OrMem
 either (Ok x) p = p
 either (Err e) p = whatever (memory_of e) p
 
+or_map : {A E P R : Type 0} (result : Result A (LoginError E)) → (P → R) → OrMemory result P → OrMemory result R
+or_map (Ok x) f h = f h
+or_map (Err e) f h = unless_map (memory_of e) f h
+
 -- what a meant result has, a result has
 walked_err : {A E : Type 0} (P : A → Type 0) (Q : Error → Type 0) (result : Result A (LoginError E)) (meant : Meant A)
     → Walk P Q meant → Gives result meant → IfErr result (λ e. Unless (memory_of e) (Q (seen e)))
@@ -42,100 +53,278 @@ walked_ok : {A E : Type 0} (P : A → Type 0) (Q : Error → Type 0) (result : R
 walked_ok P Q (Ok x) meant walk gives = subst (Walk P Q) gives walk
 walked_ok P Q (Err e) meant walk gives = tt
 
+meant_ok : {A E : Type 0} (result : Result A (LoginError E)) (x : A) → Gives result (Ok x) → OrMemory result (IsOk result)
+meant_ok (Ok y) x gives = refl
+meant_ok (Err e) x gives = unless_map (memory_of e) (λ is. cc) gives
+
 -- ---- what was handed over
 
 log_kept : (log : Option Log) → log_after log [] [] ≡ log
 log_kept None = refl
 log_kept (Some log) = ap Some (λ i. record { requests = append-nil log.requests i; answers = append-nil log.answers i })
 
+log_twice : (log : Option Log) (p q : List SeenRequest) (x y : List SeenAnswer) → log_after (log_after log p x) q y ≡ log_after log (p ++ q) (x ++ y)
+log_twice None p q x y = refl
+log_twice (Some log) p q x y = ap Some (λ i. record { requests = append_assoc log.requests p q i; answers = append_assoc log.answers x y i })
+
 plays_none : (script : Option (List SeenAnswer)) → Plays script [] script
 plays_none None = refl
 plays_none (Some script) = (refl, refl)
 
-module _ (a : Attempt) where
-  -- what is handed over is nothing, or the token request of the named login
-  abbrev Own : Meant SeenOpened → Type 0
-  Own m = Walk (λ o. Asks a o.login o.request) (λ e. Unit {0}) m
+drop_more : (n : ℕ) (script : List SeenAnswer) → drop n (drop 1 script) ≡ drop (suc n) script
+drop_more zero [] = refl
+drop_more (suc n) [] = refl
+drop_more n (x ∷ later) = refl
 
-  own_of : (answers : List SeenAnswer) (m : Meant SeenOpened) → Walk (λ o. Asks a o.login o.request) (Cause a answers) m → Own m
-  own_of answers (Ok o) walk = walk
-  own_of answers (Err e) walk = tt
+plays_twice : (script mid left : Option (List SeenAnswer)) (x : SeenAnswer) (later : List SeenAnswer) → Plays script (x ∷ []) mid → Plays mid later left → Plays script (x ∷ later) left
+plays_twice None mid left x later first second = subst (λ (m : Option (List SeenAnswer)). Plays m later left) first second
+plays_twice (Some script) mid left x later first second =
+    let rest = subst (λ (m : Option (List SeenAnswer)). Plays m later left) first.1 second in
+    let same : x ≡ first_of script = ap first_of first.0 in (
+      (λ i. same i ∷ rest.0 i),
+      rest.1 ∙ ap Some (drop_more (length later) script),
+    )
 
-  -- the query asks for the token request of what was opened
-  pub asks : (o : SeenOpened) → opening a.client a.pending (pairs a.query) ≡ Ok o → AsksNothing a → ⊥
-  asks o is nothing = nothing o.login o.request (subst (Walk (λ x. Asks a x.login x.request) (Cause a [])) is (opening-walk a []))
+-- ---- the steps with a transport
 
-  abbrev sent_by : List SeenAnswer → Meant SeenOpened → List SeenRequest
-  sent_by answers m = (with_token a.client a.now answers m).sent
-
-  at_most_one : (n : ℕ) (answers : List SeenAnswer) (m : Meant SeenOpened) → length (take n (sent_by answers m)) ≤ 1
-  at_most_one zero answers m = lit≤ tt
-  at_most_one (suc n) answers (Err e) = lit≤ tt
-  at_most_one (suc zero) answers (Ok o) = lit≤ tt
-  at_most_one (suc (suc n)) answers (Ok o) = lit≤ tt
-
-  its : (o : SeenOpened) → Asks a o.login o.request → IsItsRequest a (o.request ∷ [])
-  its o asked = record { login = o.login; request = o.request; asked = asked; alone = refl }
-
-  only_its : (n : ℕ) (answers : List SeenAnswer) (m : Meant SeenOpened) → Own m
-      → (take n (sent_by answers m) ≡ []) ⊎ IsItsRequest a (take n (sent_by answers m))
-  only_its zero answers m own = inl refl
-  only_its (suc n) answers (Err e) own = inl refl
-  only_its (suc zero) answers (Ok o) own = inr (its o own)
-  only_its (suc (suc n)) answers (Ok o) own = inr (its o own)
-
-  -- behind an Ok it was the request
-  own_sent : {E : Type 0} (answers : List SeenAnswer) (m : Meant SeenOpened) (result : Result SeenSignedIn (LoginError E)) → Own m
-      → Gives result (with_token a.client a.now answers m).reply → OrMemory result (length answers ≡ length (sent_by answers m))
-      → OnOk result (IsItsRequest a (take (length answers) (sent_by answers m)))
-  own_sent answers (Err e) (Ok signed) own gives all = cc
-  own_sent answers (Ok o) (Ok signed) own gives all = subst (λ n. IsItsRequest a (take n (o.request ∷ []))) (sym all) (its o own)
-  own_sent answers m (Err e) own gives all = tt
-
--- ---- what was handed over and is meant makes the whole
-
-module _ {E : Type 0} (a : Attempt) (old new : Known) (result : Result SeenSignedIn (LoginError E)) (answers : List SeenAnswer) where
-  abbrev opens : Meant SeenOpened
-  opens = opening a.client a.pending (pairs a.query)
-
-  ran : new.log ≡ log_after old.log (handed_over a answers) answers → Plays old.script answers new.script
-      → length answers ≤ length (outcome a answers).sent → OrMemory result (length answers ≡ length (outcome a answers).sent)
-      → Gives result (outcome a answers).reply → Ran a old new result
-  ran logged plays answered all_sent reply = record {
-    answers = answers;
-    logged = logged;
-    plays = plays;
-    answered = answered;
-    all_sent = all_sent;
-    reply = reply;
-    at_most_one_request = at_most_one a (length answers) answers opens;
-    only_its_request = only_its a (length answers) answers opens (own_of a answers opens (opening-walk a answers));
-    own_request = own_sent a answers opens result (own_of a answers opens (opening-walk a answers)) reply all_sent;
-    cause = walked_err (IsSignedIn a answers) (Cause a answers) result (outcome a answers).reply (outcome-walk a answers) reply;
-    refused = λ e cause. subst (Gives result) (causes.refused a answers e cause) reply;
-    signed_in = walked_ok (IsSignedIn a answers) (Cause a answers) result (outcome a answers).reply (outcome-walk a answers) reply;
-    signs_in = λ signed is. subst (Gives result) (causes.signs_in a answers signed is) reply;
+module _ {A E : Type 0} where
+  pub memory_first : (run : List SeenAnswer → Run A) (old new : Known) → Untouched old new → Follows {E = E} run old new (Err (Memory true))
+  memory_first run old new kept = record {
+    answers = [];
+    logged = kept.0 ∙ sym (log_kept old.log);
+    plays = kept.1;
+    answered = omega arith;
+    all_sent = tt;
+    reply = tt;
   }
 
-module _ (a : Attempt) (old : Known) where
-  -- nothing was sent
-  pub unopened : {E : Type 0} (e : LoginError E) → Gives {A = SeenOpened} (Err e) (opening a.client a.pending (pairs a.query)) → Ran a old old (Err e)
-  unopened e gives =
-      ran a old old (Err e) [] (sym (log_kept old.log)) (plays_none old.script) (omega arith)
-      (unless_map (memory_of e) (λ is. ap (λ m. length (with_token a.client a.now [] m).sent) (sym is)) gives)
-      (unless_map (memory_of e) (λ is. ap (λ m. (with_token a.client a.now [] m).reply) is) gives)
+  -- nothing is left to be sent
+  pub settled : (run : List SeenAnswer → Run A) (old : Known) (result : Result A (LoginError E)) → OrMemory result ((run []).sent ≡ []) → Gives result (run []).reply → Follows run old old result
+  settled run old result none gives = record {
+    answers = [];
+    logged = sym (log_kept old.log);
+    plays = plays_none old.script;
+    answered = omega arith;
+    all_sent = or_map result (λ (is : (run []).sent ≡ []). sym (ap length is)) none;
+    reply = gives;
+  }
 
-  pub memory_first : {E : Type 0} (new : Known) → Untouched old new → Ran {E = E} a old new (Err (Memory true))
-  memory_first new kept = ran a old new (Err (Memory true)) [] (kept.0 ∙ sym (log_kept old.log)) kept.1 (omega arith) tt tt
+  -- a step before any request refused
+  pub refused : {B : Type 0} (run : List SeenAnswer → Meant B → Run A) (old : Known) (e : LoginError E) (m : Meant B) → ((x : Error) → run [] (Err x) ≡ answered_alone (Err x))
+      → Gives {A = B} (Err e) m → Follows (λ answers. run answers m) old old (Err e)
+  refused run old e m alone gives =
+      settled (λ answers. run answers m) old (Err e)
+      (unless_map (memory_of e) (λ is. ap (λ r. (run [] r).sent) is ∙ ap (λ (r : Run A). r.sent) (alone (seen e))) gives)
+      (unless_map (memory_of e) (λ is. ap (λ r. (run [] r).reply) is ∙ ap (λ (r : Run A). r.reply) (alone (seen e))) gives)
 
+  -- one request, and what follows it
+  pub continued : (whole : SeenAnswer → List SeenAnswer → Run A) (request : SeenRequest) (old mid new : Known) (x : SeenAnswer) (result : Result A (LoginError E))
+      → Exchanged old mid request x → Follows (whole x) mid new result → Follows (λ answers. preceded_by request (whole (first_of answers) (rest_of answers))) old new result
+  continued whole request old mid new x result sent later = record {
+    answers = x ∷ later.answers;
+    logged = later.logged
+        ∙ ap (λ l. log_after l (take (length later.answers) (whole x later.answers).sent) later.answers) sent.0
+        ∙ log_twice old.log (request ∷ []) (take (length later.answers) (whole x later.answers).sent) (x ∷ []) later.answers;
+    plays = plays_twice old.script mid.script new.script x later.answers sent.1 later.plays;
+    answered = omega (arith, later.answered);
+    all_sent = or_map result (λ is. ap suc is) later.all_sent;
+    reply = later.reply;
+  }
+
+-- ---- user info
+
+module _ {AC GC Key Use E : Type 0} (types : SiteTypes AC GC Key Use) (user : SeenSignedIn AC GC) (old new : Known) (result : Result (SeenSignedIn AC GC) (LoginError E)) where
+  one_answered : (asked : SeenAsked Key) (x : SeenAnswer) → Exchanged old new asked.request x → Gives result (after_info types asked.ask.demand user x)
+      → Follows (λ answers. asked_run types user answers (Ok asked)) old new result
+  one_answered asked x sent gives = record {
+    answers = x ∷ [];
+    logged = sent.0;
+    plays = sent.1;
+    answered = lit≤ tt;
+    all_sent = either result refl;
+    reply = gives;
+  }
+
+  -- the answer to the request was judged
+  pub info_answered : (asked : SeenAsked Key) (ask : SeenInfoRequest Key) (request : SeenRequest) → record { ask = ask; request = request } ≡ asked → (x : SeenAnswer)
+      → Exchanged old new request x → Gives result (after_info types ask.demand user x) → Follows (λ answers. asked_run types user answers (Ok asked)) old new result
+  info_answered asked ask request same x sent gives =
+      subst (λ (o : SeenAsked Key). Follows (λ answers. asked_run types user answers (Ok o)) old new result) same (one_answered (record { ask = ask; request = request }) x sent gives)
+
+  -- the request was made
+  pub info_asked : (client : SeenClient Key) (demand : UserInfoDemand) (asked : SeenAsked Key) → asking client demand user ≡ Ok asked
+      → Follows (λ answers. asked_run types user answers (Ok asked)) old new result → Follows (info_run types client (Some demand) user) old new result
+  info_asked client demand asked is x = subst (λ (m : Meant (SeenAsked Key)). Follows (λ answers. asked_run types user answers m) old new result) (sym is) x
+
+module _ {AC GC Key Use E : Type 0} (types : SiteTypes AC GC Key Use) (client : SeenClient Key) (user : SeenSignedIn AC GC) (old : Known) where
+  -- the request wasn't made
+  pub info_refused : (demand : UserInfoDemand) (e : LoginError E) → Gives {A = SeenAsked Key} (Err e) (asking client demand user)
+      → Follows (info_run types client (Some demand) user) old old (Err e)
+  info_refused demand e gives = refused (λ answers m. asked_run types user answers m) old e (asking client demand user) (λ x. refl) gives
+
+  -- no user info is demanded
+  pub info_undemanded : Follows {E = E} (info_run types client None user) old old (Ok user)
+  info_undemanded = settled (info_run types client None user) old (Ok user) refl refl
+
+-- ---- behind the token request
+
+module _ {AC GC Key Use E : Type 0} (types : SiteTypes AC GC Key Use) (client : SeenClient Key) (login : SeenLogin) (old new : Known) where
+  -- the ID token was accepted
+  pub token_followed : (m : Meant (SeenSignedIn AC GC)) (user : SeenSignedIn AC GC) (demand : Option UserInfoDemand) (result : Result (SeenSignedIn AC GC) (LoginError E))
+      → m ≡ Ok user → demand ≡ login.user_info → Follows (info_run types client demand user) old new result → Follows (λ later. token_run types client login later m) old new result
+  token_followed m user demand result is own x =
+      subst (λ (n : Meant (SeenSignedIn AC GC)). Follows (λ later. token_run types client login later n) old new result) (sym is)
+      (subst (λ (d : Option UserInfoDemand). Follows (info_run types client d user) old new result) own x)
+
+module _ {AC GC Key Use E : Type 0} (types : SiteTypes AC GC Key Use) (client : SeenClient Key) (login : SeenLogin) (old : Known) where
+  -- the token answer was refused
+  pub token_refused : (m : Meant (SeenSignedIn AC GC)) (e : LoginError E) → Gives {A = SeenSignedIn AC GC} (Err e) m
+      → Follows (λ later. token_run types client login later m) old old (Err e)
+  token_refused m e gives = refused (λ later n. token_run types client login later n) old e m (λ x. refl) gives
+
+module _ {AC GC Key Use E : Type 0} (types : SiteTypes AC GC Key Use) (client : SeenClient Key) (now : ℤ) (old mid new : Known) (result : Result (SeenSignedIn AC GC) (LoginError E)) where
   -- the token request was sent
-  pub answered : {E : Type 0} (o : SeenOpened) → opening a.client a.pending (pairs a.query) ≡ Ok o → (new : Known) (x : SeenAnswer) → Exchanged old new o.request x
-      → (result : Result SeenSignedIn (LoginError E)) → Gives result (after_token a.client a.now o.login x) → Ran a old new result
-  answered o is new x sent result gives =
-      let whole : outcome a (x ∷ []) ≡ record { reply = after_token a.client a.now o.login x; sent = o.request ∷ [] } = ap (with_token a.client a.now (x ∷ [])) is in
-      ran a old new result (x ∷ [])
-      (sent.0 ∙ ap (λ (r : Run). log_after old.log (take 1 r.sent) (x ∷ [])) (sym whole))
-      sent.1
-      (subst (λ (r : Run). 1 ≤ length r.sent) (sym whole) (lit≤ tt))
-      (either result (sym (ap (λ (r : Run). length r.sent) whole)))
-      (subst (Gives result) (sym (ap (λ (r : Run). r.reply) whole)) gives)
+  pub opened_followed : (o : SeenOpened) (login : SeenLogin) (request : SeenRequest) → record { login = login; request = request } ≡ o → (x : SeenAnswer) → Exchanged old mid request x
+      → Follows (λ later. token_run types client login later (after_token types client now login x)) mid new result → Follows (λ answers. opened_run types client now answers (Ok o)) old new result
+  opened_followed o login request same x sent later =
+      subst (λ (p : SeenOpened). Follows (λ answers. opened_run types client now answers (Ok p)) old new result) same
+      (continued (λ y more. token_run types client login more (after_token types client now login y)) request old mid new x result sent later)
+
+-- ---- the whole
+
+module _ {AC GC Key Use : Type 0} (types : SiteTypes AC GC Key Use) (a : Attempt Key) where
+  abbrev opens : Meant SeenOpened
+  opens = opening a.client a.pending a.query
+
+  -- the query asks for the token request of what was opened
+  asks : (o : SeenOpened) → opens ≡ Ok o → AsksNothing a → ⊥
+  asks o is nothing = nothing o.login o.request (subst (Walk (λ x. Asks a x.login x.request) (Cause types a [])) is (rows.opening-walk types a []))
+
+  module _ (answers : List SeenAnswer) where
+    -- none, the token request, or both
+    abbrev Sendable : List SeenRequest → Type 0
+    Sendable sent = (sent ≡ []) ⊎ AreItsRequests types a answers sent
+
+    both_sent : (h : Held AC GC) (first : SeenRequest) → Asks a h.login first → (m : Meant (SeenAsked Key)) → Walk (rows.IsAskedOf types a answers h) (Cause types a answers) m
+        → AreItsRequests types a answers (first ∷ (asked_run types (signed_by h.token h.tokens) (rest_of answers) m).sent)
+    both_sent h first asked (Err e) walk = inl (record { login = h.login; request = first; asked = asked; alone = refl })
+    both_sent h first asked (Ok x) walk =
+        inr (record { held = h; first = first; asked = asked; ask = x.ask; second = x.request; asked_info = walk; both = refl })
+
+    info_sent : (l : SeenLogin) (first : SeenRequest) → Asks a l first → (user : SeenSignedIn AC GC) → rows.IsHeld types a answers l user → (demand : Option UserInfoDemand) → l.user_info ≡ demand
+        → AreItsRequests types a answers (first ∷ (info_run types a.client demand user (rest_of answers)).sent)
+    info_sent l first asked user x None none = inl (record { login = l; request = first; asked = asked; alone = refl })
+    info_sent l first asked user x (Some demand) is =
+        let h = rows.held types a answers l x.tokens x.token in
+        subst (λ u. AreItsRequests types a answers (first ∷ (asked_run types u (rest_of answers) (asking a.client demand u)).sent)) x.own
+        (both_sent h first asked (asking a.client demand (signed_by x.token x.tokens)) (rows.asking-walk types a answers h x.fits demand is))
+
+    token_sent : (l : SeenLogin) (first : SeenRequest) → Asks a l first → (m : Meant (SeenSignedIn AC GC)) → Walk (rows.IsHeld types a answers l) (Cause types a answers) m
+        → AreItsRequests types a answers (first ∷ (token_run types a.client l (rest_of answers) m).sent)
+    token_sent l first asked (Err e) walk = inl (record { login = l; request = first; asked = asked; alone = refl })
+    token_sent l first asked (Ok user) walk = info_sent l first asked user walk l.user_info refl
+
+    opened_sent : (m : Meant SeenOpened) → Walk (λ o. Asks a o.login o.request) (Cause types a answers) m → Sendable (opened_run types a.client a.now answers m).sent
+    opened_sent (Err e) walk = inl refl
+    opened_sent (Ok o) walk = inr (token_sent o.login o.request walk _ (rows.after_token-walk types a answers o.login o.request walk))
+
+    sendable : Sendable (outcome types a answers).sent
+    sendable = opened_sent opens (rows.opening-walk types a answers)
+
+    -- ---- the first of them
+
+    one_taken : (n : ℕ) (sent : List SeenRequest) → IsItsRequest a sent → (take n sent ≡ []) ⊎ AreItsRequests types a answers (take n sent)
+    one_taken zero sent its = inl refl
+    one_taken (suc zero) sent its = subst (λ s. (take 1 s ≡ []) ⊎ AreItsRequests types a answers (take 1 s)) (sym its.alone)
+        (inr (inl (record { login = its.login; request = its.request; asked = its.asked; alone = refl })))
+    one_taken (suc (suc n)) sent its = subst (λ s. (take (suc (suc n)) s ≡ []) ⊎ AreItsRequests types a answers (take (suc (suc n)) s)) (sym its.alone)
+        (inr (inl (record { login = its.login; request = its.request; asked = its.asked; alone = refl })))
+
+    first_alone : (sent : List SeenRequest) (b : AreBothRequests types a answers sent) → IsItsRequest a (b.first ∷ [])
+    first_alone sent b = record { login = b.held.login; request = b.first; asked = b.asked; alone = refl }
+
+    again : (sent : List SeenRequest) (b : AreBothRequests types a answers sent) → AreBothRequests types a answers (b.first ∷ b.second ∷ [])
+    again sent b = record { held = b.held; first = b.first; asked = b.asked; ask = b.ask; second = b.second; asked_info = b.asked_info; both = refl }
+
+    both_taken : (n : ℕ) (sent : List SeenRequest) → AreBothRequests types a answers sent → (take n sent ≡ []) ⊎ AreItsRequests types a answers (take n sent)
+    both_taken zero sent b = inl refl
+    both_taken (suc zero) sent b = subst (λ s. (take 1 s ≡ []) ⊎ AreItsRequests types a answers (take 1 s)) (sym b.both) (inr (inl (first_alone sent b)))
+    both_taken (suc (suc zero)) sent b = subst (λ s. (take 2 s ≡ []) ⊎ AreItsRequests types a answers (take 2 s)) (sym b.both) (inr (inr (again sent b)))
+    both_taken (suc (suc (suc n))) sent b =
+        subst (λ s. (take (suc (suc (suc n))) s ≡ []) ⊎ AreItsRequests types a answers (take (suc (suc (suc n))) s)) (sym b.both) (inr (inr (again sent b)))
+
+    none_taken : (n : ℕ) (sent : List SeenRequest) → sent ≡ [] → take n sent ≡ []
+    none_taken zero sent none = refl
+    none_taken (suc n) sent none = ap (take (suc n)) none
+
+    some_taken : (n : ℕ) (sent : List SeenRequest) → AreItsRequests types a answers sent → (take n sent ≡ []) ⊎ AreItsRequests types a answers (take n sent)
+    some_taken n sent its = ⊎_elim (one_taken n sent) (both_taken n sent) its
+
+    only_its : (n : ℕ) (sent : List SeenRequest) → Sendable sent → (take n sent ≡ []) ⊎ AreItsRequests types a answers (take n sent)
+    only_its n sent may = ⊎_elim (λ none. inl (none_taken n sent none)) (some_taken n sent) may
+
+    none_counted : (sent : List SeenRequest) → sent ≡ [] → length sent ≤ 2
+    none_counted sent none = subst (λ (s : List SeenRequest). length s ≤ 2) (sym none) (lit≤ tt)
+
+    one_counted : (sent : List SeenRequest) → IsItsRequest a sent → length sent ≤ 2
+    one_counted sent i = subst (λ (s : List SeenRequest). length s ≤ 2) (sym i.alone) (lit≤ tt)
+
+    both_counted : (sent : List SeenRequest) → AreBothRequests types a answers sent → length sent ≤ 2
+    both_counted sent b = subst (λ (s : List SeenRequest). length s ≤ 2) (sym b.both) (lit≤ tt)
+
+    at_most_two : (sent : List SeenRequest) → (sent ≡ []) ⊎ AreItsRequests types a answers sent → length sent ≤ 2
+    at_most_two sent may = ⊎_elim (none_counted sent) (λ its. ⊎_elim (one_counted sent) (both_counted sent) its) may
+
+    take_all : (sent : List SeenRequest) → take (length sent) sent ≡ sent
+    take_all [] = refl
+    take_all (r ∷ later) = ap (λ s. r ∷ s) (take_all later)
+
+    -- behind an Ok they were all sent
+    own_sent : {E : Type 0} (m : Meant SeenOpened) (result : Result (SeenSignedIn AC GC) (LoginError E)) → Walk (λ o. Asks a o.login o.request) (Cause types a answers) m
+        → Gives result (opened_run types a.client a.now answers m).reply → OrMemory result (length answers ≡ length (opened_run types a.client a.now answers m).sent)
+        → OnOk result (AreItsRequests types a answers (take (length answers) (opened_run types a.client a.now answers m).sent))
+    own_sent (Err e) (Ok signed) walk gives all = absurd cc
+    own_sent (Ok o) (Ok signed) walk gives all =
+        let sent = (opened_run types a.client a.now answers (Ok o)).sent in
+        subst (AreItsRequests types a answers) (sym (ap (λ n. take n sent) all ∙ take_all sent))
+        (token_sent o.login o.request walk _ (rows.after_token-walk types a answers o.login o.request walk))
+    own_sent m (Err e) walk gives all = tt
+
+  -- ---- what was handed over and is meant makes the whole
+
+  pub ran : {E : Type 0} (old new : Known) (result : Result (SeenSignedIn AC GC) (LoginError E)) → Follows (outcome types a) old new result → Ran types a old new result
+  ran old new result x =
+      let answers = x.answers in
+      let walk = rows.outcome-walk types a answers in
+      let only = only_its answers (length answers) (outcome types a answers).sent (sendable answers) in record {
+        answers = answers;
+        logged = x.logged;
+        plays = x.plays;
+        answered = x.answered;
+        all_sent = x.all_sent;
+        reply = x.reply;
+        at_most_two_requests = at_most_two answers (handed_over types a answers) only;
+        only_its_requests = only;
+        own_requests = own_sent answers opens result (rows.opening-walk types a answers) x.reply x.all_sent;
+        cause = walked_err (IsSignedIn types a answers) (Cause types a answers) result (outcome types a answers).reply walk x.reply;
+        refused = λ e cause. subst (Gives result) (causes.refused types a answers e cause) x.reply;
+        signed_in = walked_ok (IsSignedIn types a answers) (Cause types a answers) result (outcome types a answers).reply walk x.reply;
+        signs_in = λ signed is. subst (Gives result) (causes.signs_in types a answers signed is) x.reply;
+        valid = λ is.
+            let v = signed_of_valid types a answers is in
+            meant_ok result v.0 (subst (Gives result) (causes.signs_in types a answers v.0 v.1) x.reply);
+      }
+
+  -- nothing was sent
+  pub unopened : {E : Type 0} (old : Known) (e : LoginError E) → Gives {A = SeenOpened} (Err e) opens → Ran types a old old (Err e)
+  unopened old e gives = ran old old (Err e) (refused (λ answers m. opened_run types a.client a.now answers m) old e opens (λ x. refl) gives)
+
+  -- what was opened was followed
+  pub signed : {E : Type 0} (o : SeenOpened) → opens ≡ Ok o → (old new : Known) (result : Result (SeenSignedIn AC GC) (LoginError E))
+      → Follows (λ answers. opened_run types a.client a.now answers (Ok o)) old new result → Ran types a old new result
+  signed o is old new result x = ran old new result (subst (λ m. Follows (λ answers. opened_run types a.client a.now answers m) old new result) (sym is) x)
+
+  -- and a query that asks for nothing opens nothing
+  pub asks_of : {E : Type 0} (o : SeenOpened) → opens ≡ Ok o → (old new : Known) (result : Result (SeenSignedIn AC GC) (LoginError E))
+      → Follows (λ answers. opened_run types a.client a.now answers (Ok o)) old new result → AsksNothing a → ⊥
+  asks_of o is old new result x nothing = asks o is nothing

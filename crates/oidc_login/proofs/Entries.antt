@@ -27,7 +27,7 @@ pairs = List (List ℕ × SeenLogin)
 abbrev find : List ℕ → pairs → Option SeenLogin
 find q es = finite.find (slice_cmp nat_cmp) q es
 
-abbrev ties : List ℕ → List ℕ → Bool
+abbrev pub ties : List ℕ → List ℕ → Bool
 ties x y = eq_by_cmp (slice_cmp nat_cmp) x y
 
 -- the pairs without the first whose state is q
@@ -196,11 +196,11 @@ kept_push es e absent =
     ap (λ (ps : pairs). finite.from_entries {R = slice_cmp nat_cmp} ps) (map-append (λ x. (string_bytes x.state, x.login)) es (e ∷ []))
     ∙ finite.from_entries_push nat_list_cmp_total (finite.slice_cmp-IsAntisymmetric finite.nat_cmp-IsAntisymmetric) (by_state es) (string_bytes e.state) e.login (sym (get_kept es (string_bytes e.state)) ∙ absent)
 
-chosen : (P : SeenLogin → Type 0) (b : Bool) (x : SeenLogin) (y : Option SeenLogin) (l : SeenLogin) → P x → (y ≡ Some l → P l) → cond b (Some x) y ≡ Some l → P l
+pub chosen : (P : SeenLogin → Type 0) (b : Bool) (x : SeenLogin) (y : Option SeenLogin) (l : SeenLogin) → P x → (y ≡ Some l → P l) → cond b (Some x) y ≡ Some l → P l
 chosen P true x y l p q e = subst P (same_Some x l e) p
 chosen P false x y l p q e = q e
 
-unchosen : (P : SeenLogin → Type 0) (b : Bool) (y : Option SeenLogin) (l : SeenLogin) → (y ≡ Some l → P l) → cond b None y ≡ Some l → P l
+pub unchosen : (P : SeenLogin → Type 0) (b : Bool) (y : Option SeenLogin) (l : SeenLogin) → (y ≡ Some l → P l) → cond b None y ≡ Some l → P l
 unchosen P true y l q e = absurd (not_None l (sym e))
 unchosen P false y l q e = q e
 

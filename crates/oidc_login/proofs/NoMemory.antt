@@ -1,23 +1,25 @@
--- No check of an ID token wants memory.
-use Rattle.std.proofs.Common.{◌≡◌, ◌≢◌, ℕ, ℤ, List, Some, Err, arith}
+-- No check of an ID token wants memory, where no verdict of a key does.
+use Rattle.std.proofs.Common.{◌≢◌, ℕ, ℤ, List, Some, Err}
 use Rattle.oidc_types.specs.declared.core_algorithms.CoreJwsSigningAlgorithm.{CoreJwsSigningAlgorithm}
-use Rattle.oidc_keys.specs.CoreJwk.{symmetric_verdict}
 use Rattle.oidc_keys.specs.declared.refusals.SignatureVerificationError.TheVariants as signature
 use Rattle.oidc_tokens.specs.declared.verification.refusals.ClaimsVerificationError.{ClaimsVerificationError}
 use Rattle.oidc_tokens.specs.declared.verification.refusals.ClaimsVerificationError.TheVariants.{SignatureVerification, Memory}
 use Rattle.oidc_tokens.proofs.Theorems as tokens
 use Rattle.oidc_login.specs.Client.{SeenClient}
-use Rattle.oidc_login.specs.IdTokens.{SeenIdToken, core_keys, verifier_of, is_nonce, failure_for}
+use Rattle.oidc_login.specs.SiteTypes.{SiteTypes}
+use Rattle.oidc_login.specs.IdTokens.{SeenIdToken, verifier_of, is_nonce, failure_for}
 
 abbrev pub wanting : ClaimsVerificationError
 wanting = SignatureVerification signature.Memory
 
-verdict-memory : (secret : List ℕ) (algorithm : CoreJwsSigningAlgorithm) (message signed : List ℕ) → symmetric_verdict secret algorithm message signed ≢ Err signature.Memory
-verdict-memory secret algorithm message signed e = grind arith
+module _ {AC GC Key Use : Type 0} (types : SiteTypes AC GC Key Use) where
+  -- the law of keys
+  abbrev pub NeverWants : Type 0
+  NeverWants = (key : Key) (alg : CoreJwsSigningAlgorithm) (message made : List ℕ) → types.keys.keys.verdict key alg message made ≢ Err signature.Memory
 
-pub never_wanting : (client : SeenClient) (sent : List ℕ) (now : ℤ) (token : SeenIdToken) → failure_for client sent now token ≢ Some wanting
-never_wanting client sent now token =
-    tokens.never_memory_inside core_keys (λ key alg message signed. verdict-memory key.secret alg message signed) (verifier_of client) (is_nonce sent) now token
+  pub never_wanting : NeverWants → (client : SeenClient Key) (sent : List ℕ) (now : ℤ) (token : SeenIdToken AC GC) → failure_for types client sent now token ≢ Some wanting
+  never_wanting law client sent now token =
+      tokens.never_memory_inside types.keys law (verifier_of types client) (is_nonce sent) now token
 
-pub never_memory : (client : SeenClient) (sent : List ℕ) (now : ℤ) (token : SeenIdToken) → failure_for client sent now token ≢ Some Memory
-never_memory client sent now token = tokens.never_memory core_keys (verifier_of client) (is_nonce sent) now token
+  pub never_memory : (client : SeenClient Key) (sent : List ℕ) (now : ℤ) (token : SeenIdToken AC GC) → failure_for types client sent now token ≢ Some Memory
+  never_memory client sent now token = tokens.never_memory types.keys (verifier_of types client) (is_nonce sent) now token

@@ -1,57 +1,73 @@
 -- Each row of the table has its cause: one line for each row, in the order of the table.
-use Rattle.std.proofs.Common.{◌≡◌, ◌≢◌, ℕ, List, [], ◌∷◌, true, false, Option, None, Some, Ok, Err, refl, sym, ap, subst, ◌∙◌}
-use Rattle.std.specs.Prelude.{is_some, not, codes}
+use Rattle.std.proofs.Common.{◌≡◌, ◌≢◌, ℕ, List, [], ◌∷◌, true, false, Option, None, Some, Ok, Err, refl, sym, ap, subst, ◌∙◌, inl, inr}
+use Rattle.std.specs.Prelude.{not, option_map, codes}
 use Rattle.std.specs.Option.{ok_or}
 use Rattle.std.specs.Str.{bytes_eq}
+use Rattle.http_header.specs.FieldValue.{is_visible_text}
 use Rattle.oidc_types.specs.{signing_text}
+use Rattle.oidc_types.specs.declared.core_authorization.CoreAuthErrorResponseType.{CoreAuthErrorResponseType}
 use Rattle.oidc_types.specs.declared.signing_error.SigningError.TheVariants.{UnsupportedAlg}
 use Rattle.oidc_pairs.specs.Pairs.{pairs, values, first_of as first_value}
 use Rattle.oidc_oauth2.specs.Messages.{SeenRequest, SeenResponse, SeenAnswer}
+use Rattle.oidc_oauth2.specs.ErrorResponse.{SeenError}
 use Rattle.oidc_oauth2.specs.Transport.{first_of}
 use Rattle.oidc_oauth2.specs.TokenAnswers.{is_over_long}
+use Rattle.oidc_oauth2.specs.declared.error_types.CoreErrorResponseType.{CoreErrorResponseType}
 use Rattle.oidc_oauth2.specs.declared.token_answers.OtherCause.TheVariants as other
 use Rattle.oidc_oauth2.specs.declared.token_answers.RequestTokenError.TheVariants as token_error
+use Rattle.oidc_oauth2.proofs.Theorems.{IsJudged}
+use Rattle.oidc_tokens.proofs.Theorems.{failure_cause}
+use Rattle.oidc_user_info.specs.UserInfoClaims.{SeenUserInfoClaims}
+use Rattle.oidc_user_info.specs.InfoErrors.{InfoRefusal}
+use Rattle.oidc_user_info.specs.InfoAnswers.{info_answer}
+use Rattle.oidc_user_info.specs.InfoRequests.{SeenInfoRequest, info_request}
+use Rattle.oidc_user_info.specs.InfoRuns.{unmade}
+use Rattle.oidc_user_info.specs.declared.errors.InfoOther.TheVariants as info_other
+use Rattle.oidc_user_info.specs.declared.errors.PrepareInfoError.{PrepareInfoError}
+use Rattle.oidc_user_info.specs.declared.errors.PrepareInfoError.TheVariants as prepare
+use Rattle.oidc_user_info.specs.declared.errors.UserInfoError.TheVariants as info_error
+use Rattle.oidc_login.specs.SiteTypes.{SiteTypes}
 use Rattle.oidc_login.specs.Logins.{SeenLogin}
 use Rattle.oidc_login.specs.TokenRequest.{token_request}
 use Rattle.oidc_login.specs.TokenResponse.{Tokens, TokenError, tokens_or_refusal}
-use Rattle.oidc_login.specs.IdTokens.{SeenIdToken, core_keys, verifier_of, is_nonce, IsAcceptedBy, failure_for}
-use Rattle.oidc_tokens.proofs.Theorems.{failure_cause}
+use Rattle.oidc_login.specs.IdTokens.{SeenIdToken, subject_of, verifier_of, is_nonce, IsAcceptedBy, failure_for}
 use Rattle.oidc_login.specs.TokenHash.{claimed_hash, hash_under, hash_beside, FitsHash}
+use Rattle.oidc_login.specs.SignedIn.{SeenSignedIn, signed_by}
+use Rattle.oidc_login.specs.UserInfo.{info_ask}
 use Rattle.oidc_login.specs.Errors.{Error}
-use Rattle.oidc_login.specs.Rows.{Attempt, Meant, SeenOpened, login_named_by, error_in, code_in, opening, tokens_in, hash_rows, accepting, signing_in, after_token, with_token, outcome}
-use Rattle.oidc_login.specs.Causes.{Names, HasCode, Asks, Held, Answered, Reads, Holds, Accepted, own_hash, IsSignedIn, TokenCause, Cause}
-use Rattle.oidc_login.proofs.Walks.{Walk, at_or, at_meant, at_last, at_when, at_for, at_then, at_end, walked_err, walked_ok}
-use Rattle.oidc_oauth2.specs.ErrorResponse.{SeenError}
-use Rattle.oidc_oauth2.specs.declared.error_types.CoreErrorResponseType.{CoreErrorResponseType}
-use Rattle.oidc_oauth2.proofs.Theorems.{IsJudged}
+use Rattle.oidc_login.specs.Rows.{Attempt, Meant, SeenOpened, SeenAsked, error_word, login_named_by, error_in, code_in, rest_of, opening_by, opening, tokens_in, hash_rows, accepting, signing_in, after_token, prepared, asking, info_in, after_info, asked_run, info_run, token_run, opened_run, outcome}
+use Rattle.oidc_login.specs.Causes.{Names, HasCode, Asks, Held, Answered, Reads, Holds, Accepted, own_hash, Fits, Demands, AsksInfo, InfoAnswered, IsSignedIn, TokenCause, InfoCause, Cause}
+use Rattle.oidc_login.specs.declared.demand.UserInfoDemand.{UserInfoDemand}
+use Rattle.oidc_login.specs.declared.errors.LoginError.TheVariants.{UserInfo}
+use Rattle.oidc_login.proofs.Walks.{Walk, at_or, at_meant, at_or_as, at_last, at_when, at_for, at_then, at_end, walked_err, walked_ok}
 use Rattle.oidc_login.proofs.Answers.{judged}
+use Rattle.oidc_login.proofs.InfoAnswers.{IsOwn, IsAbout, info_own}
+use Rattle.oidc_login.proofs.NoMemory.{NeverWants}
+use Rattle.oidc_login.proofs.Asked.{bearer, uri, never_memory, no_endpoint, own_token}
 use Rattle.oidc_login.proofs.Verification.{accepts}
 use Rattle.oidc_login.proofs.TokenHash.{beside, differ_back, same_back}
 
-some_value : (values : List (List ℕ)) → is_some (first_value values) ≡ true → values ≢ []
-some_value [] is none = cc
-some_value (value ∷ others) is none = cc
-
-no_value : (values : List (List ℕ)) → is_some (first_value values) ≡ false → values ≡ []
+no_value : (values : List (List ℕ)) → option_map error_word (first_value values) ≡ None → values ≡ []
 no_value [] is = refl
 no_value (value ∷ others) is = cc
 
-module _ (a : Attempt) (answers : List SeenAnswer) where
+module _ {AC GC Key Use : Type 0} (types : SiteTypes AC GC Key Use) (a : Attempt Key) (answers : List SeenAnswer) where
   abbrev Q : Error → Type 0
-  Q e = Cause a answers e
+  Q e = Cause types a answers e
 
   -- ---- before the token request
 
   abbrev pub IsOpened : SeenOpened → Type 0
   IsOpened o = Asks a o.login o.request
 
-  pub opening-walk : Walk IsOpened Q (opening a.client a.pending (pairs a.query))
-  unfolding opening
-  opening-walk =
-      at_or _ _ (login_named_by a.pending (pairs a.query)) _ _ (λ none. none) (λ l is_named.
-      let names : Names a l = record { login_named = is_named } in
-      at_when _ _ (is_some (error_in (pairs a.query))) _ _
-      (λ some. record { login = l; names = names; some_error = some_value (values a.query (codes "error")) some }) (λ none.
+  pairs-walk : is_over_long a.query ≡ false → Walk IsOpened Q (opening_by a.client a.pending (pairs a.query))
+  unfolding opening_by
+  pairs-walk short =
+      at_or _ _ (login_named_by a.pending (pairs a.query)) _ _
+      (λ none. record { short_query = short; none_named = none }) (λ l is_named.
+      let names : Names a l = record { short_query = short; login_named = is_named } in
+      at_for _ _ (error_in (pairs a.query)) _ _
+      (λ code is. record { login = l; names = names; first_error = is }) (λ none.
       let no_error : values a.query (codes "error") ≡ [] = no_value (values a.query (codes "error")) none in
       at_or _ _ (code_in (pairs a.query)) _ _
       (λ not_one. record { login = l; names = names; no_error = no_error; not_one_code = not_one }) (λ code one_code.
@@ -60,36 +76,36 @@ module _ (a : Attempt) (answers : List SeenAnswer) where
       (λ none_made. record { login = l; code = code; has_code = has_code; no_request = none_made }) (λ r made.
       record { code = code; has_code = has_code; request_made = made }))))
 
+  pub opening-walk : Walk IsOpened Q (opening a.client a.pending a.query)
+  unfolding opening
+  opening-walk = at_when _ _ (is_over_long a.query) _ _ (λ long. long) (λ short. pairs-walk short)
+
   -- ---- behind it
 
-  token_row : (l : SeenLogin) (r : SeenResponse) (e : TokenError) → Answered a answers l r → tokens_or_refusal r ≡ Err e → TokenCause a answers e
-  token_row l r (token_error.Request cause) answered is = absurd (subst (IsJudged Tokens (SeenError CoreErrorResponseType)) is (judged r))
-  token_row l r (token_error.Other other.Uri) answered is = absurd (subst (IsJudged Tokens (SeenError CoreErrorResponseType)) is (judged r))
-  token_row l r (token_error.TooLong body) answered is = absurd (subst (IsJudged Tokens (SeenError CoreErrorResponseType)) is (judged r))
-  token_row l r token_error.Memory answered is = absurd (subst (IsJudged Tokens (SeenError CoreErrorResponseType)) is (judged r))
+  token_row : (l : SeenLogin) (r : SeenResponse) (e : TokenError) → Answered types a answers l r → tokens_or_refusal types r ≡ Err e → TokenCause types a answers e
+  token_row l r (token_error.Request cause) answered is = absurd (subst (IsJudged (Tokens AC GC) (SeenError CoreErrorResponseType)) is (judged types r))
+  token_row l r (token_error.Other other.Uri) answered is = absurd (subst (IsJudged (Tokens AC GC) (SeenError CoreErrorResponseType)) is (judged types r))
+  token_row l r (token_error.TooLong body) answered is = absurd (subst (IsJudged (Tokens AC GC) (SeenError CoreErrorResponseType)) is (judged types r))
+  token_row l r token_error.Memory answered is = absurd (subst (IsJudged (Tokens AC GC) (SeenError CoreErrorResponseType)) is (judged types r))
   token_row l r (token_error.Other other.EmptyBody) answered is = record { login = l; response = r; answered = answered; refused = is }
   token_row l r (token_error.Other other.MediaType) answered is = record { login = l; response = r; answered = answered; refused = is }
   token_row l r (token_error.ServerResponse error) answered is = record { login = l; response = r; answered = answered; refused = is }
   token_row l r (token_error.Parse refusal body) answered is = record { login = l; response = r; answered = answered; refused = is }
 
   tokens_in-walk : (l : SeenLogin) (request : SeenRequest) (r : SeenResponse) → Asks a l request → first_of answers ≡ Some r
-      → Walk (λ ts. Reads a answers l ts) Q (tokens_in r)
+      → Walk (λ ts. Reads types a answers l ts) Q (tokens_in types r)
   unfolding tokens_in
   tokens_in-walk l request r asked came =
       at_when _ _ (is_over_long r.body) _ _
       (λ long. record { login = l; request = request; asked = asked; response = r; response_came = came; too_long = long }) (λ short.
-      let answered : Answered a answers l r = record { request = request; asked = asked; response_came = came; not_too_long = short } in
-      at_last _ _ (tokens_or_refusal r) _ (λ e is. token_row l r e answered is) (λ ts is.
+      let answered : Answered types a answers l r = record { request = request; asked = asked; response_came = came; not_too_long = short } in
+      at_last _ _ (tokens_or_refusal types r) _ (λ e is. token_row l r e answered is) (λ ts is.
       record { response = r; answered = answered; tokens_in_response = is }))
 
-  -- the hash of the access token fits an accepted ID token
-  abbrev Fits : Held → Type 0
-  Fits h = (accepted : IsAcceptedBy a.client h.login.nonce a.now h.token) × FitsHash h.token accepted.key accepted.alg h.tokens.access_token
-
   -- by the claim in the ID token, and by the hash of the access token, where there is one
-  claim-walk : (h : Held) (accepted : Accepted a answers h) (claim own : Option (List ℕ)) → claimed_hash h.token ≡ claim → own_hash a answers h accepted ≡ own
-      → Walk (λ u. Fits h) Q (hash_rows claim (ok_or own (UnsupportedAlg (signing_text accepted.accepts.alg))))
-  claim-walk h accepted None own is_claim is_own = (accepted.accepts, λ claim is. let none = sym is_claim ∙ is in cc)
+  claim-walk : (h : Held AC GC) (accepted : Accepted types a answers h) (claim own : Option (List ℕ)) → claimed_hash h.token ≡ claim → own_hash types a answers h accepted ≡ own
+      → Walk (λ u. Fits types a answers h) Q (hash_rows claim (ok_or own (UnsupportedAlg (signing_text accepted.accepts.alg))))
+  claim-walk h accepted None own is_claim is_own = record { accepted = accepted; fits_hash = λ claim is. let none = sym is_claim ∙ is in cc }
   claim-walk h accepted (Some claim) None is_claim is_own = record {
     held = h;
     claim = claim;
@@ -98,7 +114,7 @@ module _ (a : Attempt) (answers : List SeenAnswer) where
     names_algorithm = refl;
   }
   claim-walk h accepted (Some claim) (Some hash) is_claim is_own =
-      at_end (λ u. Fits h) Q (not (bytes_eq hash claim)) _
+      at_end (λ u. Fits types a answers h) Q (not (bytes_eq hash claim)) _
       (λ other. record {
         held = h;
         claim = claim;
@@ -106,58 +122,177 @@ module _ (a : Attempt) (answers : List SeenAnswer) where
         hash = hash;
         has_hash = is_own;
         other = differ_back hash claim other;
-      }) (λ same. (
-        accepted.accepts,
-        λ c is. is_own ∙ ap Some (same_back hash claim same) ∙ sym is_claim ∙ is,
-      ))
+      }) (λ same. record {
+        accepted = accepted;
+        fits_hash = λ c is. is_own ∙ ap Some (same_back hash claim same) ∙ sym is_claim ∙ is;
+      })
 
-  accepting-walk : (h : Held) → Holds a answers h → Walk (λ u. Fits h) Q (accepting a.client a.now h.login h.token h.tokens.access_token)
+  accepting-walk : (h : Held AC GC) → Holds types a answers h → Walk (λ u. Fits types a answers h) Q (accepting types a.client a.now h.login h.token h.tokens.access_token)
   unfolding accepting
   accepting-walk h holds =
-      at_for _ _ (failure_for a.client h.login.nonce a.now h.token) _ _ (λ kind is. record {
+      at_for _ _ (failure_for types a.client h.login.nonce a.now h.token) _ _ (λ kind is. record {
         held = h;
         holds = holds;
         check_failed = is;
-        cause = failure_cause core_keys (verifier_of a.client) (is_nonce h.login.nonce) a.now h.token kind is;
+        cause = failure_cause types.keys (verifier_of types a.client) (is_nonce h.login.nonce) a.now h.token kind is;
       }) (λ none_fails.
-      let accepted : Accepted a answers h = record { holds = holds; accepts = accepts a.client h.login.nonce a.now h.token none_fails } in
+      let accepted : Accepted types a answers h = record { holds = holds; accepts = accepts types a.client h.login.nonce a.now h.token none_fails } in
       let x = accepted.accepts in
-      subst (λ r. Walk (λ u. Fits h) Q (hash_rows (claimed_hash h.token) r)) (sym (beside (verifier_of a.client) h.token x.alg x.key x.signed x.chosen h.tokens.access_token))
+      subst (λ r. Walk (λ u. Fits types a answers h) Q (hash_rows (claimed_hash h.token) r)) (sym (beside types (verifier_of types a.client) h.token x.alg x.key x.signed x.chosen h.tokens.access_token))
       (claim-walk h accepted _ _ refl refl))
 
-  signing_in-walk : (l : SeenLogin) (ts : Tokens) → Reads a answers l ts → Walk (IsSignedIn a answers) Q (signing_in a.client a.now l ts)
+  abbrev pub held : SeenLogin → Tokens AC GC → SeenIdToken AC GC → Held AC GC
+  held l ts token = record { login = l; tokens = ts; token = token }
+
+  -- a user who is signed in but for user info
+  pub record IsHeld (l : SeenLogin) (user : SeenSignedIn AC GC) : Type 0 where
+    pub tokens : Tokens AC GC
+    pub token : SeenIdToken AC GC
+    pub fits : Fits types a answers (held l tokens token)
+    pub own : signed_by token tokens ≡ user
+
+  signing_in-walk : (l : SeenLogin) (ts : Tokens AC GC) → Reads types a answers l ts → Walk (IsHeld l) Q (signing_in types a.client a.now l ts)
   unfolding signing_in
   signing_in-walk l ts reads =
       at_or _ _ ts.extra_fields.id_token _ _ (λ none. record { login = l; tokens = ts; reads = reads; no_id_token = none }) (λ token own.
-      let held : Held = record { login = l; tokens = ts; token = token } in
-      let holds : Holds a answers held = record { reads = reads; own_id_token = own } in
-      at_then _ _ (accepting a.client a.now l token ts.access_token) _ (accepting-walk held holds) (λ fits.
-      record {
-        held = held;
-        holds = holds;
-        accepted = fits.0;
-        fits_hash = fits.1;
-        own_id_token = refl;
-        own_access_token = refl;
-        own_refresh_token = refl;
-      }))
+      let holds : Holds types a answers (held l ts token) = record { reads = reads; own_id_token = own } in
+      at_then _ _ (accepting types a.client a.now l token ts.access_token) _ (accepting-walk (held l ts token) holds) (λ fits.
+      record { tokens = ts; token = token; fits = fits; own = refl }))
 
   pub after_token-walk : (l : SeenLogin) (request : SeenRequest) → Asks a l request
-      → Walk (IsSignedIn a answers) Q (after_token a.client a.now l (first_of answers))
+      → Walk (IsHeld l) Q (after_token types a.client a.now l (first_of answers))
   unfolding after_token
   after_token-walk l request asked =
       at_or _ _ (first_of answers) _ _
       (λ none. record { login = l; request = request; asked = asked; no_response = none }) (λ r came.
-      at_meant _ _ (tokens_in r) _
-      (λ e is. walked_err _ _ (tokens_in r) e (tokens_in-walk l request r asked came) is)
-      (λ ts is. signing_in-walk l ts (walked_ok _ _ (tokens_in r) ts (tokens_in-walk l request r asked came) is)))
+      at_meant _ _ (tokens_in types r) _
+      (λ e is. walked_err _ _ (tokens_in types r) e (tokens_in-walk l request r asked came) is)
+      (λ ts is. signing_in-walk l ts (walked_ok _ _ (tokens_in types r) ts (tokens_in-walk l request r asked came) is)))
+
+  -- ---- user info
+
+  unmade_row : (h : Held AC GC) (ask : SeenInfoRequest Key) → Demands types a answers h ask → ask.access_token ≡ h.tokens.access_token
+      → (e : PrepareInfoError) → info_request ask ≡ Err e → Q (UserInfo (unmade e))
+  unmade_row h ask demands same prepare.Bearer is =
+      record { held = h; ask = ask; demands = demands; no_header_text = subst (λ t. is_visible_text t ≡ false) same (bearer ask is) }
+  unmade_row h ask demands same prepare.Uri is =
+      let both = uri ask is in
+      inl (record { held = h; ask = ask; demands = demands; header_text = subst (λ t. is_visible_text t ≡ true) same both.0; no_address = both.1 })
+  unmade_row h ask demands same prepare.Memory is = absurd (never_memory ask is)
+
+  abbrev pub IsAskedOf : Held AC GC → SeenAsked Key → Type 0
+  IsAskedOf h asked = AsksInfo types a answers h asked.ask asked.request
+
+  prepared-walk : (h : Held AC GC) (ask : SeenInfoRequest Key) → Demands types a answers h ask → ask.access_token ≡ h.tokens.access_token
+      → Walk (IsAskedOf h) Q (prepared ask)
+  prepared-walk h ask demands same =
+      at_or_as _ _ (info_request ask) _ _ (λ e is. unmade_row h ask demands same e is)
+      (λ r made. record { demands = demands; request_made = made })
+
+  pub asking-walk : (h : Held AC GC) → Fits types a answers h → (demand : UserInfoDemand) → h.login.user_info ≡ Some demand
+      → Walk (IsAskedOf h) Q (asking a.client demand (signed_by h.token h.tokens))
+  unfolding asking
+  asking-walk h fits demand is_demand =
+      at_or _ _ (info_ask a.client demand h.tokens.access_token (subject_of h.token)) _ _
+      (λ none. inr (record {
+        held = h;
+        fits = fits;
+        demand = demand;
+        demanded = is_demand;
+        no_endpoint = no_endpoint a.client demand h.tokens.access_token (subject_of h.token) none;
+      })) (λ ask own.
+      prepared-walk h ask (record { fits = fits; demand = demand; demanded = is_demand; own_ask = own })
+      (own_token a.client demand h.tokens.access_token (subject_of h.token) ask own))
+
+  module _ (h : Held AC GC) (ask : SeenInfoRequest Key) (r : SeenResponse) (answered : InfoAnswered types a answers h ask r) where
+    abbrev Own : InfoRefusal → Type 0
+    Own e = IsOwn (IsAbout types ask.demand) (NeverWants types) (Err e)
+
+    own_row : (e : InfoRefusal) → info_answer types ask.demand r ≡ Err e → Own e
+    own_row e is = subst (IsOwn (IsAbout types ask.demand) (NeverWants types)) is (info_own types ask.demand r answered.not_too_long)
+
+    info_row : (e : InfoRefusal) → info_answer types ask.demand r ≡ Err e → InfoCause types a answers e
+    info_row (info_error.Request cause) is = absurd (own_row (info_error.Request cause) is)
+    info_row (info_error.Other info_other.Bearer) is = absurd (own_row (info_error.Other info_other.Bearer) is)
+    info_row (info_error.Other info_other.Uri) is = absurd (own_row (info_error.Other info_other.Uri) is)
+    info_row (info_error.TooLong body) is = absurd (own_row (info_error.TooLong body) is)
+    info_row info_error.Memory is = absurd (own_row info_error.Memory is)
+    info_row (info_error.Other info_other.Utf8) is = record { held = h; ask = ask; response = r; answered = answered; refused = is }
+    info_row (info_error.ClaimsVerification kind) is = record { held = h; ask = ask; response = r; answered = answered; refused = is }
+    info_row (info_error.Parse refusal) is = record { held = h; ask = ask; response = r; answered = answered; refused = is }
+    info_row (info_error.Response status body cause) is = record { held = h; ask = ask; response = r; answered = answered; refused = is }
+
+  -- this user info came about who is held
+  pub record IsFoundFor (h : Held AC GC) (ask : SeenInfoRequest Key) (found : SeenUserInfoClaims AC GC) : Type 0 where
+    pub response : SeenResponse
+    pub answered : InfoAnswered types a answers h ask response
+    pub info_in_response : info_answer types ask.demand response ≡ Ok found
+
+  info_in-walk : (h : Held AC GC) (ask : SeenInfoRequest Key) (request : SeenRequest) (r : SeenResponse) → AsksInfo types a answers h ask request → first_of (rest_of answers) ≡ Some r
+      → Walk (IsFoundFor h ask) Q (info_in types ask.demand r)
+  unfolding info_in
+  info_in-walk h ask request r asked came =
+      at_when _ _ (is_over_long r.body) _ _
+      (λ long. record { held = h; ask = ask; request = request; asked = asked; response = r; response_came = came; too_long = long }) (λ short.
+      let answered : InfoAnswered types a answers h ask r = record { request = request; asked = asked; response_came = came; not_too_long = short } in
+      at_last _ _ (info_answer types ask.demand r) _ (λ e is. info_row h ask r answered e is) (λ found is.
+      record { response = r; answered = answered; info_in_response = is }))
+
+  signed : (h : Held AC GC) → Fits types a answers h → (ask : SeenInfoRequest Key) (found : SeenUserInfoClaims AC GC) → IsFoundFor h ask found
+      → IsSignedIn types a answers (record (signed_by h.token h.tokens) { user_info = Some found })
+  signed h fits ask found x = record {
+    held = h;
+    holds = fits.accepted.holds;
+    accepted = fits.accepted.accepts;
+    fits_hash = fits.fits_hash;
+    own_id_token = refl;
+    own_access_token = refl;
+    own_refresh_token = refl;
+    info = record { ask = ask; response = x.response; answered = x.answered; info_in_response = x.info_in_response };
+  }
+
+  after_info-walk : (h : Held AC GC) (ask : SeenInfoRequest Key) (request : SeenRequest) → AsksInfo types a answers h ask request
+      → Walk (IsSignedIn types a answers) Q (after_info types ask.demand (signed_by h.token h.tokens) (first_of (rest_of answers)))
+  unfolding after_info
+  after_info-walk h ask request asked =
+      at_or _ _ (first_of (rest_of answers)) _ _
+      (λ none. record { held = h; ask = ask; request = request; asked = asked; no_response = none }) (λ r came.
+      at_meant _ _ (info_in types ask.demand r) _
+      (λ e is. walked_err _ _ (info_in types ask.demand r) e (info_in-walk h ask request r asked came) is)
+      (λ found is. signed h asked.demands.fits ask found (walked_ok _ _ (info_in types ask.demand r) found (info_in-walk h ask request r asked came) is)))
 
   -- ---- the whole
 
-  with_token-walk : (opened : Meant SeenOpened) → Walk IsOpened Q opened → Walk (IsSignedIn a answers) Q (with_token a.client a.now answers opened).reply
-  with_token-walk (Err e) walk = walk
-  with_token-walk (Ok opened) walk = after_token-walk opened.login opened.request walk
+  asked_run-walk : (h : Held AC GC) (m : Meant (SeenAsked Key)) → Walk (IsAskedOf h) Q m
+      → Walk (IsSignedIn types a answers) Q (asked_run types (signed_by h.token h.tokens) (rest_of answers) m).reply
+  asked_run-walk h (Err e) walk = walk
+  asked_run-walk h (Ok asked) walk = after_info-walk h asked.ask asked.request walk
+
+  info_run-walk : (h : Held AC GC) → Fits types a answers h → (demand : Option UserInfoDemand) → h.login.user_info ≡ demand
+      → Walk (IsSignedIn types a answers) Q (info_run types a.client demand (signed_by h.token h.tokens) (rest_of answers)).reply
+  info_run-walk h fits None none = record {
+    held = h;
+    holds = fits.accepted.holds;
+    accepted = fits.accepted.accepts;
+    fits_hash = fits.fits_hash;
+    own_id_token = refl;
+    own_access_token = refl;
+    own_refresh_token = refl;
+    info = none;
+  }
+  info_run-walk h fits (Some demand) is = asked_run-walk h _ (asking-walk h fits demand is)
+
+  token_run-walk : (l : SeenLogin) (m : Meant (SeenSignedIn AC GC)) → Walk (IsHeld l) Q m
+      → Walk (IsSignedIn types a answers) Q (token_run types a.client l (rest_of answers) m).reply
+  token_run-walk l (Err e) walk = walk
+  token_run-walk l (Ok user) x =
+      subst (λ u. Walk (IsSignedIn types a answers) Q (info_run types a.client l.user_info u (rest_of answers)).reply) x.own
+      (info_run-walk (held l x.tokens x.token) x.fits l.user_info refl)
+
+  opened_run-walk : (opened : Meant SeenOpened) → Walk IsOpened Q opened → Walk (IsSignedIn types a answers) Q (opened_run types a.client a.now answers opened).reply
+  opened_run-walk (Err e) walk = walk
+  opened_run-walk (Ok opened) walk = token_run-walk opened.login _ (after_token-walk opened.login opened.request walk)
 
   -- a reply rests on its cause, and an Ok on all that signs in
-  pub outcome-walk : Walk (IsSignedIn a answers) Q (outcome a answers).reply
-  outcome-walk = with_token-walk (opening a.client a.pending (pairs a.query)) opening-walk
+  pub outcome-walk : Walk (IsSignedIn types a answers) Q (outcome types a answers).reply
+  outcome-walk = opened_run-walk (opening a.client a.pending a.query) opening-walk

@@ -10,7 +10,8 @@ use Rattle.oidc_tokens.specs.Hashes.{GivesHash}
 use Rattle.oidc_tokens.specs.Verification.{first_failure, Judges}
 use Rattle.oidc_login.specs.Client.{SeenClient}
 use Rattle.oidc_login.specs.Logins.{SeenLogin}
-use Rattle.oidc_login.specs.IdTokens.{SeenIdToken, CoreVerifier, core_keys, verifier_of, is_nonce, failure_for}
+use Rattle.oidc_login.specs.SiteTypes.{SiteTypes}
+use Rattle.oidc_login.specs.IdTokens.{SeenIdToken, KeyVerifier, verifier_of, is_nonce, failure_for}
 use Rattle.oidc_login.specs.TokenHash.{claimed_hash, hash_beside}
 use Rattle.oidc_login.specs.TokenResponse.{Tokens}
 use Rattle.oidc_login.specs.SignedIn.{SeenSignedIn, signed_by}
@@ -21,29 +22,6 @@ use Rattle.oidc_login.specs.declared.errors.LoginError.TheVariants as login
 use Rattle.oidc_login.specs.Steps.{of_check, IsPassed}
 use Rattle.oidc_login.proofs.Drives.{unless_map}
 use Rattle.oidc_login.proofs.TokenHash.{other_claim, own_claim}
-
--- ---- the hash
-
-pub no_claim : (claim : Option (List ℕ)) (hash : Result (List ℕ) SigningError) → claim ≡ None → hash_rows claim hash ≡ Ok tt
-no_claim claim hash is = ap (λ c. hash_rows c hash) is
-
-pub same_claim : (claim : Option (List ℕ)) (hash : Result (List ℕ) SigningError) (c : List ℕ) → claim ≡ Some c → Ok c ≡ hash → hash_rows claim hash ≡ Ok tt
-same_claim claim hash c is own = ap (λ x. hash_rows x hash) is ∙ ap (hash_rows (Some c)) (sym own) ∙ own_claim c
-
-pub another_claim : (claim : Option (List ℕ)) (hash : Result (List ℕ) SigningError) (c h : List ℕ) → claim ≡ Some c → Ok h ≡ hash → (h ≡ c → ⊥)
-    → hash_rows claim hash ≡ Err login.TokenHash
-another_claim claim hash c h is own other = ap (λ x. hash_rows x hash) is ∙ ap (hash_rows (Some c)) (sym own) ∙ other_claim c h other
-
--- a refusal of a hash that isn't want of memory
-pub refusal_of : (meant : Result (List ℕ) SigningError) (refusal : SigningError) → (refusal ≡ signing.Memory → ⊥) → GivesHash {T = List ℕ} meant (Err refusal) → Err refusal ≡ meant
-refusal_of meant signing.CryptoError other gives = gives
-refusal_of meant (signing.UnsupportedAlg text) other gives = gives
-refusal_of meant (signing.Other text) other gives = gives
-refusal_of meant signing.Memory other gives = absurd (other (λ i. signing.Memory))
-
-pub refused_claim : (claim : Option (List ℕ)) (hash : Result (List ℕ) SigningError) (c : List ℕ) (refusal : SigningError) → claim ≡ Some c → Err refusal ≡ hash
-    → hash_rows claim hash ≡ Err (login.Signing refusal)
-refused_claim claim hash c refusal is own = ap (λ x. hash_rows x hash) is ∙ ap (hash_rows (Some c)) (sym own)
 
 -- ---- the checks
 
@@ -68,25 +46,25 @@ module _ (E : Type 0) where
   of_check_spent check.InvalidSubject = refl
   of_check_spent check.Memory = refl
 
-module _ (client : SeenClient) (now : ℤ) (l : SeenLogin) (token : SeenIdToken) (access_token : List ℕ) where
+module _ {AC GC Key Use : Type 0} (types : SiteTypes AC GC Key Use) (client : SeenClient Key) (now : ℤ) (l : SeenLogin) (token : SeenIdToken AC GC) (access_token : List ℕ) where
   abbrev pub hash_meant : Meant (Unit {0})
-  hash_meant = hash_rows (claimed_hash token) (hash_beside (verifier_of client) token access_token)
+  hash_meant = hash_rows (claimed_hash token) (hash_beside types (verifier_of types client) token access_token)
 
-  accepting_by : (failure : Option ClaimsVerificationError) → failure_for client l.nonce now token ≡ failure
-      → accepting client now l token access_token ≡ ((login.Claims for failure) >> hash_meant)
+  accepting_by : (failure : Option ClaimsVerificationError) → failure_for types client l.nonce now token ≡ failure
+      → accepting types client now l token access_token ≡ ((login.Claims for failure) >> hash_meant)
   unfolding accepting
   accepting_by failure is = ap (λ o. (login.Claims for o) >> hash_meant) is
 
-  pub passed : {E : Type 0} (result : Result (Unit {0}) (LoginError E)) → failure_for client l.nonce now token ≡ None → Gives result hash_meant
-      → Gives result (accepting client now l token access_token)
+  pub passed : {E : Type 0} (result : Result (Unit {0}) (LoginError E)) → failure_for types client l.nonce now token ≡ None → Gives result hash_meant
+      → Gives result (accepting types client now l token access_token)
   passed result none gives = subst (Gives result) (sym (accepting_by None none)) gives
 
-  failed : (kind : ClaimsVerificationError) → failure_for client l.nonce now token ≡ Some kind → accepting client now l token access_token ≡ Err (login.Claims kind)
+  failed : (kind : ClaimsVerificationError) → failure_for types client l.nonce now token ≡ Some kind → accepting types client now l token access_token ≡ Err (login.Claims kind)
   failed kind is = accepting_by (Some kind) is
 
   -- the first check that fails, or want of memory
-  refused_check : (E C : Type 0) (e : ClaimsVerificationError) → Judges {C = C} (failure_for client l.nonce now token) (Err e)
-      → Gives {A = Unit {0}} {E = E} (Err (of_check e)) (accepting client now l token access_token)
+  refused_check : (E C : Type 0) (e : ClaimsVerificationError) → Judges {C = C} (failure_for types client l.nonce now token) (Err e)
+      → Gives {A = Unit {0}} {E = E} (Err (of_check e)) (accepting types client now l token access_token)
   refused_check E C check.Unsupported judged = failed _ judged
   refused_check E C check.InvalidIssuer judged = failed _ judged
   refused_check E C check.InvalidAudience judged = failed _ judged
@@ -96,60 +74,56 @@ module _ (client : SeenClient) (now : ℤ) (l : SeenLogin) (token : SeenIdToken)
   refused_check E C check.InvalidSubject judged = failed _ judged
   refused_check E C check.Memory judged = tt
 
-  pub refused_by : (E C : Type 0) (failure : Option ClaimsVerificationError) → failure ≡ failure_for client l.nonce now token → (e : ClaimsVerificationError) → Judges {C = C} failure (Err e)
-      → Gives {A = Unit {0}} {E = E} (Err (of_check e)) (accepting client now l token access_token)
+  pub refused_by : (E C : Type 0) (failure : Option ClaimsVerificationError) → failure ≡ failure_for types client l.nonce now token → (e : ClaimsVerificationError) → Judges {C = C} failure (Err e)
+      → Gives {A = Unit {0}} {E = E} (Err (of_check e)) (accepting types client now l token access_token)
   refused_by E C failure same e judged = refused_check E C e (subst (λ f. Judges {C = C} f (Err e)) same judged)
 
   -- the verifier of a client and the nonce of a login, by other names
-  pub same_failure : (verifier : CoreVerifier) (sent : List ℕ) → verifier ≡ verifier_of client → sent ≡ l.nonce
-      → first_failure core_keys verifier (is_nonce sent) now token ≡ failure_for client l.nonce now token
+  pub same_failure : (verifier : KeyVerifier Key) (sent : List ℕ) → verifier ≡ verifier_of types client → sent ≡ l.nonce
+      → first_failure types.keys verifier (is_nonce sent) now token ≡ failure_for types client l.nonce now token
   same_failure verifier sent own nonce =
-      ap (λ v. first_failure core_keys v (is_nonce sent) now token) own ∙ ap (λ n. first_failure core_keys (verifier_of client) (is_nonce n) now token) nonce
+      ap (λ v. first_failure types.keys v (is_nonce sent) now token) own ∙ ap (λ n. first_failure types.keys (verifier_of types client) (is_nonce n) now token) nonce
 
-  pub same_hash : {E : Type 0} (result : Result (Unit {0}) (LoginError E)) (verifier : CoreVerifier) → verifier ≡ verifier_of client
-      → Gives result (hash_rows (claimed_hash token) (hash_beside verifier token access_token)) → Gives result hash_meant
-  same_hash result verifier own gives = subst (λ v. Gives result (hash_rows (claimed_hash token) (hash_beside v token access_token))) own gives
+  pub same_hash : {E : Type 0} (result : Result (Unit {0}) (LoginError E)) (verifier : KeyVerifier Key) → verifier ≡ verifier_of types client
+      → Gives result (hash_rows (claimed_hash token) (hash_beside types verifier token access_token)) → Gives result hash_meant
+  same_hash result verifier own gives = subst (λ v. Gives result (hash_rows (claimed_hash token) (hash_beside types v token access_token))) own gives
 
 -- ---- the tokens
 
-same_some : (a b : SeenIdToken) → Some a ≡ Some b → a ≡ b
+same_some : {A : Type 0} (a b : A) → Some a ≡ Some b → a ≡ b
 same_some a b h = cc
 
-module _ (client : SeenClient) (now : ℤ) (l : SeenLogin) (tokens : Tokens) where
-  pub no_token : tokens.extra_fields.id_token ≡ None → signing_in client now l tokens ≡ Err login.NoIdToken
+module _ {AC GC Key Use : Type 0} (types : SiteTypes AC GC Key Use) (client : SeenClient Key) (now : ℤ) (l : SeenLogin) (tokens : Tokens AC GC) where
+  pub no_token : tokens.extra_fields.id_token ≡ None → signing_in types client now l tokens ≡ Err login.NoIdToken
   unfolding signing_in
-  no_token is = ap (λ o. (o or login.NoIdToken) >>= λ token. accepting client now l token tokens.access_token >> Ok (signed_by token tokens)) is
+  no_token is = ap (λ o. (o or login.NoIdToken) >>= λ token. accepting types client now l token tokens.access_token >> Ok (signed_by token tokens)) is
 
-  module _ (token : SeenIdToken) (is : tokens.extra_fields.id_token ≡ Some token) where
-    signing_by : (m : Meant (Unit {0})) → accepting client now l token tokens.access_token ≡ m → signing_in client now l tokens ≡ (m >> Ok (signed_by token tokens))
+  module _ (token : SeenIdToken AC GC) (is : tokens.extra_fields.id_token ≡ Some token) where
+    signing_by : (m : Meant (Unit {0})) → accepting types client now l token tokens.access_token ≡ m → signing_in types client now l tokens ≡ (m >> Ok (signed_by token tokens))
     unfolding signing_in
     signing_by m accepts =
-        ap (λ o. (o or login.NoIdToken) >>= λ token. accepting client now l token tokens.access_token >> Ok (signed_by token tokens)) is
+        ap (λ o. (o or login.NoIdToken) >>= λ token. accepting types client now l token tokens.access_token >> Ok (signed_by token tokens)) is
         ∙ ap (λ m. m >> Ok (signed_by token tokens)) accepts
 
-    signed : accepting client now l token tokens.access_token ≡ Ok tt → signing_in client now l tokens ≡ Ok (signed_by token tokens)
+    signed : accepting types client now l token tokens.access_token ≡ Ok tt → signing_in types client now l tokens ≡ Ok (signed_by token tokens)
     signed accepts = signing_by (Ok tt) accepts
 
-    pub passes : {E : Type 0} (result : Result (Unit {0}) (LoginError E)) → Gives result (accepting client now l token tokens.access_token)
-        → IfOk result (λ u. IsPassed client now l tokens)
+    pub passes : {E : Type 0} (result : Result (Unit {0}) (LoginError E)) → Gives result (accepting types client now l token tokens.access_token)
+        → IfOk result (λ u. IsPassed types client now l tokens)
     passes (Ok u) gives = λ other also. let same : token ≡ other = same_some _ _ (sym is ∙ also) in
         signed gives ∙ ap (λ t. Ok (signed_by t tokens)) same
     passes (Err e) gives = tt
 
-    pub refuses : {E : Type 0} (result : Result (Unit {0}) (LoginError E)) → Gives result (accepting client now l token tokens.access_token)
-        → IfErr result (λ e. Unless (memory_of e) (signing_in client now l tokens ≡ Err (seen e)))
+    pub refuses : {E : Type 0} (result : Result (Unit {0}) (LoginError E)) → Gives result (accepting types client now l token tokens.access_token)
+        → IfErr result (λ e. Unless (memory_of e) (signing_in types client now l tokens ≡ Err (seen e)))
     refuses (Ok u) gives = tt
     refuses (Err e) gives = unless_map (memory_of e) (λ accepts. signing_by (Err (seen e)) accepts) gives
 
-    pub there : {E : Type 0} (result : Result (Unit {0}) (LoginError E)) → IfOk result (λ u. is_some tokens.extra_fields.id_token ≡ true)
-    there (Ok u) = ap is_some is
-    there (Err e) = tt
-
-  signed_where : (o : Option SeenIdToken) → is_some o ≡ true → (m : Meant SeenSignedIn) (user : SeenSignedIn) → ((token : SeenIdToken) → o ≡ Some token → user ≡ signed_by token tokens)
-      → ((token : SeenIdToken) → o ≡ Some token → m ≡ Ok (signed_by token tokens)) → m ≡ Ok user
+  signed_where : (o : Option (SeenIdToken AC GC)) → is_some o ≡ true → (m : Meant (SeenSignedIn AC GC)) (user : SeenSignedIn AC GC) → ((token : SeenIdToken AC GC) → o ≡ Some token → user ≡ signed_by token tokens)
+      → ((token : SeenIdToken AC GC) → o ≡ Some token → m ≡ Ok (signed_by token tokens)) → m ≡ Ok user
   signed_where None none m user own meant = cc
   signed_where (Some token) some m user own meant = meant token refl ∙ ap Ok (sym (own token refl))
 
-  pub signs : (user : SeenSignedIn) → is_some tokens.extra_fields.id_token ≡ true → ((token : SeenIdToken) → tokens.extra_fields.id_token ≡ Some token → user ≡ signed_by token tokens)
-      → IsPassed client now l tokens → signing_in client now l tokens ≡ Ok user
-  signs user some own passed = signed_where tokens.extra_fields.id_token some (signing_in client now l tokens) user own passed
+  pub signs : (user : SeenSignedIn AC GC) → is_some tokens.extra_fields.id_token ≡ true → ((token : SeenIdToken AC GC) → tokens.extra_fields.id_token ≡ Some token → user ≡ signed_by token tokens)
+      → IsPassed types client now l tokens → signing_in types client now l tokens ≡ Ok user
+  signs user some own passed = signed_where tokens.extra_fields.id_token some (signing_in types client now l tokens) user own passed

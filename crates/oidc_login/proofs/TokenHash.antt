@@ -1,5 +1,5 @@
 -- The hash beside an accepted ID token is that of its algorithm under its key, and what its rows say.
-use Rattle.std.proofs.Common.{◌≡◌, ◌≢◌, ℕ, List, [], Bool, true, false, Option, None, Some, Result, Ok, Err, refl, sym, ap, ◌∙◌}
+use Rattle.std.proofs.Common.{◌≡◌, ◌≢◌, ℕ, List, [], Bool, true, false, Some, Result, Ok, Err, refl, sym, ap, ◌∙◌}
 use Rattle.std.specs.Prelude.{not}
 use Rattle.std.specs.Option.{ok_or}
 use Rattle.std.specs.Str.{bytes_eq}
@@ -8,55 +8,29 @@ use Rattle.oidc_types.specs.{signing_text}
 use Rattle.oidc_types.specs.declared.signing_error.SigningError.{SigningError}
 use Rattle.oidc_types.specs.declared.signing_error.SigningError.TheVariants.{UnsupportedAlg}
 use Rattle.oidc_types.specs.declared.core_algorithms.CoreJwsSigningAlgorithm.{CoreJwsSigningAlgorithm}
-use Rattle.oidc_keys.specs.CoreJwk.{SymmetricKey}
 use Rattle.oidc_jwt.specs.declared.header.JsonWebTokenAlgorithm.TheVariants as algorithm
 use Rattle.oidc_keys.specs.declared.refusals.SignatureVerificationError.{SignatureVerificationError}
 use Rattle.oidc_tokens.specs.Hashes.{Hashing, hashing, hash_or_refusal}
 use Rattle.oidc_tokens.specs.Signatures.{signing_alg, key_for, checking_key}
 use Rattle.oidc_tokens.specs.Steps.{◌>>=◌}
-use Rattle.oidc_login.specs.IdTokens.{SeenIdToken, CoreVerifier, core_keys}
+use Rattle.oidc_login.specs.SiteTypes.{SiteTypes}
+use Rattle.oidc_login.specs.IdTokens.{SeenIdToken, KeyVerifier}
 use Rattle.oidc_login.specs.TokenHash.{hash_under, hashing_found, or_no_hash, hash_beside}
 use Rattle.oidc_oauth2.specs.TokenAnswers.{◌when◌}
-use Rattle.oidc_login.specs.Errors.{Error}
 use Rattle.oidc_login.specs.Rows.{Meant, hash_rows}
 use Rattle.oidc_login.specs.declared.errors.LoginError.TheVariants as login
 
-module _ (v : CoreVerifier) (token : SeenIdToken) (alg : CoreJwsSigningAlgorithm) (key : SymmetricKey)
-    (signed : token.header.alg ≡ algorithm.Signature alg) (chosen : key_for core_keys v token.header.kid alg ≡ Ok key) where
-  found : hashing_found v token ≡ Ok (hashing (signing_text alg) (core_keys.keys.hash_of key alg))
+module _ {AC GC Key Use : Type 0} (types : SiteTypes AC GC Key Use) (v : KeyVerifier Key) (token : SeenIdToken AC GC) (alg : CoreJwsSigningAlgorithm) (key : Key)
+    (signed : token.header.alg ≡ algorithm.Signature alg) (chosen : key_for types.keys v token.header.kid alg ≡ Ok key) where
+  found : hashing_found types v token ≡ Ok (hashing (signing_text alg) (types.keys.keys.hash_of key alg))
   found =
-      ap (λ said. signing_alg said >>= λ named. (signing_alg said >>= key_for core_keys v token.header.kid) >>= λ key. Ok (hashing (signing_text named) (core_keys.keys.hash_of key named))) signed
-      ∙ ap (λ r. r >>= λ key. Ok (hashing (signing_text alg) (core_keys.keys.hash_of key alg))) chosen
+      ap (λ said. signing_alg said >>= λ named. (signing_alg said >>= key_for types.keys v token.header.kid) >>= λ key. Ok (hashing (signing_text named) (types.keys.keys.hash_of key named))) signed
+      ∙ ap (λ r. r >>= λ key. Ok (hashing (signing_text alg) (types.keys.keys.hash_of key alg))) chosen
 
   -- the hash, or the refusal that names the algorithm
-  pub beside : (access_token : List ℕ) → hash_beside v token access_token ≡ ok_or (hash_under key alg access_token) (UnsupportedAlg (signing_text alg))
+  pub beside : (access_token : List ℕ) → hash_beside types v token access_token ≡ ok_or (hash_under types key alg access_token) (UnsupportedAlg (signing_text alg))
   unfolding hash_beside
   beside access_token = ap (λ r. hash_or_refusal (or_no_hash r) access_token) found
-
--- ---- by what was found of its algorithm and its key
-
-module _ (v : CoreVerifier) (token : SeenIdToken) (access_token : List ℕ) where
-  abbrev steps : Result CoreJwsSigningAlgorithm SignatureVerificationError → Result SymmetricKey SignatureVerificationError → Result Hashing SignatureVerificationError
-  steps a k = a >>= λ alg. k >>= λ key. Ok (hashing (signing_text alg) (core_keys.keys.hash_of key alg))
-
-  abbrev after : Result Hashing SignatureVerificationError → Result (List ℕ) SigningError
-  after r = hash_or_refusal (or_no_hash r) access_token
-
-  pub beside_found : (alg : CoreJwsSigningAlgorithm) (key : SymmetricKey) → Ok alg ≡ signing_alg token.header.alg → Ok key ≡ checking_key core_keys v token
-      → hash_beside v token access_token ≡ hash_or_refusal (hashing (signing_text alg) (core_keys.keys.hash_of key alg)) access_token
-  unfolding hash_beside
-  beside_found alg key has_alg has_key =
-      ap (λ a. after (steps a (checking_key core_keys v token))) (sym has_alg) ∙ ap (λ k. after (steps (Ok alg) k)) (sym has_key)
-
-  pub beside_unsigned : (refusal : SignatureVerificationError) → Err refusal ≡ signing_alg token.header.alg → hash_beside v token access_token ≡ Err (UnsupportedAlg [])
-  unfolding hash_beside
-  beside_unsigned refusal no_alg = ap (λ a. after (steps a (checking_key core_keys v token))) (sym no_alg)
-
-  pub beside_keyless : (alg : CoreJwsSigningAlgorithm) (refusal : SignatureVerificationError) → Ok alg ≡ signing_alg token.header.alg → Err refusal ≡ checking_key core_keys v token
-      → hash_beside v token access_token ≡ Err (UnsupportedAlg [])
-  unfolding hash_beside
-  beside_keyless alg refusal has_alg no_key =
-      ap (λ a. after (steps a (checking_key core_keys v token))) (sym has_alg) ∙ ap (λ k. after (steps (Ok alg) k)) (sym no_key)
 
 -- ---- the rows on a claim
 

@@ -20,6 +20,11 @@ module _ {B : Type 0} (P : B → Type 0) (Q : Error → Type 0) where
   at_meant (Err e) f row_holds goes_on = row_holds e refl
   at_meant (Ok x) f row_holds goes_on = goes_on x refl
 
+  pub at_or_as : {A F : Type 0} (r : Result A F) (row : F → Error) (f : A → Meant B)
+      → ((e : F) → r ≡ Err e → Q (row e)) → ((x : A) → r ≡ Ok x → Walk P Q (f x)) → Walk P Q ((r or_as row) >>= f)
+  at_or_as (Err e) row f row_holds goes_on = row_holds e refl
+  at_or_as (Ok x) row f row_holds goes_on = goes_on x refl
+
   pub at_last : {F : Type 0} (r : Result B F) (row : F → Error)
       → ((e : F) → r ≡ Err e → Q (row e)) → ((x : B) → r ≡ Ok x → P x) → Walk P Q (r or_as row)
   at_last (Err e) row row_holds goes_on = row_holds e refl

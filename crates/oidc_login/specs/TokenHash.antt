@@ -5,34 +5,44 @@ use Rattle.std.specs.Str.{bytes_eq}
 use Rattle.oidc_types.specs.{signing_text}
 use Rattle.oidc_types.specs.declared.signing_error.SigningError.{SigningError}
 use Rattle.oidc_types.specs.declared.core_algorithms.CoreJwsSigningAlgorithm.{CoreJwsSigningAlgorithm}
-use Rattle.oidc_keys.specs.CoreJwk.{SymmetricKey}
 use Rattle.oidc_keys.specs.declared.refusals.SignatureVerificationError.{SignatureVerificationError}
+use Rattle.oidc_jwt.specs.declared.header.JsonWebTokenAlgorithm.TheVariants as algorithm
 use Rattle.oidc_tokens.specs.Hashes.{Hashing, hashing, hash_text, hash_or_refusal}
-use Rattle.oidc_tokens.specs.Signatures.{signing_alg, checking_key}
+use Rattle.oidc_tokens.specs.Signatures.{signing_alg, key_for, checking_key}
 use Rattle.oidc_tokens.specs.Steps.{◌>>=◌}
-use Rattle.oidc_login.specs.IdTokens.{SeenIdToken, CoreVerifier, core_keys}
-
--- the hash of an access token by the hash function that goes with an algorithm under a key, where there is one
-abbrev pub hash_under : SymmetricKey → CoreJwsSigningAlgorithm → List ℕ → Option (List ℕ)
-hash_under key alg access_token = hash_text (core_keys.keys.hash_of key alg) access_token
+use Rattle.oidc_login.specs.Client.{SeenClient}
+use Rattle.oidc_login.specs.SiteTypes.{SiteTypes}
+use Rattle.oidc_login.specs.IdTokens.{SeenIdToken, KeyVerifier, verifier_of}
 
 -- the `at_hash` of an ID token, where it has one
-abbrev pub claimed_hash : SeenIdToken → Option (List ℕ)
+abbrev pub claimed_hash : {AC GC : Type 0} → SeenIdToken AC GC → Option (List ℕ)
 claimed_hash token = token.payload.own.access_token_hash
 
--- An `at_hash`, where there is one, is the hash of this access token by this algorithm under this key.
-abbrev pub FitsHash : SeenIdToken → SymmetricKey → CoreJwsSigningAlgorithm → List ℕ → Type 0
-FitsHash token key alg access_token =
-    (claim : List ℕ) → claimed_hash token ≡ Some claim → hash_under key alg access_token ≡ Some claim
+module _ {AC GC Key Use : Type 0} (types : SiteTypes AC GC Key Use) where
+  -- the hash of an access token by the hash function that goes with an algorithm under a key, where there is one
+  abbrev pub hash_under : Key → CoreJwsSigningAlgorithm → List ℕ → Option (List ℕ)
+  hash_under key alg access_token = hash_text (types.keys.keys.hash_of key alg) access_token
 
--- ---- the same as a value, for any token
+  -- An `at_hash`, where there is one, is the hash of this access token by this algorithm under this key.
+  abbrev pub FitsHash : SeenIdToken AC GC → Key → CoreJwsSigningAlgorithm → List ℕ → Type 0
+  FitsHash token key alg access_token =
+      (claim : List ℕ) → claimed_hash token ≡ Some claim → hash_under key alg access_token ≡ Some claim
 
--- the hash function that goes with the algorithm of a token, under the key that checks it
-abbrev pub hashing_found : CoreVerifier → SeenIdToken → Result Hashing SignatureVerificationError
-hashing_found v token = do
-  alg ← signing_alg token.header.alg
-  key ← checking_key core_keys v token
-  Ok (hashing (signing_text alg) (core_keys.keys.hash_of key alg))
+  -- The same by the algorithm that the token is signed by, under the key that checks it for this client.
+  abbrev pub HasOwnHash : SeenClient Key → SeenIdToken AC GC → List ℕ → Type 0
+  HasOwnHash client token access_token =
+      (alg : CoreJwsSigningAlgorithm) (key : Key) → token.header.alg ≡ algorithm.Signature alg
+      → key_for types.keys (verifier_of types client) token.header.kid alg ≡ Ok key
+      → FitsHash token key alg access_token
+
+  -- ---- the same as a value, for any token
+
+  -- the hash function that goes with the algorithm of a token, under the key that checks it
+  abbrev pub hashing_found : KeyVerifier Key → SeenIdToken AC GC → Result Hashing SignatureVerificationError
+  hashing_found v token = do
+    alg ← signing_alg token.header.alg
+    key ← checking_key types.keys v token
+    Ok (hashing (signing_text alg) (types.keys.keys.hash_of key alg))
 
 -- A token without an algorithm or a key has none, and no name of an algorithm. It is never accepted.
 abbrev pub or_no_hash : Result Hashing SignatureVerificationError → Hashing
@@ -40,8 +50,10 @@ or_no_hash (Ok by) = by
 or_no_hash (Err refusal) = hashing [] None
 
 -- the hash of an access token beside an ID token, or why it has none
-unfoldable pub hash_beside : CoreVerifier → SeenIdToken → List ℕ → Result (List ℕ) SigningError
-hash_beside v token access_token = hash_or_refusal (or_no_hash (hashing_found v token)) access_token
+unfoldable pub hash_beside : {AC GC Key Use : Type 0} → SiteTypes AC GC Key Use → KeyVerifier Key
+    → SeenIdToken AC GC → List ℕ → Result (List ℕ) SigningError
+hash_beside types v token access_token =
+    hash_or_refusal (or_no_hash (hashing_found types v token)) access_token
 
 -- ---- what is said of a claim and the hash that it stands for
 

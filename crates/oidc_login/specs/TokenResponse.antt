@@ -12,27 +12,31 @@ use Rattle.oidc_oauth2.specs.declared.error_types.CoreErrorResponseType.{CoreErr
 use Rattle.oidc_oauth2.specs.declared.token_type.CoreTokenType.{CoreTokenType}
 use Rattle.oidc_oauth2.specs.declared.extra.EmptyExtraTokenFields.{EmptyExtraTokenFields}
 use Rattle.oidc_tokens.specs.IdTokenFields.{SeenIdTokenFields, response_fields_of}
+use Rattle.oidc_login.specs.SiteTypes.{SiteTypes}
 use Rattle.oidc_login.specs.IdTokens.{SeenIdToken, id_token_of}
 
 -- the fields beside those of RFC 6749: an ID token, where there is one, and no others
-abbrev pub Fields : Type 0
-Fields = SeenIdTokenFields SeenIdToken EmptyExtraTokenFields
+abbrev pub Fields : Type 0 → Type 0 → Type 0
+Fields AC GC = SeenIdTokenFields (SeenIdToken AC GC) EmptyExtraTokenFields
 
 abbrev pub no_others : List SeenMember → Result EmptyExtraTokenFields Refusal
 no_others members = Ok (record {})
 
-abbrev pub fields_of : List SeenMember → Result Fields Refusal
-fields_of = response_fields_of id_token_of no_others
-
--- ---- the answer
-
-abbrev pub Tokens : Type 0
-Tokens = SeenTokens CoreTokenType Fields
+abbrev pub Tokens : Type 0 → Type 0 → Type 0
+Tokens AC GC = SeenTokens CoreTokenType (Fields AC GC)
 
 -- why an answer holds no tokens, whatever the transport's error was
 abbrev pub TokenError : Type 0
 TokenError = TokenRefusal (SeenError CoreErrorResponseType)
 
--- the tokens that a response holds whose body isn't too long, or why it is refused
-unfoldable pub tokens_or_refusal : SeenResponse → Result Tokens TokenError
-tokens_or_refusal = status_worth (error_response_of error_of) (tokens_of token_type_of fields_of)
+module _ {AC GC Key Use : Type 0} (types : SiteTypes AC GC Key Use) where
+  abbrev pub fields_of : List SeenMember → Result (Fields AC GC) Refusal
+  fields_of = response_fields_of (id_token_of types) no_others
+
+  -- the tokens that the members of an object are
+  abbrev pub tokens_read : List SeenMember → Result (Tokens AC GC) Refusal
+  tokens_read = tokens_of token_type_of fields_of
+
+  -- the tokens that a response holds whose body isn't too long, or why it is refused
+  unfoldable pub tokens_or_refusal : SeenResponse → Result (Tokens AC GC) TokenError
+  tokens_or_refusal = status_worth (error_response_of error_of) tokens_read

@@ -2,11 +2,12 @@
 
 ghost use Rattle.std.specs.Prelude.{◌≡◌};
 ghost use Rattle.oidc_login.specs.Errors.{spent_of};
-ghost use Rattle.oidc_login.specs.Steps.{of_token, of_check};
+ghost use Rattle.oidc_login.specs.Steps.{of_token, of_check, of_info};
 
 use oidc_oauth2::{CoreRequestTokenError, RequestTokenError};
 use oidc_tokens::ClaimsVerificationError;
-use oidc_types::SigningError;
+use oidc_types::{CoreAuthErrorResponseType, SigningError};
+use oidc_user_info::UserInfoError;
 use std::alloc::AllocError;
 use thiserror::Error;
 
@@ -21,12 +22,24 @@ pub enum NewLoginsError {
 /// Why a login doesn't begin.
 #[derive(Clone, Copy, Debug, PartialEq, Eq, Error)]
 pub enum BeginError {
+    /// The request's flow isn't `AuthenticationFlow::AuthorizationCode`.
+    #[error("the request isn't for a code alone")]
+    Flow,
+    /// The request has another client ID than the store's client.
+    #[error("the request is another client's")]
+    ClientId,
     /// The verifier hasn't 43 to 128 bytes (RFC 7636 section 4.1).
     #[error("the verifier hasn't 43 to 128 bytes")]
     Verifier,
+    /// User info is demanded, and the client has no endpoint for it.
+    #[error("the client has no user info endpoint")]
+    UserInfoEndpoint,
     /// A login of this state is pending.
     #[error("the state is pending")]
     Pending,
+    /// The URL would have more than 1,048,576 bytes.
+    #[error("a URL that is too long")]
+    TooLong,
     /// There was no memory.
     #[error("out of memory")]
     Memory,
@@ -43,27 +56,34 @@ impl From<AllocError> for BeginError {
     }
 }
 
-/// What was too long.
+/// What was too long: it has more than 1,048,576 bytes.
 #[derive(Clone, Copy, Debug, PartialEq, Eq, Error)]
 pub enum TooLong {
-    /// The body of the answer to the token request has more than 1,048,576 bytes.
+    /// The query.
+    #[error("the query")]
+    Callback,
+    /// The body of the answer to the token request.
     #[error("the answer to the token request")]
     TokenAnswer,
+    /// The body of the answer to the user info request.
+    #[error("the answer to the user info request")]
+    UserInfoAnswer,
 }
 
 /// Why a callback signs nobody in. `E` is the transport's error. `Debug` shows neither a body nor
-/// an error response.
+/// an error response of the token endpoint.
 #[derive(Debug, Drop, Error)]
 pub enum LoginError<E> {
-    /// An answer is too long.
+    /// The query, or an answer, is too long. For the query nothing is done.
     #[error("too long: {0}")]
     TooLong(TooLong),
     /// The query hasn't one `state`, or it names no pending login.
     #[error("the query names no pending login")]
     State,
-    /// The query has an `error`.
-    #[error("not built yet")]
-    Unbuilt,
+    /// The query has an `error`; the first is here (RFC 6749 section 4.1.2.1, OpenID Connect Core 1.0 section
+    /// 3.1.2.6).
+    #[error("the provider refused: {0}")]
+    Provider(CoreAuthErrorResponseType),
     /// The query hasn't one `code`.
     #[error("the query hasn't one code")]
     Callback,
@@ -84,6 +104,10 @@ pub enum LoginError<E> {
     /// The hash in the ID token isn't that of the access token beside it.
     #[error("another access token than the ID token's")]
     TokenHash,
+    /// User info was demanded, and there is none, though the ID token is accepted. `TooLong` and `Memory` never
+    /// stand inside it.
+    #[error("no user info: {0}")]
+    UserInfo(UserInfoError<E>),
     /// There was no memory.
     #[error("out of memory")]
     Memory {
@@ -98,7 +122,7 @@ impl<E> LoginError<E> {
         ensures { result ≡ spent_of self.now }
     {
         match self {
-            LoginError::State => false,
+            LoginError::TooLong(TooLong::Callback) | LoginError::State => false,
             LoginError::Memory { spent } => *spent,
             _ => true,
         }
@@ -122,6 +146,17 @@ impl<E> LoginError<E> {
         match error {
             ClaimsVerificationError::Memory => LoginError::Memory { spent: true },
             error => LoginError::Claims(error),
+        }
+    }
+
+    // The refusal of a login by that of its user info request.
+    pub(crate) fn of_info(error: UserInfoError<E>) -> Self
+        ensures { result ≡ of_info error }
+    {
+        match error {
+            UserInfoError::TooLong(_) => LoginError::TooLong(TooLong::UserInfoAnswer),
+            UserInfoError::Memory => LoginError::Memory { spent: true },
+            error => LoginError::UserInfo(error),
         }
     }
 }

@@ -1,3 +1,35 @@
-//! The law on the claims of ID tokens, passed on.
+//! Laws of whole runs, each the contract of a function that does nothing; and the law on the claims of ID tokens,
+//! passed on.
 
+ghost use Rattle.oidc_login.specs.SiteTypes.{site_types};
+ghost use Rattle.oidc_login.specs.Events.{SpentOnce, ValidSignsIn};
+
+use oidc_claims::{AdditionalClaims, GenderClaim};
+use oidc_keys::JsonWebKey;
 pub use oidc_tokens::laws::claims_one_home;
+use oidc_types::CoreJwsSigningAlgorithm;
+
+/// Of the callbacks of one accepted begin at most one sends anything: over every client, every list of begins and
+/// callbacks, and all that comes between.
+#[tactic(auto, using(crate::proofs::Spent::spent_once))]
+pub fn spent_once<
+    AC: AdditionalClaims,
+    GC: GenderClaim,
+    K: JsonWebKey<SigningAlgorithm = CoreJwsSigningAlgorithm>,
+>()
+    ensures { let types = site_types AC.read_of GC.read_of
+        K.JsonWebKey K.KeyUse.JsonWebKeyUse in
+        SpentOnce types }
+{}
+
+/// A callback that is a valid login is signed in, whatever begins and callbacks came before.
+#[tactic(auto, using(crate::proofs::Valid::valid_signs_in))]
+pub fn valid_signs_in<
+    AC: AdditionalClaims,
+    GC: GenderClaim,
+    K: JsonWebKey<SigningAlgorithm = CoreJwsSigningAlgorithm>,
+>()
+    ensures { let types = site_types AC.read_of GC.read_of
+        K.JsonWebKey K.KeyUse.JsonWebKeyUse in
+        ValidSignsIn types }
+{}

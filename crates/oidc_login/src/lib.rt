@@ -1,22 +1,27 @@
 //! The pending logins of one client, from the URL that sends a user to the provider to the claims
 //! that sign the user in.
 //!
-//! - [`client::Client`] is what is known of the client and its provider.
+//! - [`MetadataClient`] is the client of a provider's metadata, of `oidc_client`, whatever the site's types of
+//!   additional claims, genders and keys; [`LoginClient`] is that of the standards' keys which keeps all claims, and
+//!   [`LoginRequest`] its request.
 //! - [`logins::Logins`] is the store. [`logins::Logins::begin`] gives the authorization URL of a
-//!   login and keeps its nonce and its PKCE verifier; [`logins::Logins::callback`] takes the login
-//!   that a callback names, exchanges its code, and signs the user in.
+//!   login and keeps its nonce, its PKCE verifier and what it demands of user info ([`UserInfoDemand`]);
+//!   [`logins::Logins::callback`] takes the login that a callback names, exchanges its code, asks for user info
+//!   where the login demands it, and signs the user in.
+//! - [`laws`] has what holds of whole runs of begins and callbacks.
 //!
 //! The transport is the caller's: anything that implements `oidc_oauth2::SyncHttpClient`, as
 //! `oidc_oauth2::Adapter` over a closure or `oidc_oauth2::Recorded`, which plays a list of answers.
 //!
 //! What is promised: a callback signs in only with the claims of the ID token in the answer to its
 //! own token request, accepted at the given moment with the named login's nonce, and whose
-//! `at_hash`, where it has one, is the hash of the access token that came beside it. It sends at
-//! most that one request, and where it sends one the named login is gone afterwards. A callback
-//! leaves every other login as it was. Every refusal but want of memory has its cause. The contracts
-//! of `begin` and `callback` say so by the definitions in `specs/`: the table of a callback in
-//! `specs/Rows.antt`, what each reply rests on in `specs/Causes.antt`, and both together as `Ran` in
-//! `specs/Runs.antt`.
+//! `at_hash`, where it has one, is the hash of the access token that came beside it. User info is there
+//! exactly where the login demands it, about the ID token's subject. It sends at most two requests, its own:
+//! that for the code, and behind an accepted ID token that for user info. Where it sends any the named login is
+//! gone afterwards. A callback leaves every other login as it was. Every refusal but want of memory has its
+//! cause, and a valid login is signed in. The contracts of `begin` and `callback` say so by the definitions in
+//! `specs/`: the table of a callback in `specs/Rows.antt`, what each reply rests on in `specs/Causes.antt`, a valid
+//! login in `specs/ValidLogin.antt`, and all together as `Ran` in `specs/Runs.antt`; whole runs in `specs/Events.antt`.
 //!
 //! `Ran` says all this for some answers. Where the transport keeps a log, they are those that came.
 //! Of one that keeps none, as over a network, a contract can't say what came; `callback` is one
@@ -26,21 +31,24 @@
 //! sent, the body of `callback` shows: it takes the login out first, and hands the request over
 //! then.
 //!
-//! The standards: RFC 6749 (section 4.1), RFC 7636, RFC 7515 section 7.1, and OpenID Connect Core
-//! 1.0 (sections 2, 3.1.2.1, 3.1.3.3, 3.1.3.6 and 3.1.3.7). The module `client` holds what this
-//! path needs of a layer that will stand below it.
+//! The standards: RFC 6749 (section 4.1), RFC 6750 section 2.1, RFC 7636, RFC 7515 section 7.1, and OpenID Connect
+//! Core 1.0 (sections 2, 3.1.2.1, 3.1.3.3, 3.1.3.6, 3.1.3.7, 5.3.2 and 5.3.4).
 #![tactic(auto)]
 
+mod begins;
 pub mod client;
+pub mod demand;
 pub mod errors;
+mod exchanges;
 pub mod laws;
 pub mod logins;
 pub mod signed_in;
 mod steps;
 mod store;
+mod user_info;
 
-pub use client::Client;
-pub use client::authorization::AuthorizationRequest;
+pub use client::{LoginClient, LoginRequest, MetadataClient};
+pub use demand::UserInfoDemand;
 pub use errors::{BeginError, LoginError, NewLoginsError, TooLong};
 pub use logins::Logins;
-pub use signed_in::{LoginClaims, LoginIdToken, SignedIn};
+pub use signed_in::{LoginIdToken, SignedIn};

@@ -1,82 +1,99 @@
 //! What a callback gives that signs a user in.
 
-ghost use Rattle.std.specs.Prelude.{◌≡◌, Bool, Some, is_some, false, true};
+ghost use Rattle.std.specs.Prelude.{◌≡◌, Bool, Some, is_some, true};
 ghost use Rattle.std.specs.Option.{option_copied};
-ghost use Rattle.oidc_members.specs.Write.{any_float};
-ghost use Rattle.oidc_claims.specs.Others.{list_of};
 ghost use Rattle.oidc_login.specs.IdTokens.{SeenIdToken};
-ghost use Rattle.oidc_login.specs.SignedIn.{signed_by, additional_in};
+ghost use Rattle.oidc_login.specs.SignedIn.{signed_by, with_user_info};
 
-use oidc_claims::AllOtherClaims;
+use oidc_claims::{AdditionalClaims, GenderClaim};
 use oidc_oauth2::{
     CoreTokenType, EmptyExtraTokenFields, OAuth2TokenResponse, StandardTokenResponse,
 };
 use oidc_tokens::{IdToken, IdTokenClaims, IdTokenFields};
 use oidc_types::{
-    AccessToken, CoreGenderClaim, CoreJweContentEncryptionAlgorithm, CoreJwsSigningAlgorithm,
-    RefreshToken,
+    AccessToken, CoreJweContentEncryptionAlgorithm, CoreJwsSigningAlgorithm, RefreshToken,
 };
+use oidc_user_info::UserInfoClaims;
 use std::marker::Model;
 
-/// The ID token of a login, with all its additional claims.
-pub type LoginIdToken = IdToken<
-    AllOtherClaims,
-    CoreGenderClaim,
+/// The ID token of a login, with these additional claims and genders.
+pub type LoginIdToken<AC, GC> = IdToken<
+    AC,
+    GC,
     CoreJweContentEncryptionAlgorithm,
     CoreJwsSigningAlgorithm,
 >;
 
-/// The claims of such a token.
-pub type LoginClaims = IdTokenClaims<AllOtherClaims, CoreGenderClaim>;
-
 // The response of a token endpoint.
-pub(crate) type TokenResponse = StandardTokenResponse<
+pub(crate) type TokenResponse<AC, GC> = StandardTokenResponse<
     IdTokenFields<
-        AllOtherClaims,
+        AC,
         EmptyExtraTokenFields,
-        CoreGenderClaim,
+        GC,
         CoreJweContentEncryptionAlgorithm,
         CoreJwsSigningAlgorithm,
     >,
     CoreTokenType,
 >;
 
-/// A user who is signed in: the accepted ID token, and the access token and any refresh token that
-/// came beside it.
+/// A user who is signed in: the accepted ID token, the access token and any refresh token that came beside it, and
+/// user info, where the login demands it. `AC` is the type of additional claims, `GC` that of genders.
+///
+/// It has no `Debug`, since it holds tokens and what is known of a person.
 #[derive(Drop)]
-pub struct SignedIn {
-    tokens: TokenResponse,
+pub struct SignedIn<AC: AdditionalClaims, GC: GenderClaim> {
+    tokens: TokenResponse<AC, GC>,
+    user_info: Option<UserInfoClaims<AC, GC>>,
     ghost has_id_token: { is_some tokens.extra_fields.id_token ≡ Bool.true },
-    ghost no_float: { any_float (additional_in tokens) ≡ Bool.false },
 }
 
-impl Model for SignedIn {
-    ghost use Rattle.std.specs.Coded.{codes, coded_list, coded_ℕ};
-    ghost use Rattle.oidc_claims.specs.Others.{others_code};
+impl<AC: AdditionalClaims, GC: GenderClaim> Model for SignedIn<AC, GC> {
+    ghost use Rattle.std.specs.Coded.{codes};
     ghost use Rattle.oidc_id_token_claims.specs.Codes.{id_token_claims_code};
+    ghost use Rattle.oidc_user_info.specs.Codes.{user_info_claims_code};
     ghost use Rattle.oidc_login.specs.SignedIn.{SeenSignedIn, signed_by, present};
 
-    ghost Value = { SeenSignedIn };
+    ghost Value = { SeenSignedIn AC GC };
 
-    ghost coded = { Prim.hlevel (codes, id_token_claims_code others_code (coded_list coded_ℕ)) };
+    ghost coded = { Prim.hlevel (
+      codes,
+      id_token_claims_code AC.code GC.code,
+      user_info_claims_code AC.code GC.code,
+    ) };
 
-    ghost view = { λ s. signed_by (present s.tokens.extra_fields.id_token s.has_id_token) s.tokens };
+    ghost view = { λ s. record
+        (signed_by (present s.tokens.extra_fields.id_token s.has_id_token) s.tokens)
+        { user_info = s.user_info } };
 }
 
-impl SignedIn {
-    pub(crate) fn new(tokens: TokenResponse) -> Self
+impl<AC: AdditionalClaims, GC: GenderClaim> SignedIn<AC, GC> {
+    // A user with these tokens.
+    pub(crate) fn new(tokens: TokenResponse<AC, GC>) -> Self
         requires has_id_token { is_some tokens.extra_fields.id_token ≡ true }
-        requires no_float { any_float (additional_in tokens) ≡ false }
-        ensures { (token : SeenIdToken) → tokens.extra_fields.id_token ≡ Some token
+        ensures { (token : SeenIdToken AC GC) → tokens.extra_fields.id_token ≡ Some token
             → result ≡ signed_by token tokens }
     {
-        SignedIn { tokens }
+        SignedIn {
+            tokens,
+            user_info: None,
+        }
     }
 
-    /// The ID token. No additional claim in it holds a float.
-    pub fn id_token(&self) -> &LoginIdToken
+    // With this user info.
+    pub(crate) fn with_user_info(self, found: UserInfoClaims<AC, GC>) -> Self
+        ensures { result ≡ with_user_info self found }
+    {
+        let SignedIn { tokens, user_info } = self;
+        drop(user_info);
+        SignedIn {
+            tokens,
+            user_info: Some(found),
+        }
+    }
+
+    /// The ID token.
+    pub fn id_token(&self) -> &LoginIdToken<AC, GC>
         ensures token { result.now ≡ self.now.id_token }
-        ensures no_float { any_float (list_of result.now.payload.additional_claims) ≡ false }
     {
         match self.tokens.extra_fields().id_token() {
             Some(id_token) => id_token,
@@ -84,10 +101,9 @@ impl SignedIn {
         }
     }
 
-    /// The claims of the ID token. No additional claim holds a float.
-    pub fn claims(&self) -> &LoginClaims
+    /// The claims of the ID token.
+    pub fn claims(&self) -> &IdTokenClaims<AC, GC>
         ensures claims { result.now ≡ self.now.id_token.payload }
-        ensures no_float { any_float (list_of result.now.additional_claims) ≡ false }
     {
         self.id_token().token().unverified_payload()
     }
@@ -104,5 +120,12 @@ impl SignedIn {
         ensures { option_copied result ≡ self.now.refresh_token }
     {
         self.tokens.refresh_token()
+    }
+
+    /// User info, where the login demands it.
+    pub fn user_info(&self) -> Option<&UserInfoClaims<AC, GC>>
+        ensures { option_copied result ≡ self.now.user_info }
+    {
+        self.user_info.as_ref()
     }
 }

@@ -1,43 +1,52 @@
 // The steps of a callback. Those that judge have no transport inside.
 
-ghost use Rattle.std.specs.Prelude.{◌≡◌, ◌≤◌, [], is_some, Err, IfErr, IfNone, IfOk, IfSome, IsSome, IsTrue, MatchResult, false, true, None, Some, if◌then◌else◌};
+ghost use Rattle.std.specs.Prelude.{◌≡◌, ◌≤◌, [], is_some, Err, IfErr, IfNone, IfOk, IfSome, IsSome, IsTrue, false, true, None, Some, if◌then◌else◌};
 ghost use Rattle.oidc_pairs.specs.Pairs.{pairs};
 ghost use Rattle.oidc_oauth2.specs.Pkce.{is_verifier};
-ghost use Rattle.oidc_members.specs.Write.{any_float};
 ghost use Rattle.oidc_oauth2.specs.Messages.{seen_response};
-ghost use Rattle.oidc_oauth2.specs.Transport.{HasRisen};
+ghost use Rattle.oidc_oauth2.specs.TokenAnswers.{is_over_long};
 ghost use Rattle.oidc_oauth2.specs.Requests.{Prepares};
 ghost use Rattle.oidc_oauth2.specs.Exchanges.{known};
 ghost use Rattle.oidc_types.specs.declared.signing_error.SigningError.TheVariants.{UnsupportedAlg};
 ghost use Rattle.oidc_tokens.specs.Hashes.{GivesHash};
-ghost use Rattle.oidc_login.specs.Errors.{faulted, is_spent_by, memory_of, seen, Gives, OrMemory, Unless};
+ghost use Rattle.oidc_login.specs.Errors.{faulted, is_spent_by, memory_of, seen, spent_of, Gives, OrMemory, Unless};
 ghost use Rattle.oidc_login.specs.Logins.{HasVerifiers};
+ghost use Rattle.oidc_login.specs.SiteTypes.{site_types};
 ghost use Rattle.oidc_login.specs.TokenRequest as request;
 ghost use Rattle.oidc_login.specs.TokenHash as hashes;
 ghost use Rattle.oidc_login.specs.TokenHash.{claimed_hash};
-ghost use Rattle.oidc_login.specs.SignedIn.{additional_in};
 ghost use Rattle.oidc_login.specs.Rows as rows;
-ghost use Rattle.oidc_login.specs.Rows.{login_named_by, callback_store};
+ghost use Rattle.oidc_login.specs.Rows.{login_named_by, without_named, callback_store, SeenOpened};
 ghost use Rattle.oidc_login.specs.Causes.{AsksNothing};
 ghost use Rattle.oidc_login.specs.Runs.{Ran, IsBlamed, Leaves, start};
-ghost use Rattle.oidc_login.specs.Steps.{answer_of, Exchanged, Untouched, Faults, IsPassed};
+ghost use Rattle.oidc_login.specs.Steps.{answer_of, Faults, Follows, IsPassed};
 
-use crate::client::Client;
-use crate::errors::LoginError;
+use crate::client::MetadataClient;
+use crate::errors::{LoginError, TooLong};
+use crate::exchanges::exchange;
 use crate::signed_in::{LoginIdToken, SignedIn, TokenResponse};
 use crate::store::{Login, Store};
+use crate::user_info::ask_info;
 use jiff::Timestamp;
+use oidc_claims::{AdditionalClaims, GenderClaim};
+use oidc_keys::JsonWebKey;
 use oidc_members::FieldName;
 use oidc_oauth2::{
-    AuthType, CallError, ClientAuth, CodeTokenRequest, CoreErrorResponseType, HttpRequest,
-    HttpResponse, OAuth2TokenResponse, OtherCause, PrepareError, RequestTokenError,
-    StandardErrorResponse, SyncHttpClient, token_answer,
+    ClientAuth, CodeTokenRequest, CoreErrorResponseType, HttpRequest, HttpResponse,
+    OAuth2TokenResponse, OtherCause, PrepareError, RequestTokenError, StandardErrorResponse,
+    SyncHttpClient, token_answer,
 };
 use oidc_pairs::Pairs;
-use oidc_tokens::{CoreIdTokenVerifier, from_token};
-use oidc_types::{AccessToken, AccessTokenHash, AuthorizationCode, SigningError};
-use std::alloc::{AllocError, Global};
+use oidc_tokens::{IdTokenVerifier, from_token};
+use oidc_types::{
+    AccessToken, AccessTokenHash, AuthorizationCode, CoreAuthErrorResponseType,
+    CoreJwsSigningAlgorithm, SigningError, Vocabulary,
+};
+use std::alloc::Global;
 use std::marker::Model;
+
+/// The most bytes that the query of a callback may have.
+pub const MAX_QUERY: usize = 1_048_576;
 
 // A login that was taken out, and its token request.
 #[derive(Drop)]
@@ -54,12 +63,12 @@ impl Model for Opened {
     ghost view = { λ o. record { login = o.login; request = o.request } };
 }
 
-// Takes the login that a query names by its one state.
+// Takes the login of a query's one state out.
 #[tactic(auto, using(crate::proofs::Entries::remove_absent))]
 fn take_named(pending: &mut Store, query: &Pairs) -> Option<Login>
     ensures login { result ≡ login_named_by pending.old query.now }
     ensures verifier { IfSome result (λ l. IsTrue (is_verifier l.verifier)) }
-    ensures rest { pending.new ≡ callback_store pending.old query.now }
+    ensures rest { pending.new ≡ without_named pending.old query.now }
     ensures kept { IfNone result (pending.new ≡ pending.old) }
     ensures verifiers { HasVerifiers pending.old → HasVerifiers pending.new }
 {
@@ -69,11 +78,15 @@ fn take_named(pending: &mut Store, query: &Pairs) -> Option<Login>
     }
 }
 
-// The request for a code, with the login's verifier, to the client's token endpoint.
+// The request for a code, with the login's verifier and its redirect, to the client's token endpoint.
 #[tactic(auto, unfolding(crate::specs::TokenRequest::token_request))]
-fn token_request(
+fn token_request<
+    AC: AdditionalClaims,
+    GC: GenderClaim,
+    K: JsonWebKey<SigningAlgorithm = CoreJwsSigningAlgorithm>,
+>(
     alloc: Global,
-    client: &Client,
+    client: &MetadataClient<AC, GC, K>,
     login: &Login,
     code: &str,
 ) -> Result<HttpRequest, PrepareError>
@@ -85,36 +98,61 @@ fn token_request(
     let auth = ClientAuth {
         client_id: client.client_id(),
         client_secret: client.client_secret(),
-        auth_type: AuthType::BasicAuth,
+        auth_type: *client.auth_type(),
     };
     let code = AuthorizationCode::new(String::from_str(alloc, code)?);
     let verifier = login.verifier.clone_in(alloc)?;
-    let request: CodeTokenRequest<'_, StandardErrorResponse<CoreErrorResponseType>, TokenResponse> =
-        CodeTokenRequest::new(alloc, endpoint, auth, code).set_pkce_verifier(verifier);
-    request.prepare(alloc)
+    let request: CodeTokenRequest<
+        '_,
+        StandardErrorResponse<CoreErrorResponseType>,
+        TokenResponse<AC, GC>,
+    > = CodeTokenRequest::new(alloc, endpoint, auth, code).set_pkce_verifier(verifier);
+    match &login.redirect_uri {
+        None => request.prepare(alloc),
+        Some(redirect) => request.set_redirect_uri(redirect).prepare(alloc),
+    }
+}
+
+// The refusal of a query by its first `error`.
+#[tactic(auto, unfolding(crate::specs::Rows::error_word))]
+fn provider_refusal<E>(alloc: Global, text: &str) -> LoginError<E>
+    ensures gives { Gives {A = SeenOpened} (Err result)
+        (Err (LoginError.Provider (rows.error_word text.now))) }
+    ensures no_fault { faulted result ≡ false }
+    ensures spent { spent_of result ≡ true }
+{
+    match String::from_str(alloc, text) {
+        Ok(text) => LoginError::Provider(CoreAuthErrorResponseType::from_str(text)),
+        Err(_) => LoginError::Memory { spent: true },
+    }
 }
 
 // The rows before the token request, of a query whose pairs are read.
-#[tactic(auto, unfolding(crate::specs::Rows::opening))]
-fn open<E>(
+#[tactic(auto, unfolding(crate::specs::Rows::opening_by))]
+fn open<
+    AC: AdditionalClaims,
+    GC: GenderClaim,
+    K: JsonWebKey<SigningAlgorithm = CoreJwsSigningAlgorithm>,
+    E,
+>(
     alloc: Global,
-    client: &Client,
+    client: &MetadataClient<AC, GC, K>,
     pending: &mut Store,
     query: &Pairs,
 ) -> Result<Opened, LoginError<E>>
-    ensures gives { Gives result (rows.opening client.now pending.old query.now) }
+    ensures gives { Gives result (rows.opening_by client.now pending.old query.now) }
     ensures no_fault { IfErr result (λ e. faulted e ≡ false) }
     ensures store { pending.new ≡ (if is_spent_by result
-        then callback_store pending.old query.now else pending.old) }
-    ensures left { OrMemory result (pending.new ≡ callback_store pending.old query.now) }
+        then without_named pending.old query.now else pending.old) }
+    ensures left { OrMemory result (pending.new ≡ without_named pending.old query.now) }
     ensures removed { is_spent_by result ≡ true → IsSome (login_named_by pending.old query.now) }
     ensures verifiers { HasVerifiers pending.old → HasVerifiers pending.new }
 {
     let Some(login) = take_named(pending, query) else {
         return Err(LoginError::State);
     };
-    if query.first("error").is_some() {
-        return Err(LoginError::Unbuilt);
+    if let Some(error) = query.first("error") {
+        return Err(provider_refusal(alloc, error));
     }
     let Some(code) = query.only("code") else {
         return Err(LoginError::Callback);
@@ -126,22 +164,40 @@ fn open<E>(
     }
 }
 
+// Whether a query is too long.
+fn is_too_long(query: &[u8]) -> bool
+    ensures { result ≡ is_over_long query.now }
+{
+    query.len() > MAX_QUERY
+}
+
 // The rows before the token request.
-fn opening<E>(
+#[tactic(auto, unfolding(crate::specs::Rows::opening))]
+pub(crate) fn opening<
+    AC: AdditionalClaims,
+    GC: GenderClaim,
+    K: JsonWebKey<SigningAlgorithm = CoreJwsSigningAlgorithm>,
+    E,
+>(
     alloc: Global,
-    client: &Client,
+    client: &MetadataClient<AC, GC, K>,
     pending: &mut Store,
     query: &[u8],
 ) -> Result<Opened, LoginError<E>>
-    ensures gives { Gives result (rows.opening client.now pending.old (pairs query.now)) }
+    ensures gives { Gives result (rows.opening client.now pending.old query.now) }
     ensures no_fault { IfErr result (λ e. faulted e ≡ false) }
     ensures store { pending.new ≡ (if is_spent_by result
-        then callback_store pending.old (pairs query.now) else pending.old) }
-    ensures left { OrMemory result (pending.new ≡ callback_store pending.old (pairs query.now)) }
+        then without_named pending.old (pairs query.now) else pending.old) }
+    ensures left { OrMemory result (pending.new ≡ callback_store pending.old query.now) }
     ensures removed { is_spent_by result ≡ true
         → IsSome (login_named_by pending.old (pairs query.now)) }
+    ensures over_long { is_over_long query.now ≡ true
+        → result ≡ Err (LoginError.TooLong TooLong.Callback) }
     ensures verifiers { HasVerifiers pending.old → HasVerifiers pending.new }
 {
+    if is_too_long(query) {
+        return Err(LoginError::TooLong(TooLong::Callback));
+    }
     let Ok(pairs) = Pairs::parse(alloc, query) else {
         return Err(LoginError::Memory { spent: false });
     };
@@ -150,9 +206,15 @@ fn opening<E>(
 
 // The rows on the response to the token request.
 #[tactic(auto, unfolding(crate::specs::TokenResponse::tokens_or_refusal))]
-fn tokens_in<E>(alloc: Global, response: HttpResponse) -> Result<TokenResponse, LoginError<E>>
-    ensures gives { Gives result (rows.tokens_in (seen_response response)) }
-    ensures no_float { IfOk result (λ tokens. any_float (additional_in tokens) ≡ false) }
+fn tokens_in<
+    AC: AdditionalClaims,
+    GC: GenderClaim,
+    K: JsonWebKey<SigningAlgorithm = CoreJwsSigningAlgorithm>,
+    E,
+>(alloc: Global, response: HttpResponse) -> Result<TokenResponse<AC, GC>, LoginError<E>>
+    ensures gives { let types = site_types AC.read_of GC.read_of
+        K.JsonWebKey K.KeyUse.JsonWebKeyUse in
+        Gives result (rows.tokens_in types (seen_response response)) }
     ensures no_fault { IfErr result (λ e. faulted e ≡ false) }
     ensures spent { is_spent_by result ≡ true }
 {
@@ -171,13 +233,19 @@ fn no_hash(alloc: Global) -> SigningError
 
 // The hash of an access token beside an ID token.
 #[tactic(auto, unfolding(crate::specs::TokenHash::hash_beside))]
-fn hash_beside(
+fn hash_beside<
+    AC: AdditionalClaims,
+    GC: GenderClaim,
+    K: JsonWebKey<SigningAlgorithm = CoreJwsSigningAlgorithm>,
+>(
     alloc: Global,
-    verifier: &CoreIdTokenVerifier<'_>,
-    token: &LoginIdToken,
+    verifier: &IdTokenVerifier<'_, K>,
+    token: &LoginIdToken<AC, GC>,
     access_token: &AccessToken,
 ) -> Result<AccessTokenHash, SigningError>
-    ensures { GivesHash (hashes.hash_beside verifier.now token.now access_token.now) result }
+    ensures { let types = site_types AC.read_of GC.read_of
+        K.JsonWebKey K.KeyUse.JsonWebKeyUse in
+        GivesHash (hashes.hash_beside types verifier.now token.now access_token.now) result }
 {
     let Ok(alg) = token.signing_alg() else {
         return Err(no_hash(alloc));
@@ -189,13 +257,20 @@ fn hash_beside(
 }
 
 // The rows on the hash that an ID token may claim of the access token beside it.
-fn check_hash<E>(
+fn check_hash<
+    AC: AdditionalClaims,
+    GC: GenderClaim,
+    K: JsonWebKey<SigningAlgorithm = CoreJwsSigningAlgorithm>,
+    E,
+>(
     alloc: Global,
-    verifier: &CoreIdTokenVerifier<'_>,
-    token: &LoginIdToken,
+    verifier: &IdTokenVerifier<'_, K>,
+    token: &LoginIdToken<AC, GC>,
     access_token: &AccessToken,
 ) -> Result<(), LoginError<E>>
-    ensures gives { let hash = hashes.hash_beside verifier.now token.now access_token.now in
+    ensures gives { let types = site_types AC.read_of GC.read_of
+        K.JsonWebKey K.KeyUse.JsonWebKeyUse in
+        let hash = hashes.hash_beside types verifier.now token.now access_token.now in
         Gives result (rows.hash_rows (claimed_hash token.now) hash) }
     ensures no_fault { IfErr result (λ e. faulted e ≡ false) }
     ensures spent { is_spent_by result ≡ true }
@@ -217,15 +292,22 @@ fn check_hash<E>(
 }
 
 // The rows on the ID token, which came beside this access token.
-fn accepting<E>(
+fn accepting<
+    AC: AdditionalClaims,
+    GC: GenderClaim,
+    K: JsonWebKey<SigningAlgorithm = CoreJwsSigningAlgorithm>,
+    E,
+>(
     alloc: Global,
-    client: &Client,
+    client: &MetadataClient<AC, GC, K>,
     now: Timestamp,
     login: &Login,
-    token: &LoginIdToken,
+    token: &LoginIdToken<AC, GC>,
     access_token: &AccessToken,
 ) -> Result<(), LoginError<E>>
-    ensures gives { let meant = rows.accepting client.now now.nanosecond login.now in
+    ensures gives { let types = site_types AC.read_of GC.read_of
+        K.JsonWebKey K.KeyUse.JsonWebKeyUse in
+        let meant = rows.accepting types client.now now.nanosecond login.now in
         Gives result (meant token.now access_token.now) }
     ensures no_fault { IfErr result (λ e. faulted e ≡ false) }
     ensures spent { is_spent_by result ≡ true }
@@ -240,17 +322,25 @@ fn accepting<E>(
 }
 
 // The rows on tokens that somebody else keeps.
-fn checking<E>(
+fn checking<
+    AC: AdditionalClaims,
+    GC: GenderClaim,
+    K: JsonWebKey<SigningAlgorithm = CoreJwsSigningAlgorithm>,
+    E,
+>(
     alloc: Global,
-    client: &Client,
+    client: &MetadataClient<AC, GC, K>,
     now: Timestamp,
     login: &Login,
-    tokens: &TokenResponse,
+    tokens: &TokenResponse<AC, GC>,
 ) -> Result<(), LoginError<E>>
     ensures there { IfOk result (λ u. is_some tokens.now.extra_fields.id_token ≡ true) }
-    ensures passed { IfOk result (λ u.
-        IsPassed client.now now.nanosecond login.now tokens.now) }
-    ensures refused { let meant = rows.signing_in client.now now.nanosecond login.now tokens.now in
+    ensures passed { let types = site_types AC.read_of GC.read_of
+        K.JsonWebKey K.KeyUse.JsonWebKeyUse in
+        IfOk result (λ u. IsPassed types client.now now.nanosecond login.now tokens.now) }
+    ensures refused { let types = site_types AC.read_of GC.read_of
+        K.JsonWebKey K.KeyUse.JsonWebKeyUse in
+        let meant = rows.signing_in types client.now now.nanosecond login.now tokens.now in
         IfErr result (λ e. Unless (memory_of e) (meant ≡ Err (seen e))) }
     ensures no_fault { IfErr result (λ e. faulted e ≡ false) }
     ensures spent { is_spent_by result ≡ true }
@@ -262,35 +352,51 @@ fn checking<E>(
 }
 
 // The rows on the tokens.
-fn signing_in<E>(
+fn signing_in<
+    AC: AdditionalClaims,
+    GC: GenderClaim,
+    K: JsonWebKey<SigningAlgorithm = CoreJwsSigningAlgorithm>,
+    E,
+>(
     alloc: Global,
-    client: &Client,
+    client: &MetadataClient<AC, GC, K>,
     now: Timestamp,
     login: &Login,
-    tokens: TokenResponse,
-) -> Result<SignedIn, LoginError<E>>
-    requires no_float { any_float (additional_in tokens) ≡ false }
-    ensures gives { Gives result (rows.signing_in client.now now.nanosecond login.now tokens) }
+    tokens: TokenResponse<AC, GC>,
+) -> Result<SignedIn<AC, GC>, LoginError<E>>
+    ensures gives { let types = site_types AC.read_of GC.read_of
+        K.JsonWebKey K.KeyUse.JsonWebKeyUse in
+        Gives result (rows.signing_in types client.now now.nanosecond login.now tokens) }
     ensures no_fault { IfErr result (λ e. faulted e ≡ false) }
     ensures spent { is_spent_by result ≡ true }
 {
     match checking(alloc, client, now, login, &tokens) {
         Ok(()) => Ok(SignedIn::new(tokens)),
-        Err(error) => Err(error),
+        Err(error) => {
+            drop(tokens);
+            Err(error)
+        }
     }
 }
 
-// The rows after the token request.
+// The rows after the token request, up to those on user info.
 #[tactic(auto, unfolding(crate::specs::Rows::after_token))]
-fn after_token<E>(
+pub(crate) fn after_token<
+    AC: AdditionalClaims,
+    GC: GenderClaim,
+    K: JsonWebKey<SigningAlgorithm = CoreJwsSigningAlgorithm>,
+    E,
+>(
     alloc: Global,
-    client: &Client,
+    client: &MetadataClient<AC, GC, K>,
     now: Timestamp,
     login: &Login,
     answer: Result<HttpResponse, E>,
-) -> Result<SignedIn, LoginError<E>>
-    ensures gives { let answer = answer_of answer in
-        Gives result (rows.after_token client.now now.nanosecond login.now answer) }
+) -> Result<SignedIn<AC, GC>, LoginError<E>>
+    ensures gives { let types = site_types AC.read_of GC.read_of
+        K.JsonWebKey K.KeyUse.JsonWebKeyUse in
+        let meant = rows.after_token types client.now now.nanosecond login.now in
+        Gives result (meant (answer_of answer)) }
     ensures fault { Faults (answer_of answer) result }
     ensures spent { is_spent_by result ≡ true }
 {
@@ -298,73 +404,88 @@ fn after_token<E>(
         Ok(response) => response,
         Err(error) => return Err(LoginError::Token(RequestTokenError::Request(error))),
     };
-    match tokens_in(alloc, response) {
+    match tokens_in::<AC, GC, K, E>(alloc, response) {
         Ok(tokens) => signing_in(alloc, client, now, login, tokens),
         Err(error) => Err(error),
     }
 }
 
-// Hands one request over, and gives what came of it.
-fn exchange<H: SyncHttpClient>(
+// The requests of a login that was taken out: for the code, and for user info where the login demands it.
+fn sign_in<
+    AC: AdditionalClaims,
+    GC: GenderClaim,
+    K: JsonWebKey<SigningAlgorithm = CoreJwsSigningAlgorithm>,
+    H: SyncHttpClient,
+>(
     alloc: Global,
+    client: &MetadataClient<AC, GC, K>,
     http: &mut H,
-    request: HttpRequest,
-) -> Result<Result<HttpResponse, H::Error>, AllocError>
+    now: Timestamp,
+    opened: Opened,
+) -> Result<SignedIn<AC, GC>, LoginError<H::Error>>
     requires { H.ready http.old }
     ensures again { H.ready http.new }
-    ensures exchanged { let before = known (H.log http.old) (H.script http.old) in
+    ensures follows { let types = site_types AC.read_of GC.read_of
+        K.JsonWebKey K.KeyUse.JsonWebKeyUse in
+        let run = rows.opened_run types client.now now.nanosecond in
+        let before = known (H.log http.old) (H.script http.old) in
         let after = known (H.log http.new) (H.script http.new) in
-        MatchResult result
-        (λ answer. Exchanged before after request (answer_of answer))
-        (λ e. Untouched before after) }
+        Follows (λ answers. run answers (Ok opened)) before after result }
+    ensures spent { is_spent_by result ≡ true }
+    ensures blamed { IsBlamed (H.faults http.old) (H.faults http.new) result }
     ensures never_falls { H.faults http.old ≤ H.faults http.new }
-    ensures blamed { MatchResult result
-        (λ answer. answer_of answer ≡ None → HasRisen (H.faults http.old) (H.faults http.new))
-        (λ e. Unit {0}) }
 {
-    match http.call(alloc, request) {
-        Ok(response) => Ok(Ok(response)),
-        Err(CallError::Transport(error)) => Ok(Err(error)),
-        Err(CallError::Memory) => Err(AllocError),
+    let Opened { login, request } = opened;
+    let Ok(answer) = exchange(alloc, http, request) else {
+        drop(login);
+        return Err(LoginError::Memory { spent: true });
+    };
+    match after_token(alloc, client, now, &login, answer) {
+        Ok(user) => ask_info(alloc, client, http, login.user_info, user),
+        Err(error) => Err(error),
     }
 }
 
 // A callback, on the parts of a `Logins`.
 #[tactic(auto, using(crate::proofs::Drives::either))]
-pub(crate) fn drive<H: SyncHttpClient>(
+pub(crate) fn drive<
+    AC: AdditionalClaims,
+    GC: GenderClaim,
+    K: JsonWebKey<SigningAlgorithm = CoreJwsSigningAlgorithm>,
+    H: SyncHttpClient,
+>(
     alloc: Global,
-    client: &Client,
+    client: &MetadataClient<AC, GC, K>,
     pending: &mut Store,
     query: &[u8],
     http: &mut H,
     now: Timestamp,
-) -> Result<SignedIn, LoginError<H::Error>>
+) -> Result<SignedIn<AC, GC>, LoginError<H::Error>>
     requires { H.ready http.old }
     ensures again { H.ready http.new }
-    ensures ran { let a = start client.now pending.old query.now now.nanosecond in
+    ensures ran { let types = site_types AC.read_of GC.read_of
+        K.JsonWebKey K.KeyUse.JsonWebKeyUse in
+        let a = start client.now pending.old query.now now.nanosecond in
         let before = known (H.log http.old) (H.script http.old) in
         let after = known (H.log http.new) (H.script http.new) in
-        Ran a before after result }
+        Ran types a before after result }
     ensures store { let a = start client.now pending.old query.now now.nanosecond in
         Leaves a pending.new result }
-    ensures left { OrMemory result (pending.new ≡ callback_store pending.old (pairs query.now)) }
+    ensures left { OrMemory result (pending.new ≡ callback_store pending.old query.now) }
     ensures removed { is_spent_by result ≡ true
         → IsSome (login_named_by pending.old (pairs query.now)) }
     ensures unspent { is_spent_by result ≡ false
         → (http.new ≡ http.old) × (pending.new ≡ pending.old) }
     ensures idle { let a = start client.now pending.old query.now now.nanosecond in
         AsksNothing a → http.new ≡ http.old }
+    ensures over_long { is_over_long query.now ≡ true
+        → result ≡ Err (LoginError.TooLong TooLong.Callback) }
     ensures blamed { IsBlamed (H.faults http.old) (H.faults http.new) result }
     ensures never_falls { H.faults http.old ≤ H.faults http.new }
     ensures verifiers { HasVerifiers pending.old → HasVerifiers pending.new }
 {
-    let opened = match opening(alloc, client, pending, query) {
-        Ok(opened) => opened,
-        Err(error) => return Err(error),
-    };
-    let Opened { login, request } = opened;
-    let Ok(answer) = exchange(alloc, http, request) else {
-        return Err(LoginError::Memory { spent: true });
-    };
-    after_token(alloc, client, now, &login, answer)
+    match opening(alloc, client, pending, query) {
+        Ok(opened) => sign_in(alloc, client, http, now, opened),
+        Err(error) => Err(error),
+    }
 }

@@ -6,7 +6,8 @@ ghost use Rattle.std.specs.FinMap as finite;
 ghost use Rattle.oidc_oauth2.specs.Pkce.{is_verifier};
 ghost use Rattle.oidc_login.specs.Logins.{HasVerifiers};
 
-use oidc_types::{Nonce, PkceCodeVerifier};
+use crate::demand::UserInfoDemand;
+use oidc_types::{Nonce, PkceCodeVerifier, RedirectUrl};
 use std::alloc::{AllocError, Global};
 use std::marker::Model;
 
@@ -14,7 +15,9 @@ use std::marker::Model;
 #[derive(Drop)]
 pub(crate) struct Login {
     pub(crate) nonce: Nonce,
+    pub(crate) redirect_uri: Option<RedirectUrl>,
     pub(crate) verifier: PkceCodeVerifier,
+    pub(crate) user_info: Option<UserInfoDemand>,
 }
 
 impl Model for Login {
@@ -24,7 +27,12 @@ impl Model for Login {
 
     ghost coded = { seen_login_code };
 
-    ghost view = { λ l. record { nonce = l.nonce; verifier = l.verifier } };
+    ghost view = { λ l. record {
+      nonce = l.nonce;
+      redirect_uri = l.redirect_uri;
+      verifier = l.verifier;
+      user_info = l.user_info;
+    } };
 }
 
 // A login under its state.

@@ -22,10 +22,10 @@ use Rattle.oidc_id_token_claims.specs.IdTokenClaims.{SeenIdTokenClaims, addition
 use Rattle.oidc_tokens.specs.IdTokenFields.{SeenIdTokenFields, token_kind, id_token, response_fields_of}
 use Rattle.oidc_id_token_claims.proofs.Theorems.{accepted_parts, additional_stay}
 
--- a step that gave a value stands on one
-first_step : {A B : Type 0} (o : Result A Refusal) (f : A → Result B Refusal) (y : B) → (o >>= f) ≡ Ok y → (x : A) × (o ≡ Ok x) × (f x ≡ Ok y)
-first_step (Ok x) f y h = (x, refl, h)
-first_step (Err refusal) f y h = absurd cc
+-- what follows from two steps that gave a value, by the value between them
+after : {A B Goal : Type 0} (o : Result A Refusal) (f : A → Result B Refusal) (y : B) → (o >>= f) ≡ Ok y → ((x : A) → o ≡ Ok x → f x ≡ Ok y → Goal) → Goal
+after (Ok x) f y h next = next x refl h
+after (Err refusal) f y h next = absurd cc
 
 same_ok : {A : Type 0} (x y : A) → ◌≡◌ {A = Result A Refusal} (Ok x) (Ok y) → x ≡ y
 same_ok x y h = cc
@@ -74,20 +74,19 @@ module _ {JE JS P : Type 0} (encrypts : List ℕ → Option JE) (signs : List �
   payload_of : (text : List ℕ) (token : SeenToken JE JS P) → token_of encrypts signs payload_read text ≡ Ok token → (bytes : List ℕ) × (payload_in payload_read bytes ≡ Ok token.payload)
   unfolding token_of contents_of
   payload_of text token h =
-      let parts = first_step (parts_of text) _ token h in
-      let said = first_step (contents_of encrypts signs payload_read parts.0) _ token parts.2 in
-      let bytes = first_step (bytes_of parts.0) _ said.0 said.1 in
-      let header = first_step (header_in encrypts signs bytes.0.header) _ said.0 bytes.2 in
-      let payload = first_step (payload_in payload_read bytes.0.payload) _ said.0 header.2 in
-      (bytes.0.payload, payload.1 ∙ ap Ok (ap (λ s. s.payload) (same_ok _ said.0 payload.2) ∙ ap (λ t. t.payload) (same_ok _ token said.2)))
+      after (parts_of text) _ token h λ parts _ given.
+      after (contents_of encrypts signs payload_read parts) _ token given λ said contents whole.
+      after (bytes_of parts) _ said contents λ bytes _ decoded.
+      after (header_in encrypts signs bytes.header) _ said decoded λ header _ headed.
+      after (payload_in payload_read bytes.payload) _ said headed λ payload read made.
+      (bytes.payload, read ∙ ap Ok (ap (λ s. s.payload) (same_ok _ said made) ∙ ap (λ t. t.payload) (same_ok _ token whole)))
 
   members_read : (text : List ℕ) (token : SeenToken JE JS P) → token_of encrypts signs payload_read text ≡ Ok token
       → (members : List SeenMember) × (list_any (λ m. has_float m.value) members ≡ false) × (payload_read members ≡ Ok token.payload)
   unfolding payload_in
   members_read text token h =
       let payload = payload_of text token h in
-      let split = first_step (split_of payload.0) payload_read token.payload payload.1 in
-      (split.0, split_free payload.0 split.0 split.1, split.2)
+      after (split_of payload.0) payload_read token.payload payload.1 λ members split read. (members, split_free payload.0 members split, read)
 
 module _ {JE JS GC : Type 0} (encrypts : List ℕ → Option JE) (signs : List ℕ → Option JS) (gender_read : SeenMember → Result GC Refusal) where
   abbrev pub reads : List ℕ → Result (SeenToken JE JS (SeenIdTokenClaims Others GC)) Refusal
@@ -113,16 +112,14 @@ module _ {JE JS GC : Type 0} (encrypts : List ℕ → Option JE) (signs : List �
       → (text : List ℕ) × (reads text ≡ Ok token)
   value_read [] token h = absurd cc
   value_read (m ∷ ms) token h =
-      let answer = null_by (token_kind reads m) (is_some (as_null m.value)) token h in
-      let text = first_step (text_kind m) reads token answer in
-      (text.0, text.2)
+      after (text_kind m) reads token (null_by (token_kind reads m) (is_some (as_null m.value)) token h) λ text _ read. (text, read)
 
   pub response_free : {Extra : Type 0} (extra_read : List SeenMember → Result Extra Refusal) (members : List SeenMember) (fields : SeenIdTokenFields (SeenToken JE JS (SeenIdTokenClaims Others GC)) Extra)
       (token : SeenToken JE JS (SeenIdTokenClaims Others GC)) → response_fields_of reads extra_read members ≡ Ok fields → fields.id_token ≡ Some token → any_float (list_of token.payload.additional_claims) ≡ false
   unfolding response_fields_of
   response_free extra_read members fields token h has =
-      let first = first_step (faultless (judged (id_token reads)) members) _ fields h in
-      let extra = first_step (extra_read members) _ fields first.2 in
-      let given : optional (id_token reads) members ≡ fields.id_token = ap (λ f. f.id_token) (same_ok _ fields extra.2) in
+      after (faultless (judged (id_token reads)) members) _ fields h λ _ _ faultless.
+      after (extra_read members) _ fields faultless λ extra _ made.
+      let given : optional (id_token reads) members ≡ fields.id_token = ap (λ f. f.id_token) (same_ok _ fields made) in
       let text = value_read (own (id_token reads) members) token (given ∙ has) in
       token_free text.0 token text.1

@@ -1,7 +1,7 @@
 -- The checks of a user info answer that is a token, one after the other, are those of acceptance, and the first
 -- that fails has its cause.
 use Rattle.std.proofs.Common.{◌≡◌, ◌≢◌, ℕ, Bool, true, false, List, [], ◌∷◌, Option, None, Some, refl, sym, ap, subst, ◌∙◌}
-use Rattle.std.specs.Prelude.{Result, Ok, Err, not, ◌||◌, is_none, IsTrue}
+use Rattle.std.specs.Prelude.{Result, Ok, Err, not, ◌||◌, is_none}
 use Rattle.std.specs.Option.{option_map_or}
 use Rattle.std.specs.Str.{bytes_eq}
 use Rattle.std.proofs.lemmas.Bool.{true≢false, false≢true}

@@ -146,7 +146,10 @@ impl<
     {
         match verifier.check(&self.token, &nonce, now) {
             Ok(()) => Ok(self.token.into_payload()),
-            Err(refusal) => Err(refusal),
+            Err(refusal) => {
+                drop(self);
+                Err(refusal)
+            }
         }
     }
 

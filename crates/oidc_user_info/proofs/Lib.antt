@@ -5,3 +5,4 @@ mod Rows
 mod Runs
 mod Texts
 mod Unblamed
+mod QueryLists

@@ -1,11 +1,11 @@
 -- The fields of user info that are no claims: their rule over all members, and that they are read back.
-use Rattle.std.proofs.Common.{◌≡◌, ℕ, List, [], ◌∷◌, ◌++◌, map, Bool, true, false, ◌&&◌, not, cond, Option, None, Some, codes, refl, sym, ap, ◌∙◌, filter, All}
+use Rattle.std.proofs.Common.{◌≡◌, ℕ, List, [], map, Bool, true, false, cond, Option, None, Some, codes, refl, sym, ap, ◌∙◌, filter, All}
 use Rattle.std.specs.Prelude.{Ok}
 use Rattle.std.specs.List.{list_any, list_all}
 use Rattle.std.specs.Option.{ok_or, option_flatten}
 use Rattle.std.specs.Result.{result_ok}
 use Rattle.std.specs.Str.{bytes_eq}
-use Rattle.std.proofs.lemmas.Bool.{false≢true, true≢false}
+use Rattle.std.proofs.lemmas.Bool.{true≢false}
 use Rattle.std.proofs.lemmas.List.Elements.{All-nil, All-cons, All-append}
 use Rattle.std.proofs.lemmas.Slice.Eq.{bytes_eq-Decides}
 use Rattle.url.specs.Parser.{parse_url}
@@ -18,9 +18,9 @@ use Rattle.oidc_readers.specs.Fields.{field, judged, judged_among, first_value}
 use Rattle.oidc_readers.specs.Passes.{first_by}
 use Rattle.oidc_readers.specs.Records.{optional}
 use Rattle.oidc_readers.specs.WrittenBack.{MayStand, as_read}
-use Rattle.oidc_readers.specs.Writing.{one_member, text_member}
+use Rattle.oidc_readers.specs.Writing.{one_member}
 use Rattle.oidc_claims.specs.Home.{user_info_fields}
-use Rattle.oidc_id_token_claims.specs.OwnClaims.{texts_data, texts_member}
+use Rattle.oidc_id_token_claims.specs.OwnClaims.{texts_data}
 use Rattle.oidc_claims.proofs.Theorems.{narrowed}
 use Rattle.oidc_id_token_claims.proofs.Theorems.{texts_back, texts_stand, text_stands}
 use Rattle.oidc_user_info.specs.UserInfoClaims.{iss, aud, own_rule, own_members}

@@ -1,8 +1,7 @@
 -- What each reply to a request for user info rests on, by the table, and back.
-use Rattle.std.proofs.Common.{◌≡◌, ◌≢◌, ◌==◌, ℕ, Bool, true, false, List, Option, None, Some, refl, sym, ap, subst, ◌∙◌, inl, inr, arith}
+use Rattle.std.proofs.Common.{◌≡◌, ◌≢◌, ◌==◌, ℕ, Bool, true, false, List, Option, None, Some, refl, ap, ◌∙◌, inl, inr, arith}
 use Rattle.std.specs.Prelude.{Result, Ok, Err, not, ◌⊎◌, if◌then◌else◌, codes}
-use Rattle.std.specs.Str.{bytes_eq, is_utf8}
-use Rattle.std.proofs.lemmas.Bool.{true≢false, false≢true}
+use Rattle.std.specs.Str.{is_utf8}
 use Rattle.http_header.specs.FieldValue.{is_visible_text}
 use Rattle.oidc_members.specs.declared.refusal.Refusal.{Refusal}
 use Rattle.oidc_keys.specs.declared.refusals.SignatureVerificationError.TheVariants.{AmbiguousKeyId, CryptoError, DisallowedAlg, InvalidKey, NoMatchingKey, NoSignature, UnsupportedAlg, Memory as NoMemory}
@@ -18,12 +17,11 @@ use Rattle.oidc_tokens.specs.declared.verification.refusals.ClaimsVerificationEr
 use Rattle.oidc_tokens.proofs.Theorems.{about, about_back, about_another, info_accepts, info_accepted, info_failure_cause, info_never_memory, info_never_memory_inside}
 use Rattle.oidc_user_info.specs.UserInfoClaims.{SeenUserInfoClaims, parties_of}
 use Rattle.oidc_user_info.specs.InfoErrors.{InfoRefusal, Meant}
-use Rattle.oidc_user_info.specs.InfoAnswers.{◌for◌, Readers, Demand, claims_in, token_in, failure_of, accepted_claims, from_json, of_object, of_token, by_media_type, info_answer}
-use Rattle.oidc_user_info.specs.InfoRequests.{SeenInfoRequest, get_with, info_request}
-use Rattle.oidc_user_info.specs.InfoCauses.{IsAsked, HasNoAddress, HasNoResponse, Came, Fits, Succeeds, HoldsObject, HoldsToken, AllowsObject, HoldsText, HasOtherStatus, HasOtherType, HoldsNoText, IsTooLong, ReadsObject, ReadsToken, IsUserInfo, ObjectIsRefused, TokenIsRefused, ObjectFails, TokenFails, Cause}
+use Rattle.oidc_user_info.specs.InfoAnswers.{◌for◌, Readers, claims_in, token_in, failure_of, accepted_claims, from_json, of_object, of_token, by_media_type, info_answer}
+use Rattle.oidc_user_info.specs.InfoRequests.{SeenInfoRequest, info_request}
+use Rattle.oidc_user_info.specs.InfoCauses.{IsAsked, HasNoAddress, Came, Fits, Succeeds, HoldsObject, HoldsToken, AllowsObject, HoldsText, HasOtherStatus, HasOtherType, HoldsNoText, IsTooLong, ReadsObject, ReadsToken, IsUserInfo, ObjectIsRefused, TokenIsRefused, ObjectFails, TokenFails, Cause}
 use Rattle.oidc_user_info.specs.InfoRuns.{reply_of, reply_to, reply}
 use Rattle.oidc_user_info.specs.declared.errors.InfoOther.TheVariants as other
-use Rattle.oidc_user_info.specs.declared.errors.PrepareInfoError.{PrepareInfoError}
 use Rattle.oidc_user_info.specs.declared.errors.PrepareInfoError.TheVariants.{Bearer, Uri}
 use Rattle.oidc_user_info.specs.declared.errors.ResponseCause.TheVariants.{Status, MediaType}
 use Rattle.oidc_user_info.specs.declared.errors.UserInfoError.TheVariants.{ClaimsVerification, Parse, Request, Response, Other, TooLong, Memory}

@@ -6,7 +6,7 @@ use Rattle.oidc_oauth2.specs.Messages.{SeenRequest, SeenAnswer}
 use Rattle.oidc_oauth2.specs.Transport.{Log, log_after, Plays}
 use Rattle.oidc_oauth2.specs.Exchanges.{Known, requests_of}
 use Rattle.oidc_user_info.specs.UserInfoClaims.{SeenUserInfoClaims}
-use Rattle.oidc_user_info.specs.InfoErrors.{InfoRefusal, Meant, seen_refusal, OrMemory, Gives}
+use Rattle.oidc_user_info.specs.InfoErrors.{Meant, seen_refusal, OrMemory, Gives}
 use Rattle.oidc_user_info.specs.InfoAnswers.{Readers}
 use Rattle.oidc_user_info.specs.InfoRequests.{SeenInfoRequest, info_request}
 use Rattle.oidc_user_info.specs.InfoCauses.{IsUserInfo, Cause}

@@ -1,5 +1,5 @@
 -- What each reply to a request for user info rests on, said without the rows of the table.
-use Rattle.std.specs.Prelude.{◌≡◌, ◌≢◌, ◌⊎◌, ℕ, List, Option, None, Some, true, false, Ok, Err, codes}
+use Rattle.std.specs.Prelude.{◌≡◌, ◌≢◌, ◌⊎◌, ℕ, List, None, Some, true, false, Ok, Err, codes}
 use Rattle.std.specs.Str.{is_utf8}
 use Rattle.http_header.specs.FieldValue.{is_visible_text}
 use Rattle.oidc_members.specs.declared.refusal.Refusal.{Refusal}

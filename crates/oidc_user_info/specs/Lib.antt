@@ -1,5 +1,5 @@
 -- In reading order: the claims; refusals; what an answer is worth, row by row; the request; what each reply rests
--- on, and what a request leaves of a transport; which claims are read back.
+-- on, and what a request leaves of a transport; which claims are read back; URLs with pairs after their query.
 pub mod UserInfoClaims
 pub mod InfoErrors
 pub mod InfoAnswers
@@ -8,6 +8,7 @@ pub mod InfoCauses
 pub mod InfoRuns
 pub mod RoundTrip
 pub mod Lending
+pub mod Urls
 -- what no public clause cites
 pub mod UserInfoFields
 pub mod Codes

@@ -1,8 +1,7 @@
 -- Which claims of user info are read back as they were written.
-use Rattle.std.specs.Prelude.{◌≡◌, ℕ, List, Option, None, Some, option_map, Result, Ok, IsFalse}
+use Rattle.std.specs.Prelude.{◌≡◌, List, None, Some, option_map, Result, Ok}
 use Rattle.std.specs.List.{All}
 use Rattle.url.specs.Parser.{parse_url}
-use Rattle.serde_json.specs.Data.{Data}
 use Rattle.oidc_types.specs.{TextAndUrl}
 use Rattle.oidc_members.specs.Seen.{SeenMember, OutSeen}
 use Rattle.oidc_members.specs.Objects.{members_of}

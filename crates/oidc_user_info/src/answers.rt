@@ -52,6 +52,7 @@ impl<AC: AdditionalClaims, GC: GenderClaim> UserInfoClaims<AC, GC> {
                 if is_expected_subject(expected_subject, claims.subject()) {
                     Ok(claims)
                 } else {
+                    drop(claims);
                     let refusal = ClaimsVerificationError::InvalidSubject;
                     Err(UserInfoError::ClaimsVerification(refusal))
                 }

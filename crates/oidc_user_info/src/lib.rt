@@ -8,6 +8,9 @@
 //!   [`UserInfoVerifier`](oidc_tokens::UserInfoVerifier) accepts it, else the first check that fails.
 //! - [`UserInfoRequest`] asks for user info with an access token, over a transport that the caller hands in.
 //!   [`UserInfoError`] is why there are no claims.
+//! - [`QueryPairs`] are pairs that stand after the query of a URL to which a site sends its users.
+//!   [`BuildUrlError`] is why there is no such URL.
+//! - [`AdditionalProviderMetadata`] is what a provider may say of itself beside its own metadata.
 //!
 //! What it promises. Claims are read as `user_info_claims_of` says, each member judged against all that stand
 //! before it; what is written in range is read back. A request hands over exactly the one
@@ -24,11 +27,18 @@ pub mod answers;
 pub mod claims;
 pub mod core_user_info;
 pub mod errors;
+pub mod provider_metadata;
 pub mod requests;
 pub mod token;
+pub mod urls;
 
 pub use crate::claims::UserInfoClaims;
 pub use crate::core_user_info::{CoreUserInfoClaims, CoreUserInfoJsonWebToken};
 pub use crate::errors::{InfoOther, PrepareInfoError, ResponseCause, UserInfoError};
+pub use crate::provider_metadata::{AdditionalProviderMetadata, EmptyAdditionalProviderMetadata};
 pub use crate::requests::{UserInfoRequest, UserInfoResponseType};
 pub use crate::token::UserInfoJsonWebToken;
+pub use crate::urls::{
+    BuildUrlError, MAX_URL, QueryPairs, spaced_texts, spaced_texts_if, spaced_words,
+    spaced_words_if,
+};

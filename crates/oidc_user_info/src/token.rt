@@ -142,7 +142,10 @@ impl<
         let subject = self.token.unverified_payload().subject();
         match verifier.check(&self.token, subject) {
             Ok(()) => Ok(self.token.into_payload()),
-            Err(refusal) => Err(refusal),
+            Err(refusal) => {
+                drop(self);
+                Err(refusal)
+            }
         }
     }
 }

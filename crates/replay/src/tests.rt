@@ -1,12 +1,8 @@
-//! What no line of text can say: a type of the test's own behind a trait, an object that fails at one
-//! call, laws of equality and hashes, very many of something. One file for each crate.
+//! What no line of text can say of transports, of logins and of the program: a transport of the test's own, an
+//! object that fails at one call, very many of something. Other tests of the crates below stand in `trials` and
+//! `trials_tokens`.
 
-mod claims;
 mod cli;
 mod login;
-mod low;
-mod oauth2;
-mod readers;
-mod tokens;
-mod types;
-mod user_info;
+mod own_keys;
+mod transports;

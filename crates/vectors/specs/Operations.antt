@@ -2,7 +2,7 @@
 use Rattle.std.specs.Prelude.{ℕ, List, [], ◌∷◌, Option, codes, find}
 use Rattle.std.specs.Str.{bytes_eq}
 use Rattle.vectors.specs.declared.operations.Operation.{Operation}
-use Rattle.vectors.specs.declared.operations.Operation.TheVariants.{Pairs, Members, Standard, Url, Join, Word, Localized, Random, Hmac, Verdict, Digest, Challenge, Display, Run, TokenResponse, ErrorResponse, DeviceError, RevocationError, DeviceResponse, Introspection, TokenType, Essence, Bearer, CodeRequest, TokenAnswer, Header, IdClaims, IdToken, Verify, Hash, Issue, InfoClaims, InfoRequest, InfoAnswer, InfoIssue}
+use Rattle.vectors.specs.declared.operations.Operation.TheVariants.{Pairs, Members, Standard, Url, Join, Word, Localized, Random, Hmac, Verdict, Digest, Challenge, Display, TokenResponse, ErrorResponse, DeviceError, RevocationError, DeviceResponse, Introspection, TokenType, Essence, Bearer, CodeRequest, TokenAnswer}
 
 -- the name of an operation, the value of `op`
 abbrev pub operation_name : Operation → List ℕ
@@ -19,7 +19,6 @@ operation_name Verdict = codes "verdict"
 operation_name Digest = codes "digest"
 operation_name Challenge = codes "challenge"
 operation_name Display = codes "display"
-operation_name Run = codes "run"
 operation_name TokenResponse = codes "token_response"
 operation_name ErrorResponse = codes "error_response"
 operation_name DeviceError = codes "device_error"
@@ -31,22 +30,11 @@ operation_name Essence = codes "essence"
 operation_name Bearer = codes "bearer"
 operation_name CodeRequest = codes "code_request"
 operation_name TokenAnswer = codes "token_answer"
-operation_name Header = codes "header"
-operation_name IdClaims = codes "id_claims"
-operation_name IdToken = codes "token"
-operation_name Verify = codes "verify"
-operation_name Hash = codes "hash"
-operation_name Issue = codes "issue"
-operation_name InfoClaims = codes "info_claims"
-operation_name InfoRequest = codes "info_request"
-operation_name InfoAnswer = codes "info_answer"
-operation_name InfoIssue = codes "info_issue"
 
 -- all operations
 abbrev pub operations : List Operation
-operations = Pairs ∷ Members ∷ Standard ∷ Url ∷ Join ∷ Word ∷ Localized ∷ Random ∷ Hmac ∷ Verdict ∷ Digest ∷ Challenge ∷ Display ∷ Run
-    ∷ TokenResponse ∷ ErrorResponse ∷ DeviceError ∷ RevocationError ∷ DeviceResponse ∷ Introspection ∷ TokenType ∷ Essence ∷ Bearer ∷ CodeRequest ∷ TokenAnswer
-    ∷ Header ∷ IdClaims ∷ IdToken ∷ Verify ∷ Hash ∷ Issue ∷ InfoClaims ∷ InfoRequest ∷ InfoAnswer ∷ InfoIssue ∷ []
+operations = Pairs ∷ Members ∷ Standard ∷ Url ∷ Join ∷ Word ∷ Localized ∷ Random ∷ Hmac ∷ Verdict ∷ Digest ∷ Challenge ∷ Display ∷ TokenResponse
+    ∷ ErrorResponse ∷ DeviceError ∷ RevocationError ∷ DeviceResponse ∷ Introspection ∷ TokenType ∷ Essence ∷ Bearer ∷ CodeRequest ∷ TokenAnswer ∷ []
 
 -- the operation of that name
 abbrev pub operation_of : List ℕ → Option Operation

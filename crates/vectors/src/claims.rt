@@ -3,8 +3,7 @@ ghost use Rattle.std.specs.Prelude.{◌≡◌, IfOk, IsTrue};
 ghost use Rattle.oidc_claims.specs.Additional.{are_additional};
 ghost use Rattle.oidc_claims.specs.Home.{is_additional};
 
-use crate::answers::{object, ok_form, refused_as};
-use crate::case::{Case, CaseError};
+use cases::{Case, CaseError, object, ok_form, refused_as};
 use oidc_claims::{
     AdditionalClaims, AllOtherClaims, Home, PlacedError, USER_INFO_FIELDS, belongs, read_standard,
     write_standard,

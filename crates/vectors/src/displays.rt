@@ -1,22 +1,15 @@
-//! What errors print.
+//! What errors of the lower layers print.
 
-use crate::answers::ok_pair;
-use crate::case::{Case, CaseError};
-use crate::vocabularies::variant_name;
-use http::StatusCode;
+use cases::{Case, CaseError, one_of};
 use oidc_claims::PlacedError;
 use oidc_keys::{HashError, SignatureVerificationError};
-use oidc_login::{BeginError, LoginError, NewLoginsError, TooLong};
 use oidc_members::{FieldName, ParseError, ParseKind, Refusal};
 use oidc_oauth2::{
     BearerError, Body, ConfigurationError, CoreErrorResponseType, CoreRequestTokenError, Fault,
     OtherCause, PkceError, PrepareError, RequestTokenError, StandardErrorResponse, UnexpectedType,
 };
-use oidc_tokens::{ClaimsVerificationError, JsonWebTokenError};
 use oidc_types::{SigningError, UrlTextError};
-use oidc_user_info::{InfoOther, PrepareInfoError, ResponseCause, UserInfoError};
 use std::alloc::Global;
-use std::fmt::{Debug, Display};
 
 const KINDS: [ParseKind; 11] = [
     ParseKind::Syntax,
@@ -45,25 +38,6 @@ const SIGNATURES: [SignatureVerificationError; 8] = [
 
 const HASHES: [HashError; 2] = [HashError::Unsupported, HashError::Memory];
 
-const CLAIMS: [ClaimsVerificationError; 8] = [
-    ClaimsVerificationError::Unsupported,
-    ClaimsVerificationError::InvalidIssuer,
-    ClaimsVerificationError::InvalidAudience,
-    ClaimsVerificationError::SignatureVerification(SignatureVerificationError::CryptoError),
-    ClaimsVerificationError::Expired,
-    ClaimsVerificationError::InvalidNonce,
-    ClaimsVerificationError::InvalidSubject,
-    ClaimsVerificationError::Memory,
-];
-
-const STORES: [NewLoginsError; 1] = [NewLoginsError::TokenEndpoint];
-
-const BEGINS: [BeginError; 3] = [
-    BeginError::Verifier,
-    BeginError::Pending,
-    BeginError::Memory,
-];
-
 const URLS: [UrlTextError; 2] = [
     UrlTextError::Refused(url::ParseError::RelativeUrlWithoutBase),
     UrlTextError::Memory,
@@ -90,28 +64,13 @@ const REQUESTS: [PrepareError; 2] = [PrepareError::Uri, PrepareError::Memory];
 
 const TYPES: [UnexpectedType; 1] = [UnexpectedType];
 
-const RESPONSES: [ResponseCause; 2] = [ResponseCause::Status, ResponseCause::MediaType];
-
-const INFO_CAUSES: [InfoOther; 3] = [InfoOther::Bearer, InfoOther::Uri, InfoOther::Utf8];
-
-const INFO_REQUESTS: [PrepareInfoError; 3] = [
-    PrepareInfoError::Bearer,
-    PrepareInfoError::Uri,
-    PrepareInfoError::Memory,
-];
-
 /// `display`: what the value of a variant prints. A variant that holds something holds what stands in
-/// the lists above.
+/// the lists above, or in the functions below.
 pub(crate) fn display(alloc: Global, case: &Case) -> Result<String, CaseError> {
     case.check(&["type", "variant"])?;
     let variant = case.value("variant");
     match case.value("type") {
-        "BeginError" => one_of(alloc, &BEGINS, variant),
-        "ClaimsVerificationError" => one_of(alloc, &CLAIMS, variant),
         "HashError" => one_of(alloc, &HASHES, variant),
-        "JsonWebTokenError" => token_error(alloc, variant),
-        "LoginError" => login_error(alloc, variant),
-        "NewLoginsError" => one_of(alloc, &STORES, variant),
         "ParseError" => parse_error(alloc, variant),
         "ParseKind" => one_of(alloc, &KINDS, variant),
         "PlacedError" => placed_error(alloc, variant),
@@ -133,33 +92,8 @@ fn token_layer(alloc: Global, kind: &str, variant: &str) -> Result<String, CaseE
         "PrepareError" => one_of(alloc, &REQUESTS, variant),
         "RequestTokenError" => request_error(alloc, variant),
         "UnexpectedType" => one_of(alloc, &TYPES, variant),
-        kind => user_info(alloc, kind, variant),
-    }
-}
-
-// What the errors of user info print.
-fn user_info(alloc: Global, kind: &str, variant: &str) -> Result<String, CaseError> {
-    match kind {
-        "InfoOther" => one_of(alloc, &INFO_CAUSES, variant),
-        "PrepareInfoError" => one_of(alloc, &INFO_REQUESTS, variant),
-        "ResponseCause" => one_of(alloc, &RESPONSES, variant),
-        "UserInfoError" => user_info_error(alloc, variant),
         _ => Err(CaseError::NoCase),
     }
-}
-
-fn user_info_error(alloc: Global, variant: &str) -> Result<String, CaseError> {
-    let empty = Body::new(Vec::new(alloc));
-    let all: [UserInfoError<Fault>; 7] = [
-        UserInfoError::ClaimsVerification(ClaimsVerificationError::InvalidSubject),
-        UserInfoError::Parse(Refusal::of_text(alloc, ParseKind::Syntax)),
-        UserInfoError::Request(Fault),
-        UserInfoError::Response(StatusCode::UNAUTHORIZED, empty, ResponseCause::Status),
-        UserInfoError::Other(InfoOther::Utf8),
-        UserInfoError::TooLong(Body::new(Vec::new(alloc))),
-        UserInfoError::Memory,
-    ];
-    one_of(alloc, &all, variant)
 }
 
 fn request_error(alloc: Global, variant: &str) -> Result<String, CaseError> {
@@ -172,23 +106,6 @@ fn request_error(alloc: Global, variant: &str) -> Result<String, CaseError> {
         RequestTokenError::Other(OtherCause::Uri),
         RequestTokenError::TooLong(Body::new(Vec::new(alloc))),
         RequestTokenError::Memory,
-    ];
-    one_of(alloc, &all, variant)
-}
-
-fn login_error(alloc: Global, variant: &str) -> Result<String, CaseError> {
-    let none = FieldName::new(String::from_str(alloc, "ES256")?);
-    let all: [LoginError<Fault>; 10] = [
-        LoginError::TooLong(TooLong::TokenAnswer),
-        LoginError::State,
-        LoginError::Unbuilt,
-        LoginError::Callback,
-        LoginError::Token(RequestTokenError::Request(Fault)),
-        LoginError::NoIdToken,
-        LoginError::Claims(ClaimsVerificationError::Expired),
-        LoginError::Signing(SigningError::UnsupportedAlg(none)),
-        LoginError::TokenHash,
-        LoginError::Memory { spent: false },
     ];
     one_of(alloc, &all, variant)
 }
@@ -221,28 +138,4 @@ fn signing_error(alloc: Global, variant: &str) -> Result<String, CaseError> {
         SigningError::Memory,
     ];
     one_of(alloc, &all, variant)
-}
-
-fn token_error(alloc: Global, variant: &str) -> Result<String, CaseError> {
-    let all = [
-        JsonWebTokenError::SigningError(SigningError::CryptoError),
-        JsonWebTokenError::Memory,
-    ];
-    one_of(alloc, &all, variant)
-}
-
-// What the one of these prints that has this variant.
-fn one_of<E: Debug + Display>(
-    alloc: Global,
-    all: &[E],
-    variant: &str,
-) -> Result<String, CaseError> {
-    for error in all {
-        let shown = format!(in alloc; "{error:?}")?;
-        if variant_name(shown.as_str()) == variant {
-            let text = format!(in alloc; "{error}")?;
-            return ok_pair(alloc, "text", text.as_str());
-        }
-    }
-    Err(CaseError::NoCase)
 }

@@ -1,16 +1,8 @@
 //! MACs, signatures and digests.
 
-use crate::answers::{ok, ok_pair, refused_word};
-use crate::case::{Case, CaseError, bytes_of};
-use crate::words::signature_word;
+use cases::{Case, CaseError, algorithm, bytes_of, ok, ok_pair, refused_word, signature_word};
 use oidc_keys::{CoreJsonWebKey, HashError, HmacAlgorithm, JsonWebKey};
-use oidc_types::{ClosedVocabulary, CoreJwsSigningAlgorithm};
 use std::alloc::Global;
-
-/// The signing algorithm of a text.
-pub(crate) fn algorithm(text: &str) -> Result<CoreJwsSigningAlgorithm, CaseError> {
-    CoreJwsSigningAlgorithm::from_str(text).ok_or(CaseError::NoCase)
-}
 
 // The hash function of an HMAC's text.
 fn hmac_algorithm(text: &str) -> Result<HmacAlgorithm, CaseError> {

@@ -1,7 +1,6 @@
 //! Form pairs and the members of objects.
 
-use crate::answers::{ok_form, refused_as};
-use crate::case::{Case, CaseError};
+use cases::{Case, CaseError, ok_form, refused_as};
 use oidc_members::{Member, Members, ParseError};
 use oidc_pairs::{FormText, Pairs};
 use std::alloc::Global;

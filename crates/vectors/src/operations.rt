@@ -1,13 +1,12 @@
 //! The operations.
 
 ghost use Rattle.std.specs.Prelude.{◌≡◌};
-ghost use Rattle.vectors.specs.Operations.{operation_of};
+ghost use Rattle.vectors.specs.Operations as spec;
 
-use crate::case::{Case, CaseError};
 use crate::{
-    claims, displays, exchanges, headers, keys, members, pkce, records, scripts, tokens, types,
-    user_info, verifiers, vocabularies,
+    claims, displays, exchanges, headers, keys, members, pkce, records, types, vocabularies,
 };
+use cases::{Case, CaseError, CaseOperation};
 use std::alloc::Global;
 
 /// What a case asks for.
@@ -26,7 +25,6 @@ pub(crate) enum Operation {
     Digest,
     Challenge,
     Display,
-    Run,
     TokenResponse,
     ErrorResponse,
     DeviceError,
@@ -38,21 +36,11 @@ pub(crate) enum Operation {
     Bearer,
     CodeRequest,
     TokenAnswer,
-    Header,
-    IdClaims,
-    IdToken,
-    Verify,
-    Hash,
-    Issue,
-    InfoClaims,
-    InfoRequest,
-    InfoAnswer,
-    InfoIssue,
 }
 
 /// The operation of that name.
 pub(crate) fn operation_named(name: &str) -> Option<Operation>
-    ensures { result ≡ operation_of name.now }
+    ensures { result ≡ spec.operation_of name.now }
 {
     match name {
         "pairs" => Some(Operation::Pairs),
@@ -68,7 +56,6 @@ pub(crate) fn operation_named(name: &str) -> Option<Operation>
         "digest" => Some(Operation::Digest),
         "challenge" => Some(Operation::Challenge),
         "display" => Some(Operation::Display),
-        "run" => Some(Operation::Run),
         "token_response" => Some(Operation::TokenResponse),
         "error_response" => Some(Operation::ErrorResponse),
         "device_error" => Some(Operation::DeviceError),
@@ -80,23 +67,18 @@ pub(crate) fn operation_named(name: &str) -> Option<Operation>
         "bearer" => Some(Operation::Bearer),
         "code_request" => Some(Operation::CodeRequest),
         "token_answer" => Some(Operation::TokenAnswer),
-        "header" => Some(Operation::Header),
-        "id_claims" => Some(Operation::IdClaims),
-        "token" => Some(Operation::IdToken),
-        "verify" => Some(Operation::Verify),
-        "hash" => Some(Operation::Hash),
-        "issue" => Some(Operation::Issue),
-        "info_claims" => Some(Operation::InfoClaims),
-        "info_request" => Some(Operation::InfoRequest),
-        "info_answer" => Some(Operation::InfoAnswer),
-        "info_issue" => Some(Operation::InfoIssue),
         _ => None,
     }
 }
 
-impl Operation {
-    /// The answer of a case.
-    pub(crate) fn answer(self, alloc: Global, case: &Case) -> Result<String, CaseError> {
+impl CaseOperation for Operation {
+    ghost operation_of = { spec.operation_of };
+
+    fn named(name: &str) -> Option<Operation> {
+        operation_named(name)
+    }
+
+    fn answer(self, alloc: Global, case: &Case) -> Result<String, CaseError> {
         match self {
             Operation::Pairs => members::pairs(alloc, case),
             Operation::Members => members::members(alloc, case),
@@ -111,7 +93,6 @@ impl Operation {
             Operation::Digest => keys::digest(alloc, case),
             Operation::Challenge => pkce::challenge(alloc, case),
             Operation::Display => displays::display(alloc, case),
-            Operation::Run => scripts::run(alloc, case),
             Operation::TokenResponse => records::token_response(alloc, case),
             Operation::ErrorResponse => records::error_response(alloc, case),
             Operation::DeviceError => records::device_error(alloc, case),
@@ -123,16 +104,6 @@ impl Operation {
             Operation::Bearer => headers::bearer(alloc, case),
             Operation::CodeRequest => exchanges::code_request(alloc, case),
             Operation::TokenAnswer => exchanges::token_answer(alloc, case),
-            Operation::Header => tokens::header(alloc, case),
-            Operation::IdClaims => tokens::id_claims(alloc, case),
-            Operation::IdToken => tokens::token(alloc, case),
-            Operation::Verify => verifiers::verify(alloc, case),
-            Operation::Hash => tokens::hash(alloc, case),
-            Operation::Issue => tokens::issue(alloc, case),
-            Operation::InfoClaims => user_info::info_claims(alloc, case),
-            Operation::InfoRequest => user_info::info_request(alloc, case),
-            Operation::InfoAnswer => user_info::info_answer(alloc, case),
-            Operation::InfoIssue => user_info::info_issue(alloc, case),
         }
     }
 }

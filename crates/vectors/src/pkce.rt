@@ -1,7 +1,6 @@
 //! Proof Key for Code Exchange.
 
-use crate::answers::{ok_form, refused_word};
-use crate::case::{Case, CaseError};
+use cases::{Case, CaseError, ok_form, refused_word};
 use oidc_oauth2::{PkceCodeChallenge, PkceError};
 use oidc_pairs::FormText;
 use oidc_types::PkceCodeVerifier;

@@ -1,96 +1,27 @@
 //! Records of answers.
 
-use crate::answers::{ok_form, push_some, refused_reading, text_of};
-use crate::case::{Case, CaseError};
-use crate::tokens::TokenFields;
-use crate::vocabularies::variant_name;
+use cases::{
+    Case, CaseError, ok_form, push_scopes, push_seconds, push_some, refused_reading,
+    token_response_line, variant_name,
+};
 use jiff::Timestamp;
 use oidc_members::{FieldName, Members, ParseError};
 use oidc_oauth2::{
     CoreDeviceAuthorizationResponse, CoreErrorResponseType, CoreTokenIntrospectionResponse,
-    CoreTokenType, DeviceCodeErrorResponseType, EmptyExtraTokenFields, ErrorResponse,
-    ExtraTokenFields, OAuth2TokenResponse, RevocationErrorResponseType, StandardErrorResponse,
-    StandardTokenResponse, TokenIntrospectionResponse, TokenType,
+    DeviceCodeErrorResponseType, EmptyExtraTokenFields, ErrorResponse, RevocationErrorResponseType,
+    StandardErrorResponse, TokenIntrospectionResponse, TokenType,
 };
 use oidc_pairs::FormText;
-use oidc_types::{ErrorResponseType, Scope};
+use oidc_types::ErrorResponseType;
 use std::alloc::{AllocError, Global};
 use std::fmt;
-
-/// A token response with these extra fields.
-pub(crate) type Tokens<EF> = StandardTokenResponse<EF, CoreTokenType>;
 
 // ---- token responses
 
 /// `token_response`: a token response, written again.
 pub(crate) fn token_response(alloc: Global, case: &Case) -> Result<String, CaseError> {
-    case.check_with(&["text"], &["extra"])?;
-    match case.optional("extra") {
-        None => response_line::<EmptyExtraTokenFields>(alloc, case.value("text")),
-        Some("id_token") => response_line::<TokenFields>(alloc, case.value("text")),
-        Some(_) => Err(CaseError::NoCase),
-    }
-}
-
-// A token response with these extra fields, written again.
-fn response_line<EF: ExtraTokenFields>(alloc: Global, text: &str) -> Result<String, CaseError> {
-    match tokens_in::<EF>(alloc, text) {
-        Ok(tokens) => tokens_line(alloc, &tokens),
-        Err(error) => refused_reading(alloc, &error),
-    }
-}
-
-fn tokens_in<EF: ExtraTokenFields>(alloc: Global, text: &str) -> Result<Tokens<EF>, ParseError> {
-    let members = Members::split(alloc, text.as_bytes())?;
-    Tokens::<EF>::read(alloc, &members)
-}
-
-/// The text that a token response is written as.
-pub(crate) fn written<EF: ExtraTokenFields>(
-    alloc: Global,
-    tokens: &Tokens<EF>,
-) -> Result<String, CaseError> {
-    text_of(tokens.write(alloc)?)
-}
-
-fn tokens_line<EF: ExtraTokenFields>(
-    alloc: Global,
-    tokens: &Tokens<EF>,
-) -> Result<String, CaseError> {
-    let written = written(alloc, tokens)?;
-    let mut form = FormText::new(alloc);
-    form.push("written", written.as_str())?;
-    if let Some(span) = tokens.expires_in() {
-        push_seconds(alloc, &mut form, "expires_in", span.as_secs())?;
-    }
-    push_scopes(alloc, &mut form, tokens.scopes())?;
-    ok_form(alloc, form)
-}
-
-fn push_seconds(
-    alloc: Global,
-    form: &mut FormText,
-    name: &str,
-    seconds: u64,
-) -> Result<(), AllocError> {
-    let text = format!(in alloc; "{seconds}")?;
-    form.push(name, text.as_str())
-}
-
-// Adds the scopes, joined by line feeds, where they are there.
-fn push_scopes(
-    alloc: Global,
-    form: &mut FormText,
-    scopes: Option<&[Scope]>,
-) -> Result<(), AllocError> {
-    let Some(scopes) = scopes else {
-        return Ok(());
-    };
-    let mut texts = Vec::new(alloc);
-    for scope in scopes {
-        texts.push(scope.as_str())?;
-    }
-    form.push("scopes", texts.join(alloc, "\n")?.as_str())
+    case.check(&["text"])?;
+    token_response_line::<EmptyExtraTokenFields>(alloc, case.value("text"))
 }
 
 // ---- error responses

@@ -1,14 +1,12 @@
 //! URLs, claims in several languages, and random texts.
 
-use crate::answers::{ok_form, ok_pair, refused};
-use crate::case::{Case, CaseError};
+use cases::{Case, CaseError, number, ok_form, ok_pair, refused};
 use oidc_pairs::FormText;
 use oidc_types::{
     EndUserName, IssuerUrl, LanguageTag, LocalizedClaim, Nonce, RequestUrl, UrlTextError,
 };
 use rand_pcg::Pcg32;
 use std::alloc::{AllocError, Global};
-use std::str::FromStr;
 use url::Url;
 
 /// The stream of the generator of `random`.
@@ -53,17 +51,6 @@ pub(crate) fn random(alloc: Global, case: &Case) -> Result<String, CaseError> {
     let bytes = number::<u32>(case.value("bytes"))?;
     let nonce = Nonce::new_random_len(alloc, &mut Pcg32::new(seed, STREAM), bytes)?;
     ok_pair(alloc, "text", nonce.secret())
-}
-
-/// The number that decimal digits are.
-pub(crate) fn number<N: FromStr>(text: &str) -> Result<N, CaseError>
-where
-    N::Err: Drop,
-{
-    match text.parse::<N>() {
-        Ok(number) => Ok(number),
-        Err(_) => Err(CaseError::NoCase),
-    }
 }
 
 /// `localized`: what stands in a claim after these calls, in its order.

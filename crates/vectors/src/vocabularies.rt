@@ -1,7 +1,6 @@
 //! The words of vocabularies.
 
-use crate::answers::ok_form;
-use crate::case::{Case, CaseError};
+use cases::{Case, CaseError, ok_form, variant_name};
 use oidc_oauth2::{
     CoreErrorResponseType, CoreTokenType, DeviceCodeErrorResponseType, RevocationErrorResponseType,
     TokenType,
@@ -90,12 +89,4 @@ fn named<V: fmt::Debug>(alloc: Global, word: &V, text: &str) -> Result<String, C
     form.push("variant", variant)?;
     form.push("text", text)?;
     ok_form(alloc, form)
-}
-
-/// The name of a variant as `Debug` prints its value: what it holds stands behind `(` or a space.
-pub(crate) fn variant_name(shown: &str) -> &str {
-    match shown.split_once(['(', ' ']) {
-        Some((variant, _)) => variant,
-        None => shown,
-    }
 }

@@ -1,13 +1,12 @@
 //! The answers on a callback line.
-ghost use Rattle.std.specs.Prelude.{◌≡◌, [], ◌∷◌, map, option_map, unwrap_or, IfOk};
+ghost use Rattle.std.specs.Prelude.{◌≡◌, [], Some, map, option_map, unwrap_or, IfOk};
 ghost use Rattle.std.specs.String.{string_bytes};
 ghost use Rattle.oidc_oauth2.specs.Messages.{seen_response};
 ghost use Rattle.oidc_oauth2.specs.Recorded.{seen_answer};
-ghost use Rattle.oidc_cli.specs.Values as values;
-ghost use Rattle.oidc_cli.specs.Values.{Reads};
+ghost use Rattle.oidc_cli.specs.Values.{Reads, pair_value};
 ghost use Rattle.oidc_cli.specs.Script as spec;
 
-use crate::events::LineError;
+use crate::events::{AnswerTo, LineError};
 use crate::script::values::{lacks, only_text, optional_content_type, optional_text, pair_status};
 use http::response::Parts;
 use http::{Response, StatusCode, Version};
@@ -16,41 +15,70 @@ use oidc_oauth2::{Answer, Body, HttpResponse};
 use oidc_pairs::Pairs;
 use std::alloc::{AllocError, Global};
 
-// A list of this one answer.
-fn one(alloc: Global, answer: Answer) -> Result<Vec<Answer>, AllocError>
-    ensures { IfOk result (λ answers. map seen_answer answers.items ≡ seen_answer answer ∷ []) }
+// The names under which an answer stands.
+
+fn status_name(to: AnswerTo) -> &'static str
+    ensures { result.now ≡ spec.status_name to }
 {
-    let mut answers = Vec::new(alloc);
-    answers.push(answer)?;
-    Ok(answers)
+    match to {
+        AnswerTo::Token => "token_status",
+        AnswerTo::UserInfo => "info_status",
+    }
 }
 
-// A fault, of the text that stands for one.
-fn fault_of(alloc: Global, text: &str) -> Result<Vec<Answer>, LineError>
-    ensures { Reads (λ answers. map seen_answer answers.items) result (spec.fault_of_text text.now) }
+fn type_name(to: AnswerTo) -> &'static str
+    ensures { result.now ≡ spec.type_name to }
 {
-    if text != "1" {
-        return Err(LineError::NoEvent);
+    match to {
+        AnswerTo::Token => "token_type",
+        AnswerTo::UserInfo => "info_type",
     }
-    Ok(one(alloc, Answer::Fault)?)
 }
 
-// The answers of a line without a status.
-#[tactic(auto, unfolding(crate::specs::Script::answers_without_status))]
-fn answers_without_status(alloc: Global, line: &Pairs) -> Result<Vec<Answer>, LineError>
-    ensures { Reads (λ answers. map seen_answer answers.items) result
-        (spec.answers_without_status line.now) }
+fn body_name(to: AnswerTo) -> &'static str
+    ensures { result.now ≡ spec.body_name to }
 {
-    if !lacks(line, "token_type") {
+    match to {
+        AnswerTo::Token => "token_body",
+        AnswerTo::UserInfo => "info_body",
+    }
+}
+
+fn fault_name(to: AnswerTo) -> &'static str
+    ensures { result.now ≡ spec.fault_name to }
+{
+    match to {
+        AnswerTo::Token => "token_fault",
+        AnswerTo::UserInfo => "info_fault",
+    }
+}
+
+// The fault of the one pair with this name.
+fn pair_fault(line: &Pairs, name: &str) -> Result<Answer, LineError>
+    ensures { Reads seen_answer result (pair_value spec.fault_of_text line.now name.now) }
+{
+    if only_text(line, name)? != "1" {
         return Err(LineError::NoEvent);
     }
-    if !lacks(line, "token_body") {
+    Ok(Answer::Fault)
+}
+
+// The answer without a status, where there is one.
+#[tactic(auto, unfolding(crate::specs::Script::answer_without_status))]
+fn answer_without_status(line: &Pairs, to: AnswerTo) -> Result<Option<Answer>, LineError>
+    ensures { Reads (λ answer. option_map seen_answer answer) result
+        (spec.answer_without_status to line.now) }
+{
+    if !lacks(line, type_name(to)) {
         return Err(LineError::NoEvent);
     }
-    if lacks(line, "token_fault") {
-        return Ok(Vec::new(alloc));
+    if !lacks(line, body_name(to)) {
+        return Err(LineError::NoEvent);
     }
-    fault_of(alloc, only_text(line, "token_fault")?)
+    if lacks(line, fault_name(to)) {
+        return Ok(None);
+    }
+    Ok(Some(pair_fault(line, fault_name(to))?))
 }
 
 // A response of these parts.
@@ -89,17 +117,62 @@ fn or_empty(alloc: Global, text: Option<String>) -> String
     }
 }
 
-// The response of a line with a status.
+// The response with a status.
 #[tactic(auto, unfolding(crate::specs::Script::response_of))]
-fn read_response(alloc: Global, line: &Pairs) -> Result<HttpResponse, LineError>
-    ensures { Reads (λ response. seen_response response) result (spec.response_of line.now) }
+fn read_response(alloc: Global, line: &Pairs, to: AnswerTo) -> Result<HttpResponse, LineError>
+    ensures { Reads (λ response. seen_response response) result (spec.response_of to line.now) }
 {
-    let status = pair_status(line, "token_status")?;
-    let content_type = optional_content_type(alloc, line, "token_type")?;
-    let body = optional_text(alloc, line, "token_body")?;
+    let status = pair_status(line, status_name(to))?;
+    let content_type = optional_content_type(alloc, line, type_name(to))?;
+    let body = optional_text(alloc, line, body_name(to))?;
     match response_with(alloc, status, content_type, or_empty(alloc, body)) {
         Ok(response) => Ok(response),
         Err(_) => Err(LineError::Memory),
+    }
+}
+
+// The answer to a request, where there is one.
+#[tactic(auto, unfolding(crate::specs::Script::answer_of))]
+fn read_answer(alloc: Global, line: &Pairs, to: AnswerTo) -> Result<Option<Answer>, LineError>
+    ensures { Reads (λ answer. option_map seen_answer answer) result (spec.answer_of to line.now) }
+{
+    if lacks(line, status_name(to)) {
+        return answer_without_status(line, to);
+    }
+    if !lacks(line, fault_name(to)) {
+        return Err(LineError::NoEvent);
+    }
+    let response = read_response(alloc, line, to)?;
+    Ok(Some(Answer::Response(response)))
+}
+
+// A list of an answer, and of another behind it where there is one.
+fn listed(alloc: Global, first: Answer, second: Option<Answer>) -> Result<Vec<Answer>, AllocError>
+    ensures { let given = option_map seen_answer second in
+        IfOk result (λ answers. Some (map seen_answer answers.items)
+        ≡ spec.in_order (Some (seen_answer first)) given) }
+{
+    let mut answers = Vec::new(alloc);
+    answers.push(first)?;
+    if let Some(second) = second {
+        answers.push(second)?;
+    }
+    Ok(answers)
+}
+
+// The answers in the order of their requests.
+fn in_order(
+    alloc: Global,
+    token: Option<Answer>,
+    info: Option<Answer>,
+) -> Result<Vec<Answer>, LineError>
+    ensures { Reads (λ answers. map seen_answer answers.items) result
+        (spec.in_order (option_map seen_answer token) (option_map seen_answer info)) }
+{
+    match (token, info) {
+        (Some(token), info) => Ok(listed(alloc, token, info)?),
+        (None, None) => Ok(Vec::new(alloc)),
+        (None, Some(_)) => Err(LineError::NoEvent),
     }
 }
 
@@ -108,12 +181,7 @@ fn read_response(alloc: Global, line: &Pairs) -> Result<HttpResponse, LineError>
 pub fn read_answers(alloc: Global, line: &Pairs) -> Result<Vec<Answer>, LineError>
     ensures { Reads (λ answers. map seen_answer answers.items) result (spec.answers_of line.now) }
 {
-    if lacks(line, "token_status") {
-        return answers_without_status(alloc, line);
-    }
-    if !lacks(line, "token_fault") {
-        return Err(LineError::NoEvent);
-    }
-    let response = read_response(alloc, line)?;
-    Ok(one(alloc, Answer::Response(response))?)
+    let token = read_answer(alloc, line, AnswerTo::Token)?;
+    let info = read_answer(alloc, line, AnswerTo::UserInfo)?;
+    in_order(alloc, token, info)
 }

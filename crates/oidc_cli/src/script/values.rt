@@ -7,14 +7,16 @@ ghost use Rattle.http_header.specs.Token.{is_visible_or_blank};
 ghost use Rattle.oidc_types.specs.{find_word, signing_text, signing_algorithms};
 ghost use Rattle.oidc_readers.specs.Moments.{moment_at};
 ghost use Rattle.oidc_cli.specs.Values as spec;
-ghost use Rattle.oidc_cli.specs.Values.{Reads, pair_text as text_of_pair, pair_value, url_of_text, algorithms_of as algorithms_in, moment_of_text as moment_in, status_code_of as status_code_in, content_type_of as content_type_in};
+ghost use Rattle.oidc_cli.specs.Values.{Reads, pair_text as text_of_pair, pair_value, url_of_text, algorithms_of as algorithms_in, demand_of as demand_in, moment_of_text as moment_in, status_code_of as status_code_in, content_type_of as content_type_in};
 
 use crate::events::LineError;
 use http::StatusCode;
 use http_header::{HeaderValue, HeaderValueError};
 use jiff::Timestamp;
+use oidc_login::UserInfoDemand;
 use oidc_pairs::Pairs;
 use oidc_types::{ClosedVocabulary, CoreJwsSigningAlgorithm, Marker, UrlText, UrlTextError};
+use oidc_user_info::UserInfoResponseType;
 use std::alloc::Global;
 
 /// Whether a line has no pair with this name.
@@ -55,6 +57,20 @@ pub fn pair_url<M: Marker>(alloc: Global, line: &Pairs, name: &str) -> Result<Ur
     ensures { Reads (λ url. url) result (pair_value url_of_text line.now name.now) }
 {
     url_of(alloc, only_text(line, name)?)
+}
+
+/// The URL text of the one pair with this name, where there is such a pair.
+pub fn optional_url<M: Marker>(
+    alloc: Global,
+    line: &Pairs,
+    name: &str,
+) -> Result<Option<UrlText<M>>, LineError>
+    ensures { Reads (λ url. url) result (spec.optional_value url_of_text line.now name.now) }
+{
+    if lacks(line, name) {
+        return Ok(None);
+    }
+    Ok(Some(pair_url(alloc, line, name)?))
 }
 
 // A URL text, where the URL Standard takes it.
@@ -115,6 +131,45 @@ fn algorithm_of(text: &str) -> Option<CoreJwsSigningAlgorithm>
     ensures { result ≡ find_word signing_text signing_algorithms text.now }
 {
     CoreJwsSigningAlgorithm::from_str(text)
+}
+
+/// The demand of the one pair with this name, where there is such a pair.
+pub fn optional_demand(line: &Pairs, name: &str) -> Result<Option<UserInfoDemand>, LineError>
+    ensures { Reads (λ demand. demand) result (spec.optional_value demand_in line.now name.now) }
+{
+    if lacks(line, name) {
+        return Ok(None);
+    }
+    Ok(Some(pair_demand(line, name)?))
+}
+
+// The demand of the one pair with this name.
+fn pair_demand(line: &Pairs, name: &str) -> Result<UserInfoDemand, LineError>
+    ensures { Reads (λ demand. demand) result (pair_value demand_in line.now name.now) }
+{
+    demand_of(only_text(line, name)?).ok_or(LineError::NoEvent)
+}
+
+fn demand_of(text: &str) -> Option<UserInfoDemand>
+    ensures { result ≡ demand_in text.now }
+{
+    match text {
+        "json" => Some(demanding(false, UserInfoResponseType::Json)),
+        "jwt" => Some(demanding(true, UserInfoResponseType::Jwt)),
+        _ => None,
+    }
+}
+
+// What is demanded in an answer of this kind.
+fn demanding(signed: bool, response_type: UserInfoResponseType) -> UserInfoDemand
+    ensures { result ≡ spec.demanding signed response_type }
+{
+    UserInfoDemand {
+        signed,
+        issuer_match: true,
+        audience_match: true,
+        response_type,
+    }
 }
 
 /// The moment of the one pair with this name.

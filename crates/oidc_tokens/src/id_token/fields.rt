@@ -164,7 +164,10 @@ impl<
         };
         let fields = read_fields(alloc, slot, members)?;
         match EF::read(alloc, members) {
-            Err(error) => Err(error),
+            Err(error) => {
+                drop(fields);
+                Err(error)
+            }
             Ok(extra_fields) => Ok(IdTokenFields {
                 id_token: fields.id_token.optional(),
                 extra_fields,

@@ -93,7 +93,10 @@ impl<
     {
         let checker = match key.as_verification_key(alloc) {
             Ok(checker) => checker,
-            Err(_) => return Err(JsonWebTokenError::Memory),
+            Err(_) => {
+                drop(claims);
+                return Err(JsonWebTokenError::Memory);
+            }
         };
         let claims = with_hashes(alloc, claims, access_token, code, &alg, &checker)?;
         match JsonWebToken::new(alloc, claims, key, &alg) {
@@ -118,7 +121,10 @@ fn with_token_hash<AC: AdditionalClaims, GC: GenderClaim, K: JsonWebKey>(
         None => Ok(claims),
         Some(token) => match from_token(alloc, token, alg, key) {
             Ok(hash) => Ok(claims.set_access_token_hash(Some(hash))),
-            Err(refusal) => Err(refusal),
+            Err(refusal) => {
+                drop(claims);
+                Err(refusal)
+            }
         },
     }
 }
@@ -138,7 +144,10 @@ fn with_code_hash<AC: AdditionalClaims, GC: GenderClaim, K: JsonWebKey>(
         None => Ok(claims),
         Some(code) => match from_code(alloc, code, alg, key) {
             Ok(hash) => Ok(claims.set_code_hash(Some(hash))),
-            Err(refusal) => Err(refusal),
+            Err(refusal) => {
+                drop(claims);
+                Err(refusal)
+            }
         },
     }
 }

@@ -297,6 +297,142 @@ fn address_limit(rt: HostRuntime) -> Result<(), Fail> {
     Ok(())
 }
 
+// ---- the limit of a URL
+
+const STATE_FRONT: &str =
+    "op=client&id=aaa&secret=bbb&issuer=https://example&auth=https://example/authorize&algs=HS256&token=https://example/token\nop=begin&nonce=NONCE456&verifier=dBjftJeZ4CVP-mB92K27uhbUJU1p1r_wW1gFWFOEjXk&state=";
+
+const URL_FRONT: &str =
+    "client ok\nbegin ok https://example/authorize?response_type=code&client_id=aaa&state=";
+
+const URL_REST: &str =
+    "&code_challenge=E9Melhoa2OwvFrEMTJguCHaoeK1t8URWbuGJSstw-cM&code_challenge_method=S256&scope=openid&nonce=NONCE456\npending 1\n";
+
+const TOO_LONG: &str = "client ok\nbegin refused too_long\npending 0\n";
+
+// Whether a begin with a state of so many letters is Ok, or refused for its URL.
+fn is_begun(alloc: Global, letters: usize, is_ok: bool) -> Result<bool, AllocError> {
+    let state = "a".repeat(alloc, letters)?;
+    let script = format!(in alloc; "{STATE_FRONT}{state}")?;
+    let wanted = if is_ok {
+        format!(in alloc; "{URL_FRONT}{state}{URL_REST}")?
+    } else {
+        String::from_str(alloc, TOO_LONG)?
+    };
+    let ran = ran(alloc, ",replay", script.into_bytes(), 0, 0, 2_097_152)?;
+    Ok(ran.status == DONE && ran.sink.bytes() == wanted.as_bytes())
+}
+
+// A URL has at most 1,048,576 bytes: beside this state it has 179.
+static STATES: [(usize, bool); 3] = [(1_048_397, true), (1_048_398, false), (1_048_576, false)];
+
+#[test]
+fn url_limit(rt: HostRuntime) -> Result<(), Fail> {
+    for (letters, is_ok) in &STATES {
+        assert!(rt; is_begun(rt.alloc(), *letters, *is_ok)?, "{letters}");
+    }
+    Ok(())
+}
+
+// ---- the limits of a query and of answers
+
+const BEGUN: &str =
+    "op=client&id=aaa&secret=bbb&issuer=https://example&auth=https://example/authorize&token=https://example/token&userinfo=https://example/userinfo&algs=HS256\nop=begin&state=CSRF123&nonce=NONCE456&verifier=dBjftJeZ4CVP-mB92K27uhbUJU1p1r_wW1gFWFOEjXk";
+
+// A query of 24 bytes, and the letters behind it.
+const QUERY_FRONT: &str = "\nop=callback&now=1000&query=state%3DCSRF123%26code%3Dc1%26x%3D";
+
+const TOKENS_FRONT: &str =
+    "\nop=callback&now=1000&query=code%3Dc1%26state%3DCSRF123&token_status=200&token_type=application/json&token_body=";
+
+const TOKENS: &str =
+    "%7B%22access_token%22%3A%22abc%22%2C%22token_type%22%3A%22Bearer%22%2C%22id_token%22%3A%22eyJhbGciOiJIUzI1NiJ9.eyJpc3MiOiJodHRwczovL2V4YW1wbGUiLCJhdWQiOlsiYWFhIl0sImV4cCI6MjAwMCwiaWF0Ijo5MDAsIm5vbmNlIjoiTk9OQ0U0NTYiLCJzdWIiOiJ1MSJ9.IbKOHKcOistKb08I8l-Mg1J9VjU5wB0TABvvRtT4QqI%22%7D";
+
+const INFO_FRONT: &str =
+    "&userinfo=json\nop=callback&now=1000&query=code%3Dc1%26state%3DCSRF123&token_status=200&token_type=application/json&token_body=%7B%22access_token%22%3A%22abc%22%2C%22token_type%22%3A%22Bearer%22%2C%22id_token%22%3A%22eyJhbGciOiJIUzI1NiJ9.eyJpc3MiOiJodHRwczovL2V4YW1wbGUiLCJhdWQiOlsiYWFhIl0sImV4cCI6MjAwMCwiaWF0Ijo5MDAsIm5vbmNlIjoiTk9OQ0U0NTYiLCJzdWIiOiJ1MSJ9.IbKOHKcOistKb08I8l-Mg1J9VjU5wB0TABvvRtT4QqI%22%7D&info_status=200&info_type=application/json&info_body=";
+
+// Whether the report of a script ends in this, where so many letters stand between its parts.
+fn ends_in(
+    alloc: Global,
+    front: &str,
+    letters: usize,
+    rest: &str,
+    end: &str,
+) -> Result<bool, AllocError> {
+    let text = "a".repeat(alloc, letters)?;
+    let script = format!(in alloc; "{BEGUN}{front}{text}{rest}")?;
+    let ran = ran(alloc, ",replay", script.into_bytes(), 0, 0, 65_536)?;
+    Ok(ran.status == DONE && ran.sink.bytes().ends_with(end.as_bytes()))
+}
+
+// A query has at most 1,048,576 bytes; a longer one leaves the login.
+static QUERIES: [(usize, &str); 2] = [
+    (1_048_552, "%22sub%22%3A%22u1%22%7D\npending 0\n"),
+    (
+        1_048_553,
+        "\ncallback refused too_long callback\npending 1\n",
+    ),
+];
+
+#[test]
+fn query_limit(rt: HostRuntime) -> Result<(), Fail> {
+    let answer = "&token_status=200&token_type=application/json&token_body=";
+    let rest = format!(in rt.alloc(); "{answer}{TOKENS}\n")?;
+    for (letters, end) in &QUERIES {
+        assert!(rt;
+            ends_in(rt.alloc(), QUERY_FRONT, *letters, rest.as_str(), *end)?,
+            "{letters}"
+        );
+    }
+    Ok(())
+}
+
+// The token answer has at most 1,048,576 bytes.
+static TOKEN_ANSWERS: [(usize, &str); 2] = [
+    (
+        1_048_576,
+        "\ncallback refused token parse kind=syntax&field=\npending 0\n",
+    ),
+    (
+        1_048_577,
+        "\ncallback refused too_long token_answer\npending 0\n",
+    ),
+];
+
+#[test]
+fn token_answer_limit(rt: HostRuntime) -> Result<(), Fail> {
+    for (letters, end) in &TOKEN_ANSWERS {
+        assert!(rt;
+            ends_in(rt.alloc(), TOKENS_FRONT, *letters, "\n", *end)?,
+            "{letters}"
+        );
+    }
+    Ok(())
+}
+
+// So has the answer to the user info request.
+static INFO_ANSWERS: [(usize, &str); 2] = [
+    (
+        1_048_576,
+        "\ncallback refused user_info parse kind=syntax&field=\npending 0\n",
+    ),
+    (
+        1_048_577,
+        "\ncallback refused too_long user_info_answer\npending 0\n",
+    ),
+];
+
+#[test]
+fn info_answer_limit(rt: HostRuntime) -> Result<(), Fail> {
+    for (letters, end) in &INFO_ANSWERS {
+        assert!(rt;
+            ends_in(rt.alloc(), INFO_FRONT, *letters, "\n", *end)?,
+            "{letters}"
+        );
+    }
+    Ok(())
+}
+
 // ---- many logins
 
 const MANY: usize = 10_000;

@@ -1,28 +1,55 @@
-use Rattle.std.proofs.Common.{◌≡◌, Some, refl, ap, ◌∙◌}
+use Rattle.std.proofs.Common.{◌≡◌, Some, refl, sym, ap, subst, ◌∙◌}
+use Rattle.oidc_oauth2.specs.Recorded.{SeenRecorded}
 use Rattle.oidc_oauth2.specs.Transport.{Log}
-use Rattle.oidc_login.specs.Rows.{Run, outcome}
+use Rattle.oidc_login.specs.Errors.{reply_of}
+use Rattle.oidc_login.specs.Events.{called_with}
+use Rattle.oidc_login.specs.Rows.{Run, outcome, callback_store}
 use Rattle.oidc_login.specs.Runs.{attempt}
-use Rattle.oidc_cli.specs.Report.{run_of_callback}
-use Rattle.oidc_cli.proofs.Callbacks.{there_was_memory, recorded_reply, recorded_sent}
+use Rattle.oidc_cli.specs.Types.{types, SeenSignedIn}
+use Rattle.oidc_cli.specs.ReportLines.{HasNoFloats}
+use Rattle.oidc_cli.specs.Report.{call_of_line}
+use Rattle.oidc_cli.proofs.NoFloat.{no_floats}
+use Rattle.oidc_cli.proofs.Callbacks.{holds, if_replied, on_replied, recorded_reply, recorded_sent}
 use Rattle.oidc_cli.proofs.report.call_back.Goals as goal
 
-pub returns : goal.returns
-returns c =
+pub returns-clause-reply : goal.returns-clause-reply
+returns-clause-reply c =
     let query : c.as_bytes.result.now ≡ c.args.line.query = c.as_bytes.ensures.value ∙ ap (λ l. l.query) c.line.view_is in
     let now : c.line.inside.now.nanosecond ≡ c.args.line.now = ap (λ l. l.now) c.line.view_is in
     let left : c.new-http.result.left ≡ c.args.line.answers = c.new-http.ensures.left ∙ ap (λ l. l.answers) c.line.view_is in
-    let meant : outcome (attempt c.args.logins.now c.as_bytes.result.now c.line.inside.now.nanosecond) c.new-http.result.left
-    ≡ run_of_callback c.args.logins.now.client c.args.logins.now.pending c.args.line =
-    rw (query, now, left) refl in
-    let ran = c.in-Err.ensures.ran in
-    let all = there_was_memory c.in-Err.refusal c.in_default.not-Memory ran.all_sent in
-    let reply = there_was_memory c.in-Err.refusal c.in_default.not-Memory ran.reply in
-    let log : Log = record { requests = c.callback.new.http.requests; answers = c.callback.new.http.given } in
-    record {
-      reply = recorded_reply _ _ _ _ ran c.new-http.result.left refl all reply ∙ ap (λ (r : Run). r.reply) meant;
-      sent =
-          recorded_sent _ _ _ _ ran c.new-http.result.left log refl (ap Some (λ i. record { requests = c.new-http.ensures.requests i; answers = c.new-http.ensures.given i })) refl all
-          ∙ ap (λ (r : Run). r.sent) meant;
-      client = c.in-Err.ensures.client;
-      store = rw (← query) (there_was_memory c.in-Err.refusal c.in_default.not-Memory c.in-Err.ensures.left);
-    }
+    let a = attempt c.args.logins.now c.as_bytes.result.now c.line.inside.now.nanosecond in
+    let meant : outcome types a c.new-http.result.left
+    ≡ outcome types (called_with c.args.logins.now.client c.args.logins.now.pending (call_of_line c.args.line)) c.args.line.answers = rw (query, now, left) refl in
+    let ran = c.callback-reply.ensures.ran in
+    if_replied _ _ c.replied_with.ensures.reply c.replied_with.ensures.memory (λ replied is memory.
+    ap reply_of is
+    ∙ recorded_reply _ _ _ _ ran c.new-http.result.left refl (holds _ _ memory ran.all_sent) (holds _ _ memory ran.reply)
+    ∙ ap (λ (r : Run SeenSignedIn). r.reply) meant)
+
+pub returns-clause-sent : goal.returns-clause-sent
+returns-clause-sent c =
+    let query : c.as_bytes.result.now ≡ c.args.line.query = c.as_bytes.ensures.value ∙ ap (λ l. l.query) c.line.view_is in
+    let now : c.line.inside.now.nanosecond ≡ c.args.line.now = ap (λ l. l.now) c.line.view_is in
+    let left : c.new-http.result.left ≡ c.args.line.answers = c.new-http.ensures.left ∙ ap (λ l. l.answers) c.line.view_is in
+    let a = attempt c.args.logins.now c.as_bytes.result.now c.line.inside.now.nanosecond in
+    let meant : outcome types a c.new-http.result.left
+    ≡ outcome types (called_with c.args.logins.now.client c.args.logins.now.pending (call_of_line c.args.line)) c.args.line.answers = rw (query, now, left) refl in
+    let ran = c.callback-reply.ensures.ran in
+    let log : Log = record { requests = c.callback-reply.new.http.requests; answers = c.callback-reply.new.http.given } in
+    if_replied _ _ c.replied_with.ensures.http c.replied_with.ensures.memory (λ replied is memory.
+    ap (λ (h : SeenRecorded). h.requests) is
+    ∙ recorded_sent _ _ _ _ ran c.new-http.result.left log refl (ap Some (λ i. record { requests = c.new-http.ensures.requests i; answers = c.new-http.ensures.given i })) refl
+    (holds _ _ memory ran.all_sent)
+    ∙ ap (λ (r : Run SeenSignedIn). r.sent) meant)
+
+pub returns-clause-no_floats : goal.returns-clause-no_floats
+returns-clause-no_floats c =
+    let ran = c.callback-reply.ensures.ran in
+    if_replied c.replied_with.result (λ replied. HasNoFloats (reply_of replied.reply)) c.replied_with.ensures.reply c.replied_with.ensures.memory (λ replied is memory.
+    subst HasNoFloats (sym (ap reply_of is)) (no_floats _ ran.answers c.callback-reply.result ran.signed_in))
+
+pub returns-clause-store : goal.returns-clause-store
+returns-clause-store c =
+    let query : c.as_bytes.result.now ≡ c.args.line.query = c.as_bytes.ensures.value ∙ ap (λ l. l.query) c.line.view_is in
+    on_replied _ _ c.replied_with.ensures.memory (λ memory.
+    holds _ _ memory c.callback-reply.ensures.left ∙ ap (callback_store c.args.logins.now.pending) query)

@@ -7,10 +7,10 @@ on_ok (Ok x) P p = p
 on_ok (Err e) P p = tt
 
 pub returns-clause-whole : goal.returns-clause-whole
-returns-clause-whole g c = rw (c.in_ok-replied.ensures.reply, c.in_ok-replied.ensures.sent) at c.put_replied.ensures.whole
+returns-clause-whole g c = rw (c.in-Ok.ensures.reply, c.in-Ok.ensures.sent) at (c.put_replied-put.ensures.whole c.in-Ok.ensures.no_floats)
 
 pub returns-clause-begun : goal.returns-clause-begun
-returns-clause-begun g c = rw (c.in_ok-replied.ensures.reply, c.in_ok-replied.ensures.sent) at c.put_replied.ensures.begun
+returns-clause-begun g c = rw (c.in-Ok.ensures.reply, c.in-Ok.ensures.sent) at (c.put_replied-put.ensures.begun c.in-Ok.ensures.no_floats)
 
 pub returns-clause-store : goal.returns-clause-store
-returns-clause-store g c = on_ok _ _ c.in_ok-replied.ensures.store
+returns-clause-store g c = on_ok _ _ c.in-Ok.ensures.store

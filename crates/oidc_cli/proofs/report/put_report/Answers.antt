@@ -2,7 +2,7 @@ use Rattle.std.proofs.Common.{◌<◌, ◌≤◌, length, codes, refl, arith}
 use Rattle.std.specs.FinMap as finite
 use Rattle.oidc_cli.specs.Script.{limit, lines, fault_from}
 use Rattle.oidc_cli.specs.Report.{client_of, rest_of_report}
-use Rattle.oidc_cli.proofs.Passing.{prefix_front, on_err, on_ok_behind, on_err_behind}
+use Rattle.oidc_cli.proofs.Passing.{prefix_front, on_err, on_ok_behind, on_err_behind, risen_before}
 use Rattle.oidc_cli.proofs.Steps.{too_long_report, too_long_fault, fault_alone, no_lines_fault, no_client_fault, with_client_report, with_client_fault}
 use Rattle.oidc_cli.proofs.report.put_report.Goals as goal
 
@@ -87,3 +87,6 @@ returns-clause-begun g c =
     rw e (on_err_behind c.put_steps.result (g.O.Sink.written c.args.sink.now) (g.O.Sink.written c.put_line.new.sink) (g.O.Sink.written c.put_steps.new.sink)
     (codes "client ok\n") (rest_of_report (client_of client) finite.empty 2 (lines c.in-Some.rest.now) (fault_from 2 (lines c.in-Some.rest.now))) c.in_ok-put_line.ensures.whole
     (rw c.client_of-client.ensures at c.put_steps.ensures.begun))
+
+pub returns-clause-blamed : goal.returns-clause-blamed
+returns-clause-blamed g c = λ fault. risen_before _ _ _ c.in_ok-put_line.ensures.counts (c.put_steps.ensures.blamed fault)

@@ -11,6 +11,7 @@ invariant-loop-line g l = record {
       (rest_of_report l.logins.client l.logins.pending l.number (lines l.left) (fault_from 2 (lines l.script)))
       (rest_of_report l.client finite.empty 2 (lines l.script) (fault_from 2 (lines l.script)));
   fault : fault_from l.number (lines l.left) ≡ fault_from 2 (lines l.script);
+  same : l.logins.client ≡ l.client;
   counts : g.O.Sink.faults l.fn.sink ≤ g.O.Sink.faults l.sink;
   numbered : l.number + length l.left ≤ length l.script + 2;
 }

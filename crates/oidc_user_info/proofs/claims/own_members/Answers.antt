@@ -1,4 +1,4 @@
-use Rattle.std.proofs.Common.{All, [], subst, sym}
+use Rattle.std.proofs.Common.{All, subst, sym}
 use Rattle.oidc_readers.specs.WrittenBack.{IsUtf8Member}
 use Rattle.std.proofs.lemmas.List.Elements.{All-nil}
 use Rattle.oidc_user_info.proofs.claims.own_members.Goals as goal

@@ -22,8 +22,8 @@ returns-in-Ok g c =
       cause = tt;
     }
 
-pub returns-in-Err : goal.returns-in-Err
-returns-in-Err g c =
+pub returns : goal.returns
+returns g c =
     let k = meanings g.K.JsonWebKey g.K.KeyUse.JsonWebKeyUse g.JS.JwsSigningAlgorithm g.JS.ClosedVocabulary g.JS.KeyType.ClosedVocabulary in
     let allows = g.N.NonceVerifier.allows c.args.nonce in
     let failure = first_failure k c.args.verifier.now allows c.args.now.nanosecond c.args.self in

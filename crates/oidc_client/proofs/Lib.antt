@@ -1,0 +1,3 @@
+mod Pushed
+mod QueryValues
+mod StandOnce

@@ -1,0 +1,139 @@
+-- A login that was taken out is not there for the next callback.
+use Rattle.std.proofs.Common.{◌≡◌, ◌≤◌, ℕ, ◌+◌, List, [], ◌∷◌, ◌++◌, Bool, true, false, Option, None, Some, Result, Ok, Err, cond, refl, sym, ap, subst, ◌∙◌, arith, inl, inr, ⊎_elim, lit≤}
+use Rattle.std.specs.Prelude.{◌⊎◌, ◌&&◌, is_some, if◌then◌else◌, option_and_then}
+use Rattle.std.specs.FinMap as finite
+use Rattle.std.specs.Ordering.{nat_cmp, eq_by_cmp}
+use Rattle.std.specs.Str.{bytes_eq}
+use Rattle.std.specs.Cmp.Lexicographic.{slice_cmp, bytes_decides}
+use Rattle.std.proofs.lemmas.Cmp.{nat_list_cmp_total}
+use Rattle.std.proofs.lemmas.Map.Text.{is_eq-slice_cmp}
+use Rattle.url.specs.Parts.{Parts}
+use Rattle.oidc_pairs.specs.Pairs.{pairs}
+use Rattle.oidc_oauth2.specs.Messages.{SeenRequest, SeenAnswer}
+use Rattle.oidc_oauth2.specs.TokenAnswers.{is_over_long}
+use Rattle.oidc_login.specs.Client.{SeenClient}
+use Rattle.oidc_login.specs.SiteTypes.{SiteTypes}
+use Rattle.oidc_login.specs.Logins.{SeenLogin, Pending}
+use Rattle.oidc_login.specs.Begins.{Begin, Meant as BeginMeant, begin_reply, begin_store, with_login}
+use Rattle.oidc_login.specs.Rows.{Attempt, Meant, SeenOpened, state_in, login_named_by, without_named, callback_store, opening, opened_run, outcome}
+use Rattle.oidc_login.specs.Causes.{Asks, Cause}
+use Rattle.oidc_login.specs.Events.{Call, Event, begins, calls, called_with, begin_step, callback_step, is_accepted, is_of_state, one_if_any, sending, store_of, SpentOnce}
+use Rattle.oidc_login.proofs.Walks.{Walk}
+use Rattle.oidc_login.proofs.Rows.{opening-walk}
+
+-- ---- stores at one state
+
+same_key : (x y : List ℕ) → eq_by_cmp (slice_cmp nat_cmp) x y ≡ bytes_eq x y
+same_key x y = is_eq-slice_cmp x y
+
+equal : (x y : List ℕ) → bytes_eq x y ≡ true → x ≡ y
+equal x y e = (bytes_decides x y).0 e
+
+not_there : (t : Bool) (found : Option SeenLogin) → found ≡ None → cond t None found ≡ None
+not_there true found none = refl
+not_there false found none = none
+
+get_removed : (m : Pending) (q s : List ℕ) → finite.get m s ≡ None → finite.get (finite.remove m q) s ≡ None
+get_removed m q s none = finite.get-remove nat_list_cmp_total m q s ∙ not_there (eq_by_cmp (slice_cmp nat_cmp) s q) (finite.get m s) none
+
+get_taken : (m : Pending) (q s : List ℕ) → bytes_eq s q ≡ true → finite.get (finite.remove m q) s ≡ None
+get_taken m q s same = finite.get-remove nat_list_cmp_total m q s ∙ ap (λ t. cond t None (finite.get m s)) (same_key s q ∙ same)
+
+get_other : (m : Pending) (q s : List ℕ) (v : SeenLogin) → bytes_eq s q ≡ false → finite.get m s ≡ None → finite.get (finite.insert m q v) s ≡ None
+get_other m q s v other none = finite.get-insert nat_list_cmp_total m q v s ∙ ap (λ t. cond t (Some v) (finite.get m s)) (same_key s q ∙ other) ∙ none
+
+abbrev taken : Pending → Option (List ℕ) → Pending
+taken m found = elim found [ None ↦ m | Some state ↦ finite.remove m state ]
+
+abbrev left_by : Bool → Pending → Option (List ℕ) → Pending
+left_by long m found = if long then m else taken m found
+
+stays_absent : (long : Bool) (m : Pending) (found : Option (List ℕ)) (s : List ℕ) → finite.get m s ≡ None → finite.get (left_by long m found) s ≡ None
+stays_absent true m found s none = none
+stays_absent false m None s none = none
+stays_absent false m (Some q) s none = get_removed m q s none
+
+is_taken : (long : Bool) (m : Pending) (found : Option (List ℕ)) (s : List ℕ) → long ≡ false → is_of_state s found ≡ true → finite.get (left_by long m found) s ≡ None
+is_taken true m found s short same = absurd cc
+is_taken false m None s short same = absurd cc
+is_taken false m (Some q) s short same = get_taken m q s same
+
+none_named : (m : Pending) (found : Option (List ℕ)) (s : List ℕ) → is_of_state s found ≡ true → finite.get m s ≡ None → option_and_then (finite.get m) found ≡ None
+none_named m None s same none = refl
+none_named m (Some q) s same none = ap (finite.get m) (sym (equal s q same)) ∙ none
+
+at_most_one : (sent : List SeenRequest) → one_if_any sent ≤ 1
+at_most_one [] = lit≤ tt
+at_most_one (r ∷ later) = lit≤ tt
+
+-- ---- what a callback sends
+
+module _ {AC GC Key Use : Type 0} (types : SiteTypes AC GC Key Use) (a : Attempt Key) (answers : List SeenAnswer) where
+  abbrev Opens : Meant SeenOpened → Type 0
+  Opens m = Walk (λ o. Asks a o.login o.request) (Cause types a answers) m
+
+  none_sent : (m : Meant SeenOpened) → Opens m → login_named_by a.pending (pairs a.query) ≡ None → one_if_any (opened_run types a.client a.now answers m).sent ≡ 0
+  none_sent (Err e) walk none = refl
+  none_sent (Ok o) walk none = let both : Some o.login ≡ None = sym walk.has_code.names.login_named ∙ none in absurd cc
+
+  sent_none : login_named_by a.pending (pairs a.query) ≡ None → one_if_any (outcome types a answers).sent ≡ 0
+  sent_none none = none_sent (opening a.client a.pending a.query) (opening-walk types a answers) none
+
+  sent_or_short : (m : Meant SeenOpened) → Opens m → (one_if_any (opened_run types a.client a.now answers m).sent ≡ 0) ⊎ (is_over_long a.query ≡ false)
+  sent_or_short (Err e) walk = inl refl
+  sent_or_short (Ok o) walk = inr walk.has_code.names.short_query
+
+  unsent_or_short : (one_if_any (outcome types a answers).sent ≡ 0) ⊎ (is_over_long a.query ≡ false)
+  unsent_or_short = sent_or_short (opening a.client a.pending a.query) (opening-walk types a answers)
+
+-- ---- events
+
+module _ {AC GC Key Use : Type 0} (types : SiteTypes AC GC Key Use) (client : SeenClient Key) (s : List ℕ) where
+  -- what is counted behind a begin with this reply
+  abbrev begun_by : BeginMeant Parts → Pending → Begin → List Event → ℕ
+  begun_by reply m b later =
+      if is_accepted reply && bytes_eq s b.request.state then 0 else sending types client s (begin_store reply m b) later
+
+  begun_absent : (reply : BeginMeant Parts) (same : Bool) (m : Pending) (b : Begin) (later : List Event) → bytes_eq s b.request.state ≡ same → finite.get m s ≡ None
+      → ((n : Pending) → finite.get n s ≡ None → sending types client s n later ≡ 0)
+      → (if is_accepted reply && same then 0 else sending types client s (begin_store reply m b) later) ≡ 0
+  begun_absent (Err e) same m b later is none rest = rest m none
+  begun_absent (Ok url) true m b later is none rest = refl
+  begun_absent (Ok url) false m b later is none rest = rest _ (get_other m b.request.state s _ is none)
+
+  unnamed_sends : (n : Bool) (sent rest : ℕ) → (n ≡ true → sent ≡ 0) → rest ≡ 0 → (if n then sent else 0) + rest ≡ 0
+  unnamed_sends true sent rest none zero = let none_sent = none refl in omega arith
+  unnamed_sends false sent rest none zero = omega arith
+
+  sending_absent : (later : List Event) (m : Pending) → finite.get m s ≡ None → sending types client s m later ≡ 0
+  sending_absent [] m none = refl
+  sending_absent (begins b ∷ later) m none =
+      begun_absent (begin_reply client m b) (bytes_eq s b.request.state) m b later refl none (λ n. sending_absent later n)
+  sending_absent (calls c ∷ later) m none =
+      let a = called_with client m c in
+      unnamed_sends (is_of_state s (state_in (pairs c.query))) _ _
+      (λ same. sent_none types a c.answers (none_named m (state_in (pairs c.query)) s same none))
+      (sending_absent later _ (stays_absent (is_over_long c.query) m (state_in (pairs c.query)) s none))
+
+  begun_once : (t : Bool) (n : ℕ) → n ≤ 1 → (if t then 0 else n) ≤ 1
+  begun_once true n h = lit≤ tt
+  begun_once false n h = h
+
+  called_once : (n : Bool) (sent rest : ℕ) → sent ≤ 1 → rest ≤ 1 → (n ≡ true → (sent ≡ 0) ⊎ (rest ≡ 0)) → (if n then sent else 0) + rest ≤ 1
+  called_once true sent rest a b one = ⊎_elim (λ z. omega arith) (λ z. omega arith) (one refl)
+  called_once false sent rest a b one = omega arith
+
+  sending_once : (later : List Event) (m : Pending) → sending types client s m later ≤ 1
+  sending_once [] m = lit≤ tt
+  sending_once (begins b ∷ later) m =
+      begun_once (is_accepted (begin_reply client m b) && bytes_eq s b.request.state) _ (sending_once later (begin_store (begin_reply client m b) m b))
+  sending_once (calls c ∷ later) m =
+      let a = called_with client m c in
+      called_once (is_of_state s (state_in (pairs c.query))) _ _ (at_most_one (outcome types a c.answers).sent) (sending_once later _)
+      (λ same. ⊎_elim inl
+      (λ short. inr (sending_absent later _ (is_taken (is_over_long c.query) m (state_in (pairs c.query)) s short same)))
+      (unsent_or_short types a c.answers))
+
+module _ {AC GC Key Use : Type 0} (types : SiteTypes AC GC Key Use) where
+  pub spent_once : SpentOnce types
+  spent_once client earlier later b = sending_once types client b.request.state later (store_of types client (earlier ++ begins b ∷ []))

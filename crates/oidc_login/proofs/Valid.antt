@@ -1,0 +1,141 @@
+-- A valid login signs in.
+use Rattle.std.proofs.Common.{◌≡◌, ◌==◌, ℕ, List, [], Bool, true, false, cond, None, Some, Result, Ok, Err, refl, sym, ap, ◌∙◌, ⊎_elim}
+use Rattle.std.specs.Prelude.{not, option_map, if◌then◌else◌, codes}
+use Rattle.std.specs.FinMap as finite
+use Rattle.oidc_oauth2.specs.Messages.{SeenResponse, SeenAnswer}
+use Rattle.oidc_oauth2.specs.HttpUtils.{may_be}
+use Rattle.oidc_oauth2.specs.TokenAnswers.{◌>>=◌, ◌>>◌, ◌when◌, ◌or_as◌, is_over_long, is_empty, may_be_json, tokens_in as tokens_of_ok, status_worth}
+use Rattle.oidc_tokens.specs.UserInfoVerification.{is_expected_subject}
+use Rattle.oidc_tokens.proofs.Theorems.{about_back}
+use Rattle.oidc_user_info.specs.UserInfoClaims.{SeenUserInfoClaims}
+use Rattle.oidc_user_info.specs.InfoAnswers.{Demand, claims_in, from_json, of_object, by_media_type, info_answer}
+use Rattle.oidc_user_info.specs.InfoRequests.{SeenInfoRequest, info_request}
+use Rattle.oidc_user_info.specs.declared.errors.ResponseCause.TheVariants.{Status}
+use Rattle.oidc_user_info.specs.declared.errors.UserInfoError.TheVariants as info
+use Rattle.oidc_client.specs.Client.{info_request_at}
+use Rattle.oidc_login.specs.SiteTypes.{SiteTypes}
+use Rattle.oidc_login.specs.TokenResponse.{Tokens, tokens_or_refusal}
+use Rattle.oidc_login.specs.IdTokens.{SeenIdToken, subject_of}
+use Rattle.oidc_login.specs.SignedIn.{SeenSignedIn}
+use Rattle.oidc_login.specs.UserInfo.{demanded, info_ask}
+use Rattle.oidc_login.specs.Rows.{Attempt, rest_of}
+use Rattle.oidc_login.specs.Causes.{Names, HasCode, Asks, Held, Answered, Reads, Holds, Accepted, Fits, Demands, AsksInfo, InfoAnswered, HoldsInfo, IsSignedIn}
+use Rattle.oidc_login.specs.ValidLogin.{IsTokenAnswer, IsInfoAnswer, IsValidInfo, IsValidLogin}
+use Rattle.oidc_login.specs.Events.{Call, Event, called_with, called, callback_step, store_of, ValidSignsIn}
+use Rattle.oidc_login.specs.declared.demand.UserInfoDemand.{UserInfoDemand}
+use Rattle.oidc_login.proofs.Asked.{made}
+use Rattle.oidc_login.proofs.Causes.{signs_in}
+
+module _ {AC GC Key Use : Type 0} (types : SiteTypes AC GC Key Use) where
+  -- ---- what the two answers are worth
+
+  tokens_worth : (tokens : Tokens AC GC) (r : SeenResponse) → IsTokenAnswer types tokens r → tokens_or_refusal types r ≡ Ok tokens
+  unfolding tokens_or_refusal status_worth tokens_of_ok
+  tokens_worth tokens r x = rw (x.success, x.json, x.some_body, x.read) refl
+
+  info_worth : (subject : List ℕ) (found : SeenUserInfoClaims AC GC) (r : SeenResponse) (demand : Demand Key) → IsInfoAnswer types subject found r
+      → demand.signed ≡ false → demand.verifier.expected_subject ≡ Some subject → info_answer types demand r ≡ Ok found
+  unfolding info_answer by_media_type of_object from_json
+  info_worth subject found r demand x unsigned expected =
+      let same : is_expected_subject demand.verifier.expected_subject found.standard_claims.subject ≡ true =
+      about_back demand.verifier.expected_subject found.standard_claims.subject (λ e is. let own : Some subject ≡ Some e = sym expected ∙ is in x.about ∙ cc) in
+      rw (x.not_too_long, x.success, x.json, unsigned, x.read, same) refl
+
+  module _ (a : Attempt Key) (answers : List SeenAnswer) where
+    -- ---- up to user info
+
+    held : IsValidLogin types a answers → Held AC GC
+    held v = record { login = v.login; tokens = v.tokens; token = v.token }
+
+    fits : (v : IsValidLogin types a answers) → Fits types a answers (held v)
+    unfolding held
+    fits v =
+        let names : Names a v.login = record { short_query = v.short_query; login_named = v.login_named } in
+        let has_code : HasCode a v.login v.code = record { names = names; no_error = v.no_error; one_code = v.one_code } in
+        let asked : Asks a v.login v.request = record { code = v.code; has_code = has_code; request_made = v.request_made } in
+        let answered : Answered types a answers v.login v.response =
+        record { request = v.request; asked = asked; response_came = v.response_came; not_too_long = v.token_answer.not_too_long } in
+        let reads : Reads types a answers v.login v.tokens =
+        record { response = v.response; answered = answered; tokens_in_response = tokens_worth v.tokens v.response v.token_answer } in
+        let holds : Holds types a answers (held v) = record { reads = reads; own_id_token = v.own_id_token } in
+        let accepted : Accepted types a answers (held v) = record { holds = holds; accepts = v.accepted } in
+        record { accepted = accepted; fits_hash = v.fits_hash }
+
+    without_info : (v : IsValidLogin types a answers) → v.login.user_info ≡ None → (signed : SeenSignedIn AC GC) × IsSignedIn types a answers signed
+    unfolding held
+    without_info v none =
+        let x = fits v in (
+          record { id_token = v.token; access_token = v.tokens.access_token; refresh_token = v.tokens.refresh_token; user_info = None },
+          record {
+            held = held v;
+            holds = x.accepted.holds;
+            accepted = x.accepted.accepts;
+            fits_hash = x.fits_hash;
+            own_id_token = refl;
+            own_access_token = refl;
+            own_refresh_token = refl;
+            info = none;
+          },
+        )
+
+    -- ---- with user info
+
+    module _ (v : IsValidLogin types a answers) (demand : UserInfoDemand) (is : v.login.user_info ≡ Some demand)
+        (i : IsValidInfo types a answers demand v.tokens.access_token (subject_of v.token)) where
+      abbrev ask : SeenInfoRequest Key
+      ask = demanded demand (info_request_at a.client v.tokens.access_token (Some (subject_of v.token)) i.endpoint)
+
+      own_ask : info_ask a.client demand v.tokens.access_token (subject_of v.token) ≡ Some ask
+      own_ask =
+          ap (λ o. option_map (λ e. demanded demand (info_request_at a.client v.tokens.access_token (Some (subject_of v.token)) e)) o) i.own_endpoint
+
+      demands : Demands types a answers (held v) ask
+      unfolding held
+      demands = record { fits = fits v; demand = demand; demanded = is; own_ask = own_ask }
+
+      holds_info : HoldsInfo types a answers (held v) i.found
+      unfolding held
+      holds_info =
+          let request = made ask i.header_text i.address in
+          let asked : AsksInfo types a answers (held v) ask request.0 = record { demands = demands; request_made = request.1 } in
+          let answered : InfoAnswered types a answers (held v) ask i.response =
+          record { request = request.0; asked = asked; response_came = i.response_came; not_too_long = i.info_answer.not_too_long } in
+          record {
+            ask = ask;
+            response = i.response;
+            answered = answered;
+            info_in_response = info_worth (subject_of v.token) i.found i.response ask.demand i.info_answer i.unsigned_allowed refl;
+          }
+
+      with_info : (signed : SeenSignedIn AC GC) × IsSignedIn types a answers signed
+      unfolding held
+      with_info =
+          let x = fits v in (
+            record { id_token = v.token; access_token = v.tokens.access_token; refresh_token = v.tokens.refresh_token; user_info = Some i.found },
+            record {
+              held = held v;
+              holds = x.accepted.holds;
+              accepted = x.accepted.accepts;
+              fits_hash = x.fits_hash;
+              own_id_token = refl;
+              own_access_token = refl;
+              own_refresh_token = refl;
+              info = holds_info;
+            },
+          )
+
+    with_demand : (v : IsValidLogin types a answers)
+        → (demand : UserInfoDemand) × (v.login.user_info ≡ Some demand) × IsValidInfo types a answers demand v.tokens.access_token (subject_of v.token)
+        → (signed : SeenSignedIn AC GC) × IsSignedIn types a answers signed
+    with_demand v (demand, is, i) = with_info v demand is i
+
+    pub signed_of_valid : IsValidLogin types a answers → (signed : SeenSignedIn AC GC) × IsSignedIn types a answers signed
+    signed_of_valid v = ⊎_elim (without_info v) (with_demand v) v.info
+
+  -- ---- the law
+
+  pub valid_signs_in : ValidSignsIn types
+  valid_signs_in client earlier c valid =
+      let a = called_with client (store_of types client earlier) c in
+      let v = signed_of_valid a c.answers valid in
+      (v.0, ap called (signs_in types a c.answers v.0 v.1))

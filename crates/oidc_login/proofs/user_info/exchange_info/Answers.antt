@@ -1,0 +1,9 @@
+use Rattle.oidc_login.proofs.Drives as drives
+use Rattle.oidc_login.proofs.user_info.exchange_info.Goals as goal
+
+pub returns-in_default-clause-follows : goal.returns-in_default-clause-follows
+returns-in_default-clause-follows g c = drives.memory_first _ _ _ c.in_default.ensures.exchanged
+
+pub returns-clause-follows : goal.returns-clause-follows
+returns-clause-follows g c =
+    drives.info_answered _ _ _ _ _ _ _ _ c.asked.view_is _ c.in-Ok.ensures.exchanged c.after_info.ensures.gives

@@ -1,0 +1,116 @@
+-- Begins and callbacks, one after another, from the empty store.
+use Rattle.std.specs.Prelude.{◌≡◌, ◌≤◌, ℕ, ℤ, ◌+◌, ◌&&◌, List, [], ◌∷◌, ◌++◌, Bool, true, false, Option, None, Some, Result, Ok, Err, if◌then◌else◌}
+use Rattle.std.specs.FinMap as finite
+use Rattle.std.specs.Str.{bytes_eq}
+use Rattle.url.specs.Parts.{Parts}
+use Rattle.oidc_pairs.specs.Pairs.{pairs}
+use Rattle.oidc_oauth2.specs.Messages.{SeenRequest, SeenAnswer}
+use Rattle.oidc_login.specs.Client.{SeenClient}
+use Rattle.oidc_login.specs.SiteTypes.{SiteTypes}
+use Rattle.oidc_login.specs.Logins.{Pending}
+use Rattle.oidc_login.specs.Begins.{Begin, Meant as BeginMeant, begin_reply, begin_store}
+use Rattle.oidc_login.specs.SignedIn.{SeenSignedIn}
+use Rattle.oidc_login.specs.Rows.{Attempt, Meant, state_in, outcome, callback_store}
+use Rattle.oidc_login.specs.Runs.{start}
+use Rattle.oidc_login.specs.ValidLogin.{IsValidLogin}
+
+-- a callback: its query, its moment, and the answers that its requests get
+pub record Call : Type 0 where
+  pub query : List ℕ
+  pub now : ℤ
+  pub answers : List SeenAnswer
+
+pub data Event : Type 0 where
+  begins : Begin → Event
+  calls : Call → Event
+
+pub data Reply (AC GC : Type 0) : Type 0 where
+  begun : BeginMeant Parts → Reply AC GC
+  called : Meant (SeenSignedIn AC GC) → Reply AC GC
+
+-- the reply to an event, the requests that it sends, and the store behind it
+pub record Step (AC GC : Type 0) : Type 0 where
+  pub reply : Reply AC GC
+  pub sent : List SeenRequest
+  pub pending : Pending
+
+abbrev pub called_with : {Key : Type 0} → SeenClient Key → Pending → Call → Attempt Key
+called_with client pending c = start client pending c.query c.now
+
+module _ {AC GC Key Use : Type 0} (types : SiteTypes AC GC Key Use) (client : SeenClient Key) where
+  abbrev pub begin_step : Pending → Begin → Step AC GC
+  begin_step pending b = record {
+    reply = begun (begin_reply client pending b);
+    sent = [];
+    pending = begin_store (begin_reply client pending b) pending b;
+  }
+
+  abbrev pub callback_step : Pending → Call → Step AC GC
+  callback_step pending c =
+      let run = outcome types (called_with client pending c) c.answers in record {
+        reply = called run.reply;
+        sent = run.sent;
+        pending = callback_store pending c.query;
+      }
+
+  abbrev pub step : Pending → Event → Step AC GC
+  step pending (begins b) = begin_step pending b
+  step pending (calls c) = callback_step pending c
+
+  -- the steps of events, and the store behind them
+  abbrev pub steps_from : Pending → List Event → List (Step AC GC)
+  steps_from pending [] = []
+  steps_from pending (event ∷ later) = step pending event ∷ steps_from (step pending event).pending later
+
+  abbrev pub store_from : Pending → List Event → Pending
+  store_from pending [] = pending
+  store_from pending (event ∷ later) = store_from (step pending event).pending later
+
+  abbrev pub run_of : List Event → List (Step AC GC)
+  run_of events = steps_from finite.empty events
+
+  abbrev pub store_of : List Event → Pending
+  store_of events = store_from finite.empty events
+
+-- ---- the callbacks of one begin
+
+-- a begin is accepted
+abbrev pub is_accepted : BeginMeant Parts → Bool
+is_accepted (Ok url) = true
+is_accepted (Err error) = false
+
+-- a query has one state, and it is this
+abbrev pub is_of_state : List ℕ → Option (List ℕ) → Bool
+is_of_state state None = false
+is_of_state state (Some found) = bytes_eq state found
+
+abbrev pub one_if_any : List SeenRequest → ℕ
+one_if_any [] = 0
+one_if_any (request ∷ later) = 1
+
+module _ {AC GC Key Use : Type 0} (types : SiteTypes AC GC Key Use) where
+  -- how many callbacks of this state send anything, before the next accepted begin of it
+  abbrev pub sending : SeenClient Key → List ℕ → Pending → List Event → ℕ
+  sending client state pending [] = 0
+  sending client state pending (begins b ∷ later) =
+      if is_accepted (begin_reply client pending b) && bytes_eq state b.request.state then 0
+      else sending client state (begin_step types client pending b).pending later
+  sending client state pending (calls c ∷ later) =
+      (if is_of_state state (state_in (pairs c.query)) then one_if_any (callback_step types client pending c).sent else 0)
+      + sending client state (callback_step types client pending c).pending later
+
+  -- ---- the laws
+
+  -- Of the callbacks of one begin at most one sends anything, whatever came before and comes between.
+  abbrev pub SpentOnce : Type 0
+  SpentOnce =
+      (client : SeenClient Key) (earlier later : List Event) (b : Begin)
+      → sending client b.request.state (store_of types client (earlier ++ begins b ∷ [])) later ≤ 1
+
+  -- A callback that is a valid login is signed in, whatever came before.
+  abbrev pub ValidSignsIn : Type 0
+  ValidSignsIn =
+      (client : SeenClient Key) (earlier : List Event) (c : Call)
+      → IsValidLogin types (called_with client (store_of types client earlier) c) c.answers
+      → (signed : SeenSignedIn AC GC)
+      × ((callback_step types client (store_of types client earlier) c).reply ≡ called (Ok signed))

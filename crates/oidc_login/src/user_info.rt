@@ -1,0 +1,247 @@
+// The steps of a callback on user info, where a login demands it.
+
+ghost use Rattle.std.specs.Prelude.{◌≡◌, ◌≤◌, Some, IfErr, IfOk, false, true};
+ghost use Rattle.oidc_oauth2.specs.Messages.{seen_response};
+ghost use Rattle.oidc_oauth2.specs.Exchanges.{known};
+ghost use Rattle.oidc_login.specs.Errors.{faulted, is_spent_by, Gives};
+ghost use Rattle.oidc_login.specs.SiteTypes.{site_types};
+ghost use Rattle.oidc_login.specs.UserInfo as spec;
+ghost use Rattle.oidc_login.specs.Rows as rows;
+ghost use Rattle.oidc_login.specs.Runs.{IsBlamed};
+ghost use Rattle.oidc_login.specs.Steps.{answer_of, Faults, Follows};
+
+use crate::client::MetadataClient;
+use crate::demand::UserInfoDemand;
+use crate::errors::LoginError;
+use crate::exchanges::exchange;
+use crate::signed_in::SignedIn;
+use oidc_claims::{AdditionalClaims, GenderClaim};
+use oidc_keys::JsonWebKey;
+use oidc_oauth2::{HttpRequest, HttpResponse, SyncHttpClient};
+use oidc_types::{
+    AccessToken, CoreJweContentEncryptionAlgorithm, CoreJwsSigningAlgorithm, SubjectIdentifier,
+};
+use oidc_user_info::{InfoOther, PrepareInfoError, UserInfoClaims, UserInfoError, UserInfoRequest};
+use std::alloc::{AllocError, Global};
+use std::marker::Model;
+
+// A request for user info over the algorithms of the standards.
+type InfoRequest<'a, K> = UserInfoRequest<'a, CoreJweContentEncryptionAlgorithm, K>;
+
+// What is asked for, and the request for it.
+#[derive(Drop)]
+pub(crate) struct Asked<'a, K: JsonWebKey> {
+    pub(crate) ask: InfoRequest<'a, K>,
+    pub(crate) request: HttpRequest,
+}
+
+impl<'a, K: JsonWebKey> Model for Asked<'a, K> {
+    ghost use Rattle.oidc_login.specs.Rows.{SeenAsked};
+
+    ghost Value = { SeenAsked K };
+
+    ghost view = { λ a. record { ask = a.ask; request = a.request } };
+}
+
+// A request with the four values of a demand.
+fn demanded<'a, K: JsonWebKey>(
+    demand: UserInfoDemand,
+    ask: InfoRequest<'a, K>,
+) -> InfoRequest<'a, K>
+    ensures { result ≡ spec.demanded demand ask.entry }
+{
+    ask.require_signed_response(demand.signed)
+        .require_issuer_match(demand.issuer_match)
+        .require_audience_match(demand.audience_match)
+        .set_response_type(demand.response_type)
+}
+
+// Copies of a user's access token and subject.
+fn copies<AC: AdditionalClaims, GC: GenderClaim>(
+    alloc: Global,
+    user: &SignedIn<AC, GC>,
+) -> Result<(AccessToken, SubjectIdentifier), AllocError>
+    ensures access_token { IfOk result (λ copies. copies.0 ≡ user.now.access_token) }
+    ensures subject { IfOk result
+        (λ copies. copies.1 ≡ user.now.id_token.payload.standard_claims.subject) }
+{
+    let access_token = user.access_token().clone_in(alloc)?;
+    let subject = user.claims().subject().clone_in(alloc)?;
+    Ok((access_token, subject))
+}
+
+// The request, where it can be made.
+fn prepared<'a, K: JsonWebKey, E>(
+    alloc: Global,
+    ask: InfoRequest<'a, K>,
+) -> Result<Asked<'a, K>, LoginError<E>>
+    ensures gives { Gives result (rows.prepared ask.entry) }
+    ensures no_fault { IfErr result (λ e. faulted e ≡ false) }
+    ensures spent { is_spent_by result ≡ true }
+{
+    match ask.prepare(alloc) {
+        Ok(request) => Ok(Asked { ask, request }),
+        Err(PrepareInfoError::Bearer) => {
+            Err(LoginError::UserInfo(UserInfoError::Other(InfoOther::Bearer)))
+        }
+        Err(PrepareInfoError::Uri) => {
+            Err(LoginError::UserInfo(UserInfoError::Other(InfoOther::Uri)))
+        }
+        Err(PrepareInfoError::Memory) => Err(LoginError::Memory { spent: true }),
+    }
+}
+
+// The rows before the user info request.
+#[tactic(auto, unfolding(crate::specs::Rows::asking))]
+pub(crate) fn asking<
+    'a,
+    AC: AdditionalClaims,
+    GC: GenderClaim,
+    K: JsonWebKey<SigningAlgorithm = CoreJwsSigningAlgorithm>,
+    E,
+>(
+    alloc: Global,
+    client: &'a MetadataClient<AC, GC, K>,
+    demand: UserInfoDemand,
+    user: &SignedIn<AC, GC>,
+) -> Result<Asked<'a, K>, LoginError<E>>
+    ensures gives { Gives result (rows.asking client.now demand user.now) }
+    ensures no_fault { IfErr result (λ e. faulted e ≡ false) }
+    ensures spent { is_spent_by result ≡ true }
+{
+    let Ok((access_token, subject)) = copies(alloc, user) else {
+        return Err(LoginError::Memory { spent: true });
+    };
+    match client.user_info(access_token, Some(subject)) {
+        Ok(ask) => prepared(alloc, demanded(demand, ask)),
+        Err(_) => Err(LoginError::UserInfo(UserInfoError::Other(InfoOther::Uri))),
+    }
+}
+
+// The rows on the response to the user info request.
+#[tactic(auto, unfolding(crate::specs::Rows::info_in))]
+fn info_in<
+    AC: AdditionalClaims,
+    GC: GenderClaim,
+    K: JsonWebKey<SigningAlgorithm = CoreJwsSigningAlgorithm>,
+    E,
+>(
+    alloc: Global,
+    ask: InfoRequest<'_, K>,
+    response: HttpResponse,
+) -> Result<UserInfoClaims<AC, GC>, LoginError<E>>
+    ensures gives { let types = site_types AC.read_of GC.read_of
+        K.JsonWebKey K.KeyUse.JsonWebKeyUse in
+        Gives result (rows.info_in types ask.entry.demand (seen_response response)) }
+    ensures no_fault { IfErr result (λ e. faulted e ≡ false) }
+    ensures spent { is_spent_by result ≡ true }
+{
+    match ask.answer(alloc, response) {
+        Ok(found) => Ok(found),
+        Err(error) => Err(LoginError::of_info(error)),
+    }
+}
+
+// The rows after the user info request.
+#[tactic(auto, unfolding(crate::specs::Rows::after_info))]
+pub(crate) fn after_info<
+    AC: AdditionalClaims,
+    GC: GenderClaim,
+    K: JsonWebKey<SigningAlgorithm = CoreJwsSigningAlgorithm>,
+    E,
+>(
+    alloc: Global,
+    ask: InfoRequest<'_, K>,
+    user: SignedIn<AC, GC>,
+    answer: Result<HttpResponse, E>,
+) -> Result<SignedIn<AC, GC>, LoginError<E>>
+    ensures gives { let types = site_types AC.read_of GC.read_of
+        K.JsonWebKey K.KeyUse.JsonWebKeyUse in
+        Gives result (rows.after_info types ask.entry.demand user (answer_of answer)) }
+    ensures fault { Faults (answer_of answer) result }
+    ensures spent { is_spent_by result ≡ true }
+{
+    let response = match answer {
+        Ok(response) => response,
+        Err(error) => {
+            drop(ask);
+            drop(user);
+            return Err(LoginError::UserInfo(UserInfoError::Request(error)));
+        }
+    };
+    match info_in(alloc, ask, response) {
+        Ok(found) => Ok(user.with_user_info(found)),
+        Err(error) => {
+            drop(user);
+            Err(error)
+        }
+    }
+}
+
+// Hands the user info request over, and judges its answer.
+fn exchange_info<
+    AC: AdditionalClaims,
+    GC: GenderClaim,
+    K: JsonWebKey<SigningAlgorithm = CoreJwsSigningAlgorithm>,
+    H: SyncHttpClient,
+>(
+    alloc: Global,
+    http: &mut H,
+    asked: Asked<'_, K>,
+    user: SignedIn<AC, GC>,
+) -> Result<SignedIn<AC, GC>, LoginError<H::Error>>
+    requires { H.ready http.old }
+    ensures again { H.ready http.new }
+    ensures follows { let types = site_types AC.read_of GC.read_of
+        K.JsonWebKey K.KeyUse.JsonWebKeyUse in
+        let before = known (H.log http.old) (H.script http.old) in
+        let after = known (H.log http.new) (H.script http.new) in
+        Follows (λ answers. rows.asked_run types user answers (Ok asked.entry)) before after result }
+    ensures spent { is_spent_by result ≡ true }
+    ensures blamed { IsBlamed (H.faults http.old) (H.faults http.new) result }
+    ensures never_falls { H.faults http.old ≤ H.faults http.new }
+{
+    let Asked { ask, request } = asked;
+    let Ok(answer) = exchange(alloc, http, request) else {
+        drop(ask);
+        drop(user);
+        return Err(LoginError::Memory { spent: true });
+    };
+    after_info(alloc, ask, user, answer)
+}
+
+// Asks for user info about a user who is signed in but for that, where the login demands it.
+pub(crate) fn ask_info<
+    AC: AdditionalClaims,
+    GC: GenderClaim,
+    K: JsonWebKey<SigningAlgorithm = CoreJwsSigningAlgorithm>,
+    H: SyncHttpClient,
+>(
+    alloc: Global,
+    client: &MetadataClient<AC, GC, K>,
+    http: &mut H,
+    demand: Option<UserInfoDemand>,
+    user: SignedIn<AC, GC>,
+) -> Result<SignedIn<AC, GC>, LoginError<H::Error>>
+    requires { H.ready http.old }
+    ensures again { H.ready http.new }
+    ensures follows { let types = site_types AC.read_of GC.read_of
+        K.JsonWebKey K.KeyUse.JsonWebKeyUse in
+        let before = known (H.log http.old) (H.script http.old) in
+        let after = known (H.log http.new) (H.script http.new) in
+        Follows (rows.info_run types client.now demand user) before after result }
+    ensures spent { is_spent_by result ≡ true }
+    ensures blamed { IsBlamed (H.faults http.old) (H.faults http.new) result }
+    ensures never_falls { H.faults http.old ≤ H.faults http.new }
+{
+    match demand {
+        None => Ok(user),
+        Some(demand) => match asking(alloc, client, demand, &user) {
+            Ok(asked) => exchange_info(alloc, http, asked, user),
+            Err(error) => {
+                drop(user);
+                Err(error)
+            }
+        },
+    }
+}

@@ -1,0 +1,60 @@
+//! What errors of logins print.
+
+use cases::{Case, CaseError, one_of};
+use oidc_login::{BeginError, LoginError, NewLoginsError, TooLong};
+use oidc_members::FieldName;
+use oidc_oauth2::{Fault, RequestTokenError};
+use oidc_tokens::ClaimsVerificationError;
+use oidc_types::{CoreAuthErrorResponseType, SigningError};
+use oidc_user_info::UserInfoError;
+use std::alloc::Global;
+
+const PLACES: [TooLong; 3] = [
+    TooLong::Callback,
+    TooLong::TokenAnswer,
+    TooLong::UserInfoAnswer,
+];
+
+const STORES: [NewLoginsError; 1] = [NewLoginsError::TokenEndpoint];
+
+const BEGINS: [BeginError; 7] = [
+    BeginError::Flow,
+    BeginError::ClientId,
+    BeginError::Verifier,
+    BeginError::UserInfoEndpoint,
+    BeginError::Pending,
+    BeginError::TooLong,
+    BeginError::Memory,
+];
+
+/// `display`: what the value of a variant prints. A variant that holds something holds what stands in
+/// the lists above, or in the function below.
+pub(crate) fn display(alloc: Global, case: &Case) -> Result<String, CaseError> {
+    case.check(&["type", "variant"])?;
+    let variant = case.value("variant");
+    match case.value("type") {
+        "BeginError" => one_of(alloc, &BEGINS, variant),
+        "LoginError" => login_error(alloc, variant),
+        "NewLoginsError" => one_of(alloc, &STORES, variant),
+        "TooLong" => one_of(alloc, &PLACES, variant),
+        _ => Err(CaseError::NoCase),
+    }
+}
+
+fn login_error(alloc: Global, variant: &str) -> Result<String, CaseError> {
+    let none = FieldName::new(String::from_str(alloc, "ES256")?);
+    let all: [LoginError<Fault>; 11] = [
+        LoginError::TooLong(TooLong::TokenAnswer),
+        LoginError::State,
+        LoginError::Provider(CoreAuthErrorResponseType::AccessDenied),
+        LoginError::Callback,
+        LoginError::Token(RequestTokenError::Request(Fault)),
+        LoginError::NoIdToken,
+        LoginError::Claims(ClaimsVerificationError::Expired),
+        LoginError::Signing(SigningError::UnsupportedAlg(none)),
+        LoginError::TokenHash,
+        LoginError::UserInfo(UserInfoError::Request(Fault)),
+        LoginError::Memory { spent: false },
+    ];
+    one_of(alloc, &all, variant)
+}

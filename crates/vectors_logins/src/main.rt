@@ -1,0 +1,16 @@
+//! The program `vectors_logins`: cases of whole logins as lines of text.
+//!
+//! The page of `cases` has the rules of lines, README.md the operations.
+#![tactic(auto)]
+
+mod displays;
+mod operations;
+mod scripts;
+
+use crate::operations::Operation;
+use cases::{answer_lines, exit_code};
+use std::process::ExitCode;
+
+fn main(rt: HostRuntime) -> ExitCode {
+    exit_code(answer_lines::<Operation, HostRuntime>(&rt))
+}

@@ -1,0 +1,22 @@
+//! The program `vectors_tokens`: cases of ID tokens, user info and the typed client as lines of text.
+//!
+//! The page of `cases` has the rules of lines, README.md the operations.
+#![tactic(auto)]
+
+mod authorization;
+mod displays;
+mod operations;
+mod responses;
+mod tokens;
+mod user_info;
+mod verifier_keys;
+mod verifiers;
+mod words;
+
+use crate::operations::Operation;
+use cases::{answer_lines, exit_code};
+use std::process::ExitCode;
+
+fn main(rt: HostRuntime) -> ExitCode {
+    exit_code(answer_lines::<Operation, HostRuntime>(&rt))
+}
