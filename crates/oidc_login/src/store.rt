@@ -1,6 +1,6 @@
-// The logins that are pending, in the order in which they began.
+// The logins that are pending, by their states.
 
-ghost use Rattle.std.specs.Prelude.{◌≡◌, OnOk, OnErr, IfSome, IsTrue, position, bytes_eq, None};
+ghost use Rattle.std.specs.Prelude.{◌≡◌, OnOk, OnErr, IfSome, IsTrue, None};
 ghost use Rattle.std.specs.String.{string_bytes};
 ghost use Rattle.std.specs.FinMap as finite;
 ghost use Rattle.oidc_oauth2.specs.Pkce.{is_verifier};
@@ -9,6 +9,7 @@ ghost use Rattle.oidc_login.specs.Logins.{HasVerifiers};
 use crate::demand::UserInfoDemand;
 use oidc_types::{Nonce, PkceCodeVerifier, RedirectUrl};
 use std::alloc::{AllocError, Global};
+use std::collections::HashMap;
 use std::marker::Model;
 
 // What is kept of a login beside its state.
@@ -35,68 +36,58 @@ impl Model for Login {
     } };
 }
 
-// A login under its state.
-#[derive(Drop)]
-struct Entry {
-    state: String,
-    login: Login,
-}
-
-// The pending logins. No state stands twice, and each verifier has 43 to 128 bytes.
+// The pending logins, by their states. Each verifier has 43 to 128 bytes.
 #[derive(Drop)]
 pub(crate) struct Store {
-    entries: Vec<Entry>,
+    logins: HashMap<String, Login>,
 }
 
 impl Model for Store {
-    ghost use Rattle.oidc_login.specs.Logins.{Pending, pending_code};
+    ghost use Rattle.oidc_login.specs.Logins.{Pending, pending_code, HasVerifiers};
 
     ghost Value = { Pending };
 
     ghost coded = { pending_code };
 
-    ghost use Rattle.oidc_login.specs.Store.{kept, IsStored};
+    ghost use Rattle.oidc_login.specs.Store.{kept};
 
-    ghost view = { λ s. kept s.entries.items };
+    ghost view = { λ s. kept s.logins };
 
-    ghost invariant = { λ s. IsStored s.entries.items };
+    ghost invariant = { λ s. HasVerifiers (kept s.logins) };
 }
 
 impl Store {
     // The store without logins.
+    #[tactic(auto, using(crate::proofs::Entries::nothing_kept))]
     pub(crate) fn new(alloc: Global) -> Self
         ensures empty { result ≡ finite.empty }
         ensures verifiers { HasVerifiers result }
     {
         Store {
-            entries: Vec::new(alloc),
+            logins: HashMap::new(alloc),
         }
     }
 
     // How many logins are pending.
+    #[tactic(auto, using(crate::proofs::Entries::len_kept))]
     pub(crate) fn len(&self) -> usize
         ensures count { result ≡ finite.len self.now }
         ensures verifiers { HasVerifiers self.now }
     {
-        self.entries.len()
-    }
-
-    // Where a state stands.
-    fn place_of(entries: &[Entry], state: &str) -> Option<usize>
-        ensures { result ≡ position (λ e. bytes_eq (string_bytes e.state) state.now) entries.now }
-    {
-        entries.iter().position(|e| e.state.as_str() == state)
+        self.logins.len()
     }
 
     // Whether a login of this state is pending.
+    #[tactic(auto, using(crate::proofs::Entries::get_kept))]
     pub(crate) fn contains(&self, state: &str) -> bool
         ensures found { result ≡ finite.contains_key self.now state.now }
         ensures verifiers { HasVerifiers self.now }
     {
-        Store::place_of(&self.entries, state).is_some()
+        self.logins.contains_key(state)
     }
 
     // Adds a login under a state that isn't pending. After an error the store is as it was.
+    #[tactic(auto, using(crate::proofs::Entries::kept_insert))]
     pub(crate) fn insert(&mut self, state: String, login: Login) -> Result<(), AllocError>
         requires state { finite.get self.old (string_bytes state) ≡ None }
         requires verifier { IsTrue (is_verifier login.verifier) }
@@ -104,18 +95,18 @@ impl Store {
         ensures err { OnErr result (self.new ≡ self.old) }
         ensures verifiers { HasVerifiers self.new }
     {
-        self.entries.push(Entry { state, login })?;
+        self.logins.insert(state, login)?;
         Ok(())
     }
 
     // Takes the login of a state out. This takes no memory.
+    #[tactic(auto, using(crate::proofs::Entries::get_kept, crate::proofs::Entries::kept_remove))]
     pub(crate) fn take(&mut self, state: &str) -> Option<Login>
         ensures login { result ≡ finite.get self.old state.now }
         ensures verifier { IfSome result (λ l. IsTrue (is_verifier l.verifier)) }
         ensures rest { self.new ≡ finite.remove self.old state.now }
         ensures verifiers { HasVerifiers self.new }
     {
-        let at = Store::place_of(&self.entries, state)?;
-        Some(self.entries.remove(at).login)
+        self.logins.remove(state)
     }
 }
