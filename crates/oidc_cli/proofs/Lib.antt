@@ -2,7 +2,6 @@ pub mod Listed
 pub mod Taking
 pub mod Writing
 pub mod Passing
-pub mod OneWord
 pub mod Cuts
 pub mod Algorithms
 pub mod Numbers
@@ -12,3 +11,5 @@ pub mod NoFloat
 pub mod Callbacks
 pub mod Steps
 pub mod Statuses
+pub mod DrillTexts
+pub mod Drills

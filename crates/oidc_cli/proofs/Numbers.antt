@@ -10,30 +10,31 @@ use Rattle.std.proofs.lemmas.Str.Parse.{IsNumeralModel, numerals_by_value, tells
 use Rattle.http.specs.StatusCode.{IsStatusCode}
 use Rattle.oidc_readers.specs.Moments.{moment_at}
 use Rattle.oidc_cli.specs.Values.{decimal_of, moment_of_text, status_code_of}
+use Rattle.oidc_cli.specs.Commands.{in_drill, drill_count}
 
 numerals : IsNumeralModel (λ ds. all_ascii_digits ds ≡ true) (digits_value 10)
 numerals = numerals_by_value _ tells_all_ascii_digits
 
--- the moment at the number that these digits write
-picked : {E : Type 0} (Fits : Type 0) (f : ℕ → ℤ) (ds : List ℕ) (some digits : Bool) (r : Result ℤ E)
+-- what is meant by the number that these digits write
+picked : {E X A : Type 0} (meant : X → Option A) (Fits : Type 0) (f : ℕ → X) (ds : List ℕ) (some digits : Bool) (r : Result X E)
     → (0 < length ds → some ≡ true) → (some ≡ true → 0 < length ds)
     → OkIff r ((digits ≡ true) × (0 < length ds) × Fits) (f (digits_value 10 ds))
-    → (¬ Fits → moment_at (f (digits_value 10 ds)) ≡ None)
-    → option_and_then moment_at (result_ok r)
-    ≡ option_and_then moment_at (option_map f (cond (some && digits) (Some (digits_value 10 ds)) None))
-picked Fits f ds true true (Ok z) to from read far = ap moment_at read.1
-picked Fits f ds true false (Ok z) to from read far = absurd (false≢true read.0.0)
-picked Fits f ds false digits (Ok z) to from read far = absurd (false≢true (to read.0.1))
-picked Fits f ds true true (Err e) to from read far = sym (far (λ fits. read (refl, from refl, fits)))
-picked Fits f ds true false (Err e) to from read far = refl
-picked Fits f ds false digits (Err e) to from read far = refl
+    → (¬ Fits → meant (f (digits_value 10 ds)) ≡ None)
+    → option_and_then meant (result_ok r)
+    ≡ option_and_then meant (option_map f (cond (some && digits) (Some (digits_value 10 ds)) None))
+picked meant Fits f ds true true (Ok z) to from read far = ap meant read.1
+picked meant Fits f ds true false (Ok z) to from read far = absurd (false≢true read.0.0)
+picked meant Fits f ds false digits (Ok z) to from read far = absurd (false≢true (to read.0.1))
+picked meant Fits f ds true true (Err e) to from read far = sym (far (λ fits. read (refl, from refl, fits)))
+picked meant Fits f ds true false (Err e) to from read far = refl
+picked meant Fits f ds false digits (Err e) to from read far = refl
 
-picked_digits : {E : Type 0} (Fits : Type 0) (f : ℕ → ℤ) (ds : List ℕ) (r : Result ℤ E)
+picked_digits : {E X A : Type 0} (meant : X → Option A) (Fits : Type 0) (f : ℕ → X) (ds : List ℕ) (r : Result X E)
     → OkIff r ((all_ascii_digits ds ≡ true) × (0 < length ds) × Fits) (f (digits_value 10 ds))
-    → (¬ Fits → moment_at (f (digits_value 10 ds)) ≡ None)
-    → option_and_then moment_at (result_ok r) ≡ option_and_then moment_at (option_map f (decimal_of ds))
-picked_digits Fits f ds r read far =
-    picked Fits f ds (nat_lt 0 (length ds)) (all_ascii_digits ds) r (λ h. grind (arith, nat_tests)) (λ h. grind (arith, nat_tests)) read far
+    → (¬ Fits → meant (f (digits_value 10 ds)) ≡ None)
+    → option_and_then meant (result_ok r) ≡ option_and_then meant (option_map f (decimal_of ds))
+picked_digits meant Fits f ds r read far =
+    picked meant Fits f ds (nat_lt 0 (length ds)) (all_ascii_digits ds) r (λ h. grind (arith, nat_tests)) (λ h. grind (arith, nat_tests)) read far
 
 far_after : (n : ℕ) → ¬ (n < 2 ^ 63) → moment_at (pos n) ≡ None
 far_after n big = let far : 253_402_207_200 < n = omega arith in grind (arith, nat_tests)
@@ -47,17 +48,17 @@ by_sign : {E : Type 0} (b : ℕ) (text : List ℕ) (r : Result ℤ E) (minus : B
     → option_and_then moment_at (result_ok r)
     ≡ option_and_then moment_at (cond minus (option_map (λ n. neg_ℤ (pos n)) (decimal_of text)) (option_map pos (decimal_of (b ∷ text))))
 by_sign b text r true minus plain read =
-    picked_digits (digits_value 10 text ≤ 2 ^ 63) (λ n. neg_ℤ (pos n)) text r
+    picked_digits moment_at (digits_value 10 text ≤ 2 ^ 63) (λ n. neg_ℤ (pos n)) text r
     (parse_signed_minus numerals w64 (b ∷ text) r read (grind (arith, nat_tests))) (far_before (digits_value 10 text))
 by_sign b text r false minus plain read =
-    picked_digits (digits_value 10 (b ∷ text) < 2 ^ 63) pos (b ∷ text) r
+    picked_digits moment_at (digits_value 10 (b ∷ text) < 2 ^ 63) pos (b ∷ text) r
     (parse_signed_plain numerals w64 (b ∷ text) r read (grind (arith, nat_tests)) (grind (arith, nat_tests))) (far_after (digits_value 10 (b ∷ text)))
 
 pub parsed_seconds : {E : Type 0} (text : List ℕ) (r : Result ℤ E) → (slice_index text 0 == 43) ≡ false
     → ParsesSigned w64 10 text r → option_and_then moment_at (result_ok r) ≡ moment_of_text text
 unfolding moment_of_text
 parsed_seconds [] r plain read =
-    picked_digits (0 < 2 ^ 63) pos [] r (parse_signed_plain numerals w64 [] r read (omega arith) (omega arith)) (far_after 0)
+    picked_digits moment_at (0 < 2 ^ 63) pos [] r (parse_signed_plain numerals w64 [] r read (omega arith) (omega arith)) (far_after 0)
 parsed_seconds (b ∷ text) r plain read = by_sign b text r (b == 45) refl plain read
 
 no_number : (some : Bool) (n : ℕ) → cond (some && false) (Some n) None ≡ None
@@ -131,3 +132,37 @@ read_status {F} E text n r three plain read code =
     let small : n < 1000 = rw own.1 (three_digits text three own.0.0) in
     code_of n r small code
     ∙ rw own.1 (ap (λ found. status_from true found) (sym number) ∙ ap (λ n. status_from (n == 3) (decimal_of text)) (sym three))
+
+-- ---- the logins of a drill
+
+far_count : (n : ℕ) → ¬ (n < 2 ^ 16) → in_drill n ≡ None
+far_count n big = let far : 4096 < n = omega arith in grind (arith, nat_tests)
+
+same_number : (found : Option ℕ) → option_map (λ n. n) found ≡ found
+same_number None = refl
+same_number (Some n) = refl
+
+begun_by : (text : List ℕ) (begins : Bool) → (slice_index text 0 == 48) ≡ begins
+    → (if begins then None else option_and_then in_drill (decimal_of text)) ≡ drill_count text
+unfolding drill_count
+begun_by text begins is = ap (λ b. if b then None else option_and_then in_drill (decimal_of text)) (sym is)
+
+pub zero_is_no_count : (text : List ℕ) → (slice_index text 0 == 48) ≡ true → None ≡ drill_count text
+zero_is_no_count text is = begun_by text true is
+
+either_none : (begins : Bool) → None ≡ (if begins then None else option_and_then in_drill None)
+either_none true = refl
+either_none false = refl
+
+pub plus_is_no_count : (text : List ℕ) → (slice_index text 0 == 43) ≡ true → None ≡ drill_count text
+unfolding drill_count
+plus_is_no_count [] plus = refl
+plus_is_no_count (b ∷ text) plus =
+    let is : b ≡ 43 = grind (arith, nat_tests) in
+    rw is (either_none (slice_index (43 ∷ text) 0 == 48) ∙ ap (λ n. if slice_index (43 ∷ text) 0 == 48 then None else option_and_then in_drill n) (sym (plus_is_no_number text)))
+
+pub parsed_count : {E : Type 0} (text : List ℕ) (r : Result ℕ E) → (slice_index text 0 == 48) ≡ false → (slice_index text 0 == 43) ≡ false
+    → ParsesUnsigned 16 10 text r → option_and_then in_drill (result_ok r) ≡ drill_count text
+parsed_count text r nonzero plain read =
+    picked_digits in_drill (digits_value 10 text < 2 ^ 16) (λ n. n) text r (parse_plain numerals 16 text r read (grind (arith, nat_tests))) (far_count (digits_value 10 text))
+    ∙ ap (option_and_then in_drill) (same_number (decimal_of text)) ∙ begun_by text false nonzero

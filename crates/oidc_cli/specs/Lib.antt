@@ -1,5 +1,5 @@
--- What the contracts of this crate cite: first what stands outside, then a script, then its report and the
--- statuses. The words of `run` are passed on, so that a caller need not know the files.
+-- What the contracts of this crate cite: first what stands outside, then a script, then its report, the drill, the
+-- words and the statuses. The words of `run` are passed on, so that a caller need not know the files.
 pub mod Calls
 pub mod Sources
 pub mod Sinks
@@ -9,10 +9,14 @@ pub mod Script
 pub mod Types
 pub mod ReportLines
 pub mod Report
+pub mod Drill
+pub mod Commands
 pub mod Program
 pub use Rattle.oidc_cli.specs.Calls.{HasRisen}
 pub use Rattle.oidc_cli.specs.Sources.{Takes}
 pub use Rattle.oidc_cli.specs.Sinks.{Puts, PutsPrefix}
 pub use Rattle.oidc_cli.specs.Script.{fault_of}
 pub use Rattle.oidc_cli.specs.Report.{report}
+pub use Rattle.oidc_cli.specs.Drill.{drill_text}
+pub use Rattle.oidc_cli.specs.Commands.{command_of, Asks}
 pub use Rattle.oidc_cli.specs.Program.{EndsInFault}

@@ -22,3 +22,9 @@ status_after (Ok Pending) = 0
 status_after (Ok Fault) = 3
 status_after (Err Sink) = 1
 status_after (Err Memory) = 5
+
+-- the status of a drill
+abbrev pub status_after_drill : Result (Unit {0}) Halt → ℕ
+status_after_drill (Ok done) = 0
+status_after_drill (Err Sink) = 1
+status_after_drill (Err Memory) = 5

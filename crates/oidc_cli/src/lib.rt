@@ -1,11 +1,14 @@
-//! The program `replay` as a library: a script of logins is read, run, and reported.
+//! The program `replay` as a library: a script of logins is read, run, and reported; or a number of logins is
+//! made, run from end to end, and counted.
 //!
-//! - [`run`] is the whole program but for its words and its adapters. It reads a script of a
-//!   [`Source`], runs its events through a store of pending logins of `oidc_login`, and puts the
-//!   report into a [`Sink`]. Its contract says that 2 comes exactly for wrong words, that on 1 and 4
-//!   the count of faults of sink and source rose, or stands at its last value, and, where the
-//!   source's bytes are known, that on 0 the script has no fault and on 3 it has one. 5 is free.
-//!   Where the bytes of both are known, what it wrote is the report of the script, or begins it.
+//! - [`run`] is the whole program but for its words and its adapters. On [`Command::Replay`] it reads a
+//!   script of a [`Source`], runs its events through a store of pending logins of `oidc_login`, and puts
+//!   the report into a [`Sink`]; on [`Command::Drill`] it makes that number of logins itself, reads
+//!   nothing, and puts a line of counts. Its contract says that 2 comes exactly for wrong words, that on
+//!   1 and 4 the count of faults of sink and source rose, or stands at its last value, and, where the
+//!   source's bytes are known, that on 0 of `replay` the script has no fault and on 3 it has one. 5 is
+//!   free. Where the bytes of both are known, what it wrote is the report of the script, or the drill's
+//!   line, or begins it.
 //! - [`Source`] gives the bytes of a script and [`Sink`] takes those of a report. The bytes of each
 //!   are known, or are not, and each counts its faults. [`MemorySource`] and [`MemorySink`] are in
 //!   memory and fail at the calls that they are given; [`ReadSource`] and [`WriteSink`] are over a
@@ -36,6 +39,8 @@
 #![tactic(auto)]
 
 mod calls;
+mod commands;
+mod drill;
 mod events;
 mod program;
 mod reading;
@@ -47,6 +52,7 @@ mod sources;
 mod user;
 
 pub use crate::calls::Failed;
+pub use crate::commands::Command;
 pub use crate::program::{
     DONE, NO_MEMORY, SCRIPT_FAULT, SINK_FAULT, SOURCE_FAULT, WRONG_WORDS, run,
 };

@@ -1,6 +1,5 @@
-//! The words and the script, as `run` takes them.
-ghost use Rattle.std.specs.Prelude.{◌≡◌, ◌≢◌, ◌↔◌, ◌+◌, ◌≤◌, ℕ, List, [], ◌∷◌, map, length, take, IsTrue, IsErrOf, IfOk, codes};
-ghost use Rattle.std.specs.String.{string_bytes};
+//! The script, as `run` takes it.
+ghost use Rattle.std.specs.Prelude.{◌≡◌, ◌+◌, ◌≤◌, ℕ, List, length, IsErrOf, IfOk};
 ghost use Rattle.std.specs.Io.KnownBytes.{IsAtEnd};
 ghost use Rattle.oidc_cli.specs.Calls.{HasRisen};
 ghost use Rattle.oidc_cli.specs.Sources.{Takes};
@@ -44,22 +43,6 @@ impl From<AllocError> for ReadError {
     fn from(_refused: AllocError) -> ReadError {
         ReadError::Memory
     }
-}
-
-/// Whether the words are the one word `replay`.
-pub fn is_replay(words: &[String]) -> bool
-    ensures { IsTrue result ↔ (map string_bytes words.now ≡ codes "replay" ∷ []) }
-{
-    match words {
-        [word] => is_word_replay(word.as_str()),
-        _ => false,
-    }
-}
-
-fn is_word_replay(word: &str) -> bool
-    ensures { IsTrue result ↔ (word.now ≡ codes "replay") }
-{
-    word == "replay"
 }
 
 /// Reads a source to its end, or until one byte more than `LIMIT` is held.

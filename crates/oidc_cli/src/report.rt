@@ -108,7 +108,7 @@ fn provider_of(
 }
 
 // The client of a client line.
-fn client_of(alloc: Global, line: ClientLine) -> LoginClient
+pub(crate) fn client_of(alloc: Global, line: ClientLine) -> LoginClient
     ensures { result ≡ client_seen line }
 {
     let ClientLine {
@@ -161,7 +161,7 @@ fn request_with<'c>(
 }
 
 // What a begin line gets, unless there is no memory.
-fn begin<'c>(
+pub(crate) fn begin<'c>(
     alloc: Global,
     client: &'c LoginClient,
     logins: &mut PendingLogins<'c>,
@@ -223,9 +223,9 @@ fn put_begin<'c, O: Sink>(
 
 // What a callback got, and the transport that it used.
 #[derive(Drop)]
-struct Replied {
-    reply: Result<User, LoginError<Fault>>,
-    http: Recorded,
+pub(crate) struct Replied {
+    pub(crate) reply: Result<User, LoginError<Fault>>,
+    pub(crate) http: Recorded,
 }
 
 // What a callback got, unless there was no memory.
@@ -254,7 +254,7 @@ fn replied_with(
 }
 
 // What a callback line gets, unless there is no memory.
-fn call_back(
+pub(crate) fn call_back(
     alloc: Global,
     logins: &mut PendingLogins<'_>,
     line: CallbackLine,
@@ -384,7 +384,7 @@ fn put_step<'c, O: Sink>(
 }
 
 // Puts a line.
-fn put_line<O: Sink>(line: &str, sink: &mut O) -> Result<(), Halt>
+pub(crate) fn put_line<O: Sink>(line: &str, sink: &mut O) -> Result<(), Halt>
     ensures whole { OnOk result (Puts (O.written sink.old) (O.written sink.new) line.now) }
     ensures begun { OnErr result (PutsPrefix (O.written sink.old) (O.written sink.new) line.now) }
     ensures blamed { IsErrOf result Halt.Sink → HasRisen (O.faults sink.old) (O.faults sink.new) }

@@ -6,8 +6,8 @@ ghost use Rattle.std.specs.List.{list_all};
 ghost use Rattle.oidc_cli.specs.Script as spec;
 ghost use Rattle.oidc_cli.specs.Script.{lines, kind_of as kind_in, provider_urls, client_event_of, begin_event_of, callback_event_of, event_of_pairs, event_of};
 
-mod answers;
-mod values;
+pub(crate) mod answers;
+pub(crate) mod values;
 
 use crate::events::{BeginLine, CallbackLine, ClientLine, Event, LineError, ProviderUrls};
 use crate::script::answers::read_answers;

@@ -1,7 +1,8 @@
 //! The program `replay`: the words after its name, and the adapters over standard input and output.
 //!
-//! `replay replay` reads a script from standard input and writes its report to standard output. The
-//! exit status is that of `exit_status` over the two adapters: that of [`oidc_cli::run`] where there are
+//! `replay replay` reads a script from standard input and writes its report to standard output.
+//! `replay drill N` reads nothing, makes N logins itself, runs them from end to end, and writes a line of
+//! counts. The exit status is that of `exit_status` over the two adapters: that of [`oidc_cli::run`] where there are
 //! words. Words that can't be read as text are wrong words, and where there is no memory for the words
 //! the status is that of want of memory; nothing is read or written then. Nothing is written to
 //! standard error.
@@ -10,13 +11,13 @@
 #[cfg(test)]
 mod tests;
 
-ghost use Rattle.std.specs.Prelude.{◌≡◌, ◌≢◌, ◌↔◌, ◌⊎◌, ◌≤◌, List, ℕ, [], ◌∷◌, map, Some, None, IfOk, IfErr, codes};
+ghost use Rattle.std.specs.Prelude.{◌≡◌, ◌≢◌, ◌↔◌, ◌⊎◌, ◌≤◌, List, ℕ, map, Some, None, IfOk, IfErr};
 ghost use Rattle.std.specs.String.{string_bytes};
 ghost use Rattle.std.specs.IoError.{error_kind};
 ghost use Rattle.std.specs.Io.KnownBytes.{IsAtEnd};
-ghost use Rattle.oidc_cli.specs.{HasRisen, Puts, PutsPrefix, fault_of, report, EndsInFault};
+ghost use Rattle.oidc_cli.specs.{HasRisen, Puts, PutsPrefix, fault_of, report, drill_text, command_of, Asks, EndsInFault};
 
-use oidc_cli::{NO_MEMORY, ReadSource, Sink, Source, WRONG_WORDS, WriteSink, run};
+use oidc_cli::{Command, NO_MEMORY, ReadSource, Sink, Source, WRONG_WORDS, WriteSink, run};
 use std::alloc::Global;
 use std::io::ErrorKind;
 use std::process::ExitCode;
@@ -62,23 +63,39 @@ fn exit_status<S: Source, O: Sink>(
 
     // With words: what `run` promises of them.
     ensures words { IfOk words
-        (λ words. (result ≡ 2) ↔ (map string_bytes words.items ≢ codes "replay" ∷ [])) }
-    ensures one_word { IfOk words
-        (λ words. result ≢ 2 → map string_bytes words.items ≡ codes "replay" ∷ []) }
+        (λ words. (result ≡ 2) ↔ (command_of (map string_bytes words.items) ≡ None)) }
+    ensures asked { IfOk words
+        (λ words. result ≢ 2 → (command : Command) × Asks words.items command) }
     ensures idle { result ≡ 2 → (source.new ≡ source.old) × (sink.new ≡ sink.old) }
     ensures sink_fault { result ≡ 1 → HasRisen (O.faults sink.old) (O.faults sink.new) }
     ensures source_fault { result ≡ 4 → HasRisen (S.faults source.old) (S.faults source.new) }
-    ensures ended { result ≡ 0 → IsAtEnd (S.remaining source.new) }
-    ensures whole { (script : List ℕ) → S.remaining source.old ≡ Some script → result ≡ 0
-        → fault_of script ≡ None }
+    ensures of_a_script { IfOk words
+        (λ words. (result ≡ 3) ⊎ (result ≡ 4) → Asks words.items Command.Replay) }
+
+    // Where they are `replay`.
+    ensures ended { IfOk words
+        (λ words. Asks words.items Command.Replay → result ≡ 0 → IsAtEnd (S.remaining source.new)) }
+    ensures whole { IfOk words (λ words. (script : List ℕ) → Asks words.items Command.Replay
+        → S.remaining source.old ≡ Some script → result ≡ 0 → fault_of script ≡ None) }
     ensures fault { (script : List ℕ) → S.remaining source.old ≡ Some script → result ≡ 3
         → EndsInFault script }
-    ensures reported { (script : List ℕ) → S.remaining source.old ≡ Some script
-        → (result ≡ 0) ⊎ (result ≡ 3)
+    ensures reported { IfOk words (λ words. (script : List ℕ) → Asks words.items Command.Replay
+        → S.remaining source.old ≡ Some script → result ≡ 0
+        → Puts (O.written sink.old) (O.written sink.new) (report script)) }
+    ensures fault_reported { (script : List ℕ) → S.remaining source.old ≡ Some script → result ≡ 3
         → Puts (O.written sink.old) (O.written sink.new) (report script) }
-    ensures begun { IfOk words (λ words. (script : List ℕ) → S.remaining source.old ≡ Some script
-        → (result ≡ 1) ⊎ (result ≡ 5)
+    ensures begun { IfOk words (λ words. (script : List ℕ) → Asks words.items Command.Replay
+        → S.remaining source.old ≡ Some script → (result ≡ 1) ⊎ (result ≡ 5)
         → PutsPrefix (O.written sink.old) (O.written sink.new) (report script)) }
+
+    // Where they are `drill` and a number.
+    ensures drill_unread { IfOk words (λ words. (count : ℕ) → Asks words.items (Command.Drill count)
+        → source.new ≡ source.old) }
+    ensures drilled { IfOk words (λ words. (count : ℕ) → Asks words.items (Command.Drill count)
+        → result ≡ 0 → Puts (O.written sink.old) (O.written sink.new) (drill_text count)) }
+    ensures drill_begun { IfOk words (λ words. (count : ℕ) → Asks words.items (Command.Drill count)
+        → (result ≡ 1) ⊎ (result ≡ 5)
+        → PutsPrefix (O.written sink.old) (O.written sink.new) (drill_text count)) }
 {
     match words {
         Ok(words) => run(alloc, words.as_slice(), source, sink),

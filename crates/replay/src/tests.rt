@@ -5,4 +5,5 @@
 mod cli;
 mod login;
 mod own_keys;
+mod store;
 mod transports;

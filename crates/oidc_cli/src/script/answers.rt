@@ -82,17 +82,17 @@ fn answer_without_status(line: &Pairs, to: AnswerTo) -> Result<Option<Answer>, L
 }
 
 // A response of these parts.
-fn response_with(
+pub(crate) fn response_with(
     alloc: Global,
     status: StatusCode,
     content_type: Option<HeaderValue>,
-    body: String,
+    body: Vec<u8>,
 ) -> Result<HttpResponse, HeaderMapError>
     ensures { IfOk result (λ response. seen_response response
         ≡ record {
           status = status;
           content_type = option_map (λ v. v.bytes) content_type;
-          body = string_bytes body;
+          body = body.items;
         }) }
 {
     let mut headers = HeaderMap::new(alloc);
@@ -104,7 +104,7 @@ fn response_with(
         version: Version::HTTP_11,
         headers,
     };
-    Ok(Response::from_parts(head, Body::new(body.into_bytes())))
+    Ok(Response::from_parts(head, Body::new(body)))
 }
 
 // A text, or the empty one where there is none.
@@ -125,7 +125,8 @@ fn read_response(alloc: Global, line: &Pairs, to: AnswerTo) -> Result<HttpRespon
     let status = pair_status(line, status_name(to))?;
     let content_type = optional_content_type(alloc, line, type_name(to))?;
     let body = optional_text(alloc, line, body_name(to))?;
-    match response_with(alloc, status, content_type, or_empty(alloc, body)) {
+    let body = or_empty(alloc, body).into_bytes();
+    match response_with(alloc, status, content_type, body) {
         Ok(response) => Ok(response),
         Err(_) => Err(LineError::Memory),
     }

@@ -73,8 +73,8 @@ pub fn optional_url<M: Marker>(
     Ok(Some(pair_url(alloc, line, name)?))
 }
 
-// A URL text, where the URL Standard takes it.
-fn url_of<M: Marker>(alloc: Global, text: &str) -> Result<UrlText<M>, LineError>
+/// A URL text, where the URL Standard takes it.
+pub fn url_of<M: Marker>(alloc: Global, text: &str) -> Result<UrlText<M>, LineError>
     ensures { Reads (λ url. url) result (url_of_text text.now) }
 {
     match UrlText::new(alloc, String::from_str(alloc, text)?) {
@@ -195,8 +195,8 @@ fn seconds_of(text: &str) -> Option<i64>
     text.parse::<i64>().ok()
 }
 
-// Rust reads a number behind a `+`, which no line has.
-fn begins_with_plus(text: &str) -> bool
+/// Rust reads a number behind a `+`, which no line and no word has.
+pub fn begins_with_plus(text: &str) -> bool
     ensures { result ≡ (slice_index text.now 0 == 43) }
 {
     text.as_bytes().first() == Some(&b'+')

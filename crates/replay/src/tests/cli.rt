@@ -94,7 +94,7 @@ fn ran(
 
 // The words, the calls of the source and of the sink that fail, the sink's room, and what is wanted: the
 // status, and how many lines of the report were written.
-static RUNS: [(&str, u64, u64, usize, u8, usize); 22] = [
+static RUNS: [(&str, u64, u64, usize, u8, usize); 19] = [
     (",replay", 0, 0, 65_536, DONE, 5),
     // A source that fails at its first call, and at the one that would give its end.
     (",replay", 1, 0, 65_536, SOURCE_FAULT, 0),
@@ -115,9 +115,6 @@ static RUNS: [(&str, u64, u64, usize, u8, usize); 22] = [
     (",--help", 0, 0, 65_536, WRONG_WORDS, 0),
     (",--version", 0, 0, 65_536, WRONG_WORDS, 0),
     (",replay ", 0, 0, 65_536, WRONG_WORDS, 0),
-    (",drill,0", 0, 0, 65_536, WRONG_WORDS, 0),
-    (",drill,3", 0, 0, 65_536, WRONG_WORDS, 0),
-    (",drill,4097", 0, 0, 65_536, WRONG_WORDS, 0),
     (",replay,replay", 0, 0, 65_536, WRONG_WORDS, 0),
     (",replay,x", 0, 0, 65_536, WRONG_WORDS, 0),
     (",x,replay", 0, 0, 65_536, WRONG_WORDS, 0),
@@ -146,6 +143,71 @@ fn first_other_run(alloc: Global) -> Result<Option<usize>, AllocError> {
 #[test]
 fn words_and_failures(rt: HostRuntime) -> Result<(), Fail> {
     assert_eq!(rt; first_other_run(rt.alloc())?, None);
+    Ok(())
+}
+
+// ---- drills
+
+// The words, the call of the sink that fails, the sink's room, and what is wanted: the status, and what was written.
+// Nothing is ever read.
+static DRILLS: [(&str, u64, usize, u8, &str); 19] = [
+    (
+        ",drill,3",
+        0,
+        65_536,
+        DONE,
+        "drill 3 begun=3 signed=3 repeated=3 sent=3 pending=0\n",
+    ),
+    (
+        ",drill,1",
+        0,
+        65_536,
+        DONE,
+        "drill 1 begun=1 signed=1 repeated=1 sent=1 pending=0\n",
+    ),
+    (
+        ",drill,4096",
+        0,
+        65_536,
+        DONE,
+        "drill 4096 begun=4096 signed=4096 repeated=4096 sent=4096 pending=0\n",
+    ),
+    // The line is one call of the sink.
+    (",drill,3", 1, 65_536, SINK_FAULT, ""),
+    (",drill,3", 0, 10, SINK_FAULT, ""),
+    // Wrong words.
+    (",drill,", 0, 65_536, WRONG_WORDS, ""),
+    (",drill,0", 0, 65_536, WRONG_WORDS, ""),
+    (",drill,03", 0, 65_536, WRONG_WORDS, ""),
+    (",drill,+3", 0, 65_536, WRONG_WORDS, ""),
+    (",drill,-3", 0, 65_536, WRONG_WORDS, ""),
+    (",drill, 3", 0, 65_536, WRONG_WORDS, ""),
+    (",drill,3 ", 0, 65_536, WRONG_WORDS, ""),
+    (",drill,3x", 0, 65_536, WRONG_WORDS, ""),
+    (",drill,4097", 0, 65_536, WRONG_WORDS, ""),
+    (",drill,65539", 0, 65_536, WRONG_WORDS, ""),
+    (",drill,18446744073709551619", 0, 65_536, WRONG_WORDS, ""),
+    (",Drill,3", 0, 65_536, WRONG_WORDS, ""),
+    (",3,drill", 0, 65_536, WRONG_WORDS, ""),
+    (",drill,3,3", 0, 65_536, WRONG_WORDS, ""),
+];
+
+// The first drill that ends in another way than is wanted.
+fn first_other_drill(alloc: Global) -> Result<Option<usize>, AllocError> {
+    for (index, row) in DRILLS.iter().enumerate() {
+        let (words, sink_fails, room, status, written) = *row;
+        let script = SCRIPT.as_bytes().to_vec(alloc)?;
+        let ran = ran(alloc, words, script, 0, sink_fails, room)?;
+        if ran.status != status || !ran.unread || ran.sink.bytes() != written.as_bytes() {
+            return Ok(Some(index));
+        }
+    }
+    Ok(None)
+}
+
+#[test]
+fn drills(rt: HostRuntime) -> Result<(), Fail> {
+    assert_eq!(rt; first_other_drill(rt.alloc())?, None);
     Ok(())
 }
 

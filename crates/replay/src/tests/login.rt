@@ -22,11 +22,13 @@ use oidc_user_info::{EmptyAdditionalProviderMetadata, UserInfoResponseType};
 use std::alloc::{AllocError, Global};
 use std::test::Fail;
 
-type CoreLogins<'c> = Logins<'c, AllOtherClaims, CoreGenderClaim, CoreJsonWebKey>;
+/// Logins that keep all claims.
+pub type CoreLogins<'c> = Logins<'c, AllOtherClaims, CoreGenderClaim, CoreJsonWebKey>;
 
 type User = SignedIn<AllOtherClaims, CoreGenderClaim>;
 
-fn text(alloc: Global, text: &str) -> Result<String, Fail> {
+/// A text.
+pub fn text(alloc: Global, text: &str) -> Result<String, Fail> {
     Ok(String::from_str(alloc, text)?)
 }
 
@@ -74,8 +76,8 @@ fn bare_provider(alloc: Global) -> Result<CoreProviderMetadata, Fail> {
     Ok(CoreProviderMetadata::new(alloc, issuer, endpoint, keys, algorithms, more))
 }
 
-// A client of this ID. What is tried at a client stands in functions that borrow it.
-fn client_of(alloc: Global, id: &str, token: Option<TokenUrl>) -> Result<LoginClient, Fail> {
+/// A client of this ID. What is tried at a client stands in functions that borrow it.
+pub fn client_of(alloc: Global, id: &str, token: Option<TokenUrl>) -> Result<LoginClient, Fail> {
     named(alloc, id, provider(alloc, token)?)
 }
 
@@ -248,8 +250,8 @@ fn answer<E: Drop>(
 // The query of the one login of a store.
 const QUERY: &str = "code=c1&state=CSRF123";
 
-// Its callback.
-fn called_back<E: Drop, H: SyncHttpClient<Error = E>>(
+/// A callback with this query: what it answers, in words, and whether a login is gone.
+pub fn called_back<E: Drop, H: SyncHttpClient<Error = E>>(
     alloc: Global,
     logins: &mut CoreLogins<'_>,
     http: &mut H,

@@ -1,6 +1,6 @@
 use Rattle.std.proofs.Common.{inl, inr, sym, ◌∙◌}
 use Rattle.oidc_cli.proofs.Statuses.{same_of, ends_in_fault, done_without_fault, fault_with_line, whole_at, begun_at, short_without_fault, completes}
-use Rattle.oidc_cli.proofs.program.run.Goals as goal
+use Rattle.oidc_cli.proofs.program.replay.Goals as goal
 
 pub returns-in-Ok-clause-ended : goal.returns-in-Ok-clause-ended
 returns-in-Ok-clause-ended g c = λ done.
@@ -35,7 +35,7 @@ returns-in-Ok-clause-begun g c = λ script known done.
     rw same.same_report (begun_at c.put_report.result _ (rw c.as_slice.ensures.value at c.put_report.ensures.begun) (rw c.status_of_run.ensures at done))
 
 pub returns-in-Ok-clause-completes : goal.returns-in-Ok-clause-completes
-returns-in-Ok-clause-completes g c = λ script words known none source sink.
+returns-in-Ok-clause-completes g c = λ script known none source sink.
     let same = same_of _ _ script c.in-Ok.script.items known c.in-Ok.ensures.script c.in-Ok.ensures.ended in
     rw c.status_of_run.ensures
     (completes c.put_report.result c.in-Ok.script.items _ (rw c.as_slice.ensures.value at c.put_report.ensures.ending) (sym same.same_fault ∙ none) c.put_report.ensures.blamed sink)
