@@ -1,4 +1,5 @@
 pub mod Theorems
+mod AnswerRows
 mod Bearers
 mod Credentials
 mod Cuts

@@ -1,4 +1,5 @@
--- What crates above may cite: the refusals that a response is never worth.
+-- What crates above may cite: the refusals that a response is never worth, and what each reply to a request for tokens
+-- rests on.
 use Rattle.std.proofs.Common.{◌==◌, ℕ, List, Bool, true, false, cond, Result, Ok, Err, subst}
 use Rattle.std.specs.Prelude.{not}
 use Rattle.oidc_members.specs.Seen.{SeenMember}
@@ -9,6 +10,7 @@ use Rattle.oidc_oauth2.specs.Exchanges.{IsRequestBlamed}
 use Rattle.oidc_oauth2.specs.declared.token_answers.OtherCause.TheVariants.{Uri, EmptyBody, MediaType}
 use Rattle.oidc_oauth2.specs.declared.token_answers.RequestTokenError.{RequestTokenError}
 use Rattle.oidc_oauth2.specs.declared.token_answers.RequestTokenError.TheVariants.{ServerResponse, Request, Parse, Other, TooLong, Memory}
+pub use Rattle.oidc_oauth2.proofs.AnswerRows.{StatusRests, status-rests, tokens_worth, refusal_worth}
 
 module _ (A TE : Type 0) where
   -- no refusal that comes without a response, and no over-long body

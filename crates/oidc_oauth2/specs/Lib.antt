@@ -1,6 +1,6 @@
 -- In reading order: what goes over a transport, what a transport promises, transports in memory and over a closure;
 -- header fields, PKCE, vocabularies; how a client names itself, the code request; the records of answers; what
--- a token answer is worth, and what one request leaves of a transport.
+-- a token answer is worth, what one request leaves of a transport, and what its result rests on.
 pub mod Messages
 pub mod Transport
 pub mod Recorded
@@ -17,6 +17,7 @@ pub mod DeviceResponse
 pub mod Introspection
 pub mod TokenAnswers
 pub mod Exchanges
+pub mod AnswerCauses
 -- what no public clause cites
 mod KeepsText
 pub mod Slots

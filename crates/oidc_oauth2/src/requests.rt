@@ -8,6 +8,7 @@ ghost use Rattle.url.specs.Parts.{serialize};
 ghost use Rattle.http_header.specs.FieldValue.{plain_value};
 ghost use Rattle.oidc_oauth2.specs.ClientAuth.{seen_client};
 ghost use Rattle.oidc_oauth2.specs.Exchanges.{Exchanges, IsRequestBlamed, known};
+ghost use Rattle.oidc_oauth2.specs.AnswerCauses.{Ran};
 ghost use Rattle.oidc_oauth2.specs.TokenAnswers.{token_answer as worth_of};
 ghost use Rattle.oidc_oauth2.specs.Requests as spec;
 
@@ -263,9 +264,8 @@ impl<'a, TE, TR> CodeTokenRequest<'a, TE, TR> {
 }
 
 impl<'a, TE: ErrorResponse, TR: OAuth2TokenResponse> CodeTokenRequest<'a, TE, TR> {
-    /// Hands the request of `prepare` over, and answers what the response is worth. On `Uri` nothing
-    /// is handed over, and `Request` comes only where the transport failed.
-    pub fn request<C: SyncHttpClient>(
+    // Hands the request over, and judges the response.
+    fn exchange<C: SyncHttpClient>(
         self,
         alloc: Global,
         http: &mut C,
@@ -288,5 +288,23 @@ impl<'a, TE: ErrorResponse, TR: OAuth2TokenResponse> CodeTokenRequest<'a, TE, TR
                 Ok(response) => token_answer(alloc, response),
             },
         }
+    }
+
+    /// Hands the request of `prepare` over, and answers what the response is worth. On `Uri` nothing
+    /// is handed over, and `Request` comes only where the transport failed.
+    pub fn request<C: SyncHttpClient>(
+        self,
+        alloc: Global,
+        http: &mut C,
+    ) -> Result<TR, RequestTokenError<C::Error, TE>>
+        requires { C.ready http.old }
+        ensures again { C.ready http.new }
+        ensures ran { let before = known (C.log http.old) (C.script http.old) in
+            let after = known (C.log http.new) (C.script http.new) in
+            Ran TE.read_of TR.read_of self.entry before after result }
+        ensures never_falls { C.faults http.old ≤ C.faults http.new }
+        ensures blamed { IsRequestBlamed (C.faults http.old) (C.faults http.new) result }
+    {
+        self.exchange(alloc, http)
     }
 }

@@ -1,9 +1,10 @@
 //! What a response to a token request is worth (RFC 6749 sections 5.1 and 5.2).
 
-ghost use Rattle.std.specs.Prelude.{◌≡◌, ◌==◌};
+ghost use Rattle.std.specs.Prelude.{◌≡◌, ◌==◌, Err, IfErr};
 ghost use Rattle.oidc_members.specs.Answers.{Answers};
 ghost use Rattle.oidc_oauth2.specs.Messages.{seen_response};
 ghost use Rattle.oidc_oauth2.specs.TokenAnswers as spec;
+ghost use Rattle.oidc_oauth2.specs.AnswerCauses.{AnswerCause, Because};
 
 use crate::error_response::{ErrorResponse, StandardErrorResponse};
 use crate::error_types::CoreErrorResponseType;
@@ -122,16 +123,13 @@ fn tokens_in<RE, TE: ErrorResponse, TR: OAuth2TokenResponse>(
     }
 }
 
-/// What a response to a token request is worth: the token response, or the first of these that holds.
-/// `TooLong`: the body has more than 1,048,576 bytes. On another status than 200: `EmptyBody`; then
-/// `ServerResponse`, where the body reads as an error response; else `Parse`. On status 200:
-/// `MediaType`, where a media type is there and isn't `application/json`; `EmptyBody`; `Parse`.
+// What a response is worth, by the rows.
 #[tactic(auto, unfolding(crate::specs::TokenAnswers::status_worth, crate::specs::TokenAnswers::token_answer))]
-pub fn token_answer<RE, TE: ErrorResponse, TR: OAuth2TokenResponse>(
+fn judge<RE, TE: ErrorResponse, TR: OAuth2TokenResponse>(
     alloc: Global,
     response: HttpResponse,
 ) -> Result<TR, RequestTokenError<RE, TE>>
-    ensures answer { let worth = spec.token_answer TE.read_of TR.read_of in
+    ensures { let worth = spec.token_answer TE.read_of TR.read_of in
         spec.Gives result (worth (seen_response response)) }
 {
     let status = response.status().as_u16();
@@ -144,4 +142,22 @@ pub fn token_answer<RE, TE: ErrorResponse, TR: OAuth2TokenResponse>(
         return Err(refusal_in(alloc, body));
     }
     tokens_in(alloc, may_be_json, body)
+}
+
+/// What a response to a token request is worth: the token response, or the first of these that holds.
+/// `TooLong`: the body has more than 1,048,576 bytes. On another status than 200: `EmptyBody`; then
+/// `ServerResponse`, where the body reads as an error response; else `Parse`. On status 200:
+/// `MediaType`, where a media type is there and isn't `application/json`; `EmptyBody`; `Parse`.
+pub fn token_answer<RE, TE: ErrorResponse, TR: OAuth2TokenResponse>(
+    alloc: Global,
+    response: HttpResponse,
+) -> Result<TR, RequestTokenError<RE, TE>>
+    ensures answer { let worth = spec.token_answer TE.read_of TR.read_of in
+        spec.Gives result (worth (seen_response response)) }
+    // Each refusal has its cause, and each cause its refusal.
+    ensures cause { IfErr result (Because TE.read_of TR.read_of (seen_response response)) }
+    ensures refused { let Caused = AnswerCause TE.read_of TR.read_of (seen_response response) in
+        (e : spec.TokenRefusal TE) → Caused e → spec.Gives result (Err e) }
+{
+    judge(alloc, response)
 }

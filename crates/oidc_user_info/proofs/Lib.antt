@@ -1,3 +1,4 @@
+pub mod Theorems
 mod Stays
 mod OwnBack
 mod ClaimsBack
