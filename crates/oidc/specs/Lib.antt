@@ -1,3 +1,4 @@
+pub mod LoginSecrets
 -- The words of oidc_login that its contracts cite, passed on for those of a site.
 pub use Rattle.oidc_login.specs.Pairs
 pub use Rattle.oidc_login.specs.SiteTypes

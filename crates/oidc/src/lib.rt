@@ -1,12 +1,12 @@
 //! The relying party side of OpenID Connect, for a site: what it needs of the crates below, by the names of the Rust
-//! crate `openidconnect`, and nothing else.
+//! crate `openidconnect`, and what a login starts from.
 //!
 //! - At the root stand the types of the protocol: texts and URLs, claims, keys, tokens, the client and its requests,
 //!   user info, and the transport.
 //! - [`core_types`] has the types of the standards' own vocabularies, and the aliases over them. It is `core` in the
 //!   Rust crate, a name that stands here for the language's own library.
 //! - [`login`] has what that crate leaves to its callers: pending logins, from the URL that sends a user to the
-//!   provider to the claims that sign the user in.
+//!   provider to the claims that sign the user in, and [`login::LoginSecrets`], drawn of a generator.
 //!
 //! What each item promises stands in the page of its crate. The words of `oidc_login` that its contracts cite are passed on
 //! by `specs/Lib.antt`; a contract that speaks of the crates below logins lists the crate that it speaks of.

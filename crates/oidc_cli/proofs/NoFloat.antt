@@ -35,7 +35,7 @@ use Rattle.oidc_login.specs.Rows.{Attempt}
 use Rattle.oidc_login.specs.Causes.{IsSignedIn, HasInfo}
 use Rattle.oidc_login.specs.Errors.{reply_of}
 use Rattle.oidc_login.specs.declared.errors.LoginError.{LoginError}
-use Rattle.oidc_login.proofs.Theorems.{signed_free}
+use Rattle.oidc_login.proofs.Theorems.{signed_free, info_answered}
 use Rattle.oidc_cli.specs.Types.{types, SeenSignedIn, SeenUserInfo}
 use Rattle.oidc_cli.specs.ReportLines.{HasNoFloats}
 
@@ -194,7 +194,7 @@ module _ (a : Attempt SymmetricKey) (answers : List SeenAnswer) where
   given_free : (signed : SeenSignedIn) (held : _) (info : Option SeenUserInfo) → HasInfo types a answers held info
       → IfSome info (λ found. any_float (list_of found.additional_claims) ≡ false)
   given_free signed held None is = tt
-  given_free signed held (Some found) is = info_free is.ask.demand is.response found is.info_in_response
+  given_free signed held (Some found) is = info_free is.ask.demand is.response found (info_answered types a answers held found is)
 
   pub no_floats : {E : Type 0} (result : Result SeenSignedIn (LoginError E)) → IfOk result (IsSignedIn types a answers) → HasNoFloats (reply_of result)
   no_floats (Err e) is = tt

@@ -8,9 +8,10 @@ use Rattle.oidc_oauth2.specs.TokenAnswers.{◌>>◌, ◌when◌, ◌or_as◌, is
 use Rattle.oidc_oauth2.specs.declared.error_types.CoreErrorResponseType.{CoreErrorResponseType}
 use Rattle.oidc_oauth2.specs.declared.token_answers.RequestTokenError.{RequestTokenError}
 use Rattle.oidc_oauth2.specs.declared.token_answers.RequestTokenError.TheVariants as token
-use Rattle.oidc_oauth2.proofs.Theorems.{IsJudged, status_worth-judged}
+use Rattle.oidc_oauth2.specs.AnswerCauses.{HoldsTokens, StatusCause}
+use Rattle.oidc_oauth2.proofs.Theorems.{IsJudged, status_worth-judged, StatusRests, status-rests, tokens_worth, refusal_worth}
 use Rattle.oidc_login.specs.SiteTypes.{SiteTypes}
-use Rattle.oidc_login.specs.TokenResponse.{Tokens, TokenError, tokens_read, tokens_or_refusal}
+use Rattle.oidc_login.specs.TokenResponse.{Tokens, TokenError, error_read, tokens_read, tokens_or_refusal}
 use Rattle.oidc_login.specs.Errors.{Gives, faulted, spent_of}
 use Rattle.oidc_login.specs.Steps.{of_token}
 use Rattle.oidc_login.specs.Rows.{Meant, tokens_in}
@@ -82,6 +83,19 @@ module _ {AC GC Key Use : Type 0} (types : SiteTypes AC GC Key Use) (r : SeenRes
   pub judged : IsJudged (Tokens AC GC) CoreError (tokens_or_refusal types r)
   unfolding tokens_or_refusal
   judged = status_worth-judged (Tokens AC GC) CoreError (error_response_of error_of) (tokens_read types) r
+
+  -- what a response rests on, by the rows on it, and back
+  pub rests : StatusRests error_read (tokens_read types) r (tokens_or_refusal types r)
+  unfolding tokens_or_refusal
+  rests = status-rests error_read (tokens_read types) r
+
+  pub tokens_back : (tokens : Tokens AC GC) → HoldsTokens error_read (tokens_read types) r tokens → tokens_or_refusal types r ≡ Ok tokens
+  unfolding tokens_or_refusal
+  tokens_back tokens held = tokens_worth error_read (tokens_read types) r tokens held
+
+  pub refusal_back : (e : TokenError) → StatusCause error_read (tokens_read types) r e → tokens_or_refusal types r ≡ Err e
+  unfolding tokens_or_refusal
+  refusal_back e cause = refusal_worth error_read (tokens_read types) r e cause
 
   pub tokens_given : (tokens : Tokens AC GC) → token_answer (error_response_of error_of) (tokens_read types) r ≡ Ok tokens → tokens_in types r ≡ Ok tokens
   unfolding token_answer tokens_in tokens_or_refusal

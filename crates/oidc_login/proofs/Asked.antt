@@ -1,15 +1,14 @@
 -- The request for user info: what it asks, and why it isn't made.
-use Rattle.std.proofs.Common.{◌≡◌, ℕ, List, Bool, true, false, Option, None, Some, Result, Ok, Err, refl, sym, ap, subst}
+use Rattle.std.proofs.Common.{◌≡◌, ℕ, List, Bool, true, false, Option, None, Some, Ok, Err, refl, sym, ap, subst}
 use Rattle.std.specs.Prelude.{not, option_map, IsSomeAnd}
 use Rattle.http_header.specs.FieldValue.{is_visible_text, plain_value}
 use Rattle.oidc_types.specs.{TextAndUrl}
 use Rattle.oidc_oauth2.specs.Messages.{SeenRequest}
 use Rattle.oidc_oauth2.specs.HttpUtils.{bearer_of}
 use Rattle.oidc_oauth2.specs.Requests.{is_address}
-use Rattle.oidc_oauth2.specs.TokenAnswers.{◌>>=◌, ◌>>◌, ◌when◌, ◌or_as◌}
+use Rattle.oidc_oauth2.specs.TokenAnswers.{◌>>=◌, ◌>>◌, ◌when◌}
 use Rattle.oidc_user_info.specs.InfoRequests.{SeenInfoRequest, get_with, info_request}
 use Rattle.oidc_user_info.specs.declared.errors.InfoOther.TheVariants as info_other
-use Rattle.oidc_user_info.specs.declared.errors.PrepareInfoError.{PrepareInfoError}
 use Rattle.oidc_user_info.specs.declared.errors.PrepareInfoError.TheVariants.{Bearer, Uri, Memory}
 use Rattle.oidc_user_info.specs.declared.errors.UserInfoError.TheVariants as info_error
 use Rattle.oidc_client.specs.Client.{info_request_at}
@@ -17,10 +16,8 @@ use Rattle.oidc_login.specs.Client.{SeenClient}
 use Rattle.oidc_login.specs.IdTokens.{subject_of}
 use Rattle.oidc_login.specs.SignedIn.{SeenSignedIn}
 use Rattle.oidc_login.specs.UserInfo.{demanded, info_ask}
-use Rattle.oidc_login.specs.Errors.{Gives}
 use Rattle.oidc_login.specs.Rows.{Meant, ◌or◌, SeenAsked, prepared, asking}
 use Rattle.oidc_login.specs.declared.demand.UserInfoDemand.{UserInfoDemand}
-use Rattle.oidc_login.specs.declared.errors.LoginError.{LoginError}
 use Rattle.oidc_login.specs.declared.errors.LoginError.TheVariants.{UserInfo}
 
 -- ---- the rows of the request

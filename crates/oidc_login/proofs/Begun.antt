@@ -1,6 +1,6 @@
 -- What a begin says, step by step, and the cause of each of its refusals.
-use Rattle.std.proofs.Common.{◌≡◌, ◌≢◌, ◌<◌, ◌≤◌, ℕ, List, Bool, true, false, Option, None, Some, nat_lt, length, Result, Ok, Err, IfOk, refl, sym, ap, subst, ◌∙◌, arith}
-use Rattle.std.specs.Prelude.{not, ◌&&◌, is_some, IsTrue, IsSome, IsNone, OnOk, OnErr}
+use Rattle.std.proofs.Common.{◌≡◌, ◌≢◌, ◌<◌, ◌≤◌, ℕ, List, Bool, true, false, Some, length, Ok, Err, refl, sym, ap, subst, ◌∙◌, arith}
+use Rattle.std.specs.Prelude.{not, ◌&&◌, is_some}
 use Rattle.std.specs.FinMap as finite
 use Rattle.std.specs.Str.{bytes_eq}
 use Rattle.std.proofs.lemmas.Bool.Decides.{nat_tests}
@@ -8,10 +8,8 @@ use Rattle.url.specs.Parts.{Parts, serialize}
 use Rattle.oidc_oauth2.specs.Pkce.{is_verifier, s256}
 use Rattle.oidc_oauth2.specs.TokenAnswers.{◌>>=◌, ◌>>◌, ◌when◌}
 use Rattle.oidc_client.specs.Authorization.{IsUnmanagedBeside, StandOnce}
-use Rattle.oidc_types.specs.{TextAndUrl}
-use Rattle.oidc_login.specs.Client.{SeenClient}
-use Rattle.oidc_login.specs.Logins.{Pending, HasEndpoints}
-use Rattle.oidc_login.specs.Begins.{LoginRequest, Begin, Meant, Begins, is_code_flow, is_long_url, url_with, challenge_or_refusal, url_or_refusal, reply_by, with_login}
+use Rattle.oidc_login.specs.Logins.{Pending}
+use Rattle.oidc_login.specs.Begins.{LoginRequest, Begin, Meant, Begins, is_code_flow, is_long_url, url_with, challenge_or_refusal, url_or_refusal, reply_by}
 use Rattle.oidc_login.specs.declared.errors.BeginError.{BeginError}
 use Rattle.oidc_login.specs.declared.errors.BeginError.TheVariants as begin
 use Rattle.oidc_login.proofs.TokenHash.{differ_back}

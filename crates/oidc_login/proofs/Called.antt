@@ -1,5 +1,5 @@
 -- What the whole of a callback says of single refusals, and of an Ok.
-use Rattle.std.proofs.Common.{◌≡◌, ◌≢◌, ℕ, ℤ, List, [], Bool, true, false, Option, None, Some, Result, Ok, Err, refl, sym, ap, subst, ◌∙◌}
+use Rattle.std.proofs.Common.{◌≡◌, ◌≢◌, ℕ, List, Bool, true, false, Option, None, Some, Result, Ok, Err, refl, sym, ap, subst, ◌∙◌}
 use Rattle.std.specs.Prelude.{is_some, IfOk, IfErr, IfSome, IsSome, IsSomeAnd, OnOk}
 use Rattle.oidc_pairs.specs.Pairs.{pairs}
 use Rattle.oidc_keys.specs.declared.refusals.SignatureVerificationError.TheVariants as signature
@@ -10,7 +10,7 @@ use Rattle.oidc_types.specs.declared.signing_error.SigningError.{SigningError}
 use Rattle.oidc_types.specs.declared.signing_error.SigningError.TheVariants as signing
 use Rattle.oidc_oauth2.specs.Messages.{SeenAnswer}
 use Rattle.oidc_oauth2.specs.Exchanges.{Known}
-use Rattle.oidc_oauth2.specs.TokenAnswers.{TokenRefusal, is_over_long}
+use Rattle.oidc_oauth2.specs.TokenAnswers.{is_over_long}
 use Rattle.oidc_oauth2.specs.ErrorResponse.{SeenError}
 use Rattle.oidc_oauth2.specs.declared.error_types.CoreErrorResponseType.{CoreErrorResponseType}
 use Rattle.oidc_oauth2.specs.declared.token_answers.OtherCause.TheVariants as other
@@ -22,16 +22,18 @@ use Rattle.oidc_tokens.specs.Signatures.{key_for}
 use Rattle.oidc_tokens.specs.declared.verification.refusals.ClaimsVerificationError.{ClaimsVerificationError}
 use Rattle.oidc_tokens.specs.declared.verification.refusals.ClaimsVerificationError.TheVariants as check
 use Rattle.oidc_user_info.specs.UserInfoClaims.{SeenUserInfoClaims}
-use Rattle.oidc_user_info.specs.InfoErrors.{InfoRefusal, seen_refusal as seen_info}
+use Rattle.oidc_user_info.specs.InfoErrors.{seen_refusal as seen_info}
+use Rattle.oidc_user_info.specs.InfoRequests.{SeenInfoRequest}
+use Rattle.oidc_user_info.specs.InfoCauses as info_causes
 use Rattle.oidc_user_info.specs.declared.errors.UserInfoError.{UserInfoError}
 use Rattle.oidc_user_info.specs.declared.errors.UserInfoError.TheVariants as info_error
 use Rattle.oidc_login.specs.SiteTypes.{SiteTypes}
 use Rattle.oidc_login.specs.Logins.{SeenLogin}
-use Rattle.oidc_login.specs.IdTokens.{SeenIdToken, subject_of, verifier_of, IsAcceptedBy}
-use Rattle.oidc_login.specs.TokenHash.{FitsHash, HasOwnHash, claimed_hash}
+use Rattle.oidc_login.specs.IdTokens.{subject_of, verifier_of, IsAcceptedBy}
+use Rattle.oidc_login.specs.TokenHash.{FitsHash, HasOwnHash}
 use Rattle.oidc_login.specs.SignedIn.{SeenSignedIn}
 use Rattle.oidc_login.specs.Errors.{Error, seen, memory_of, is_wanting, hides_memory, Unless, OrMemory, Gives}
-use Rattle.oidc_login.specs.Rows.{Attempt, login_named_by}
+use Rattle.oidc_login.specs.Rows.{Attempt, login_named_by, rest_of}
 use Rattle.oidc_login.specs.Causes.{HasError, LacksCode, HasNoRequest, Held, HoldsInfo, HasInfo, IsSignedIn, InfoCause, Cause}
 use Rattle.oidc_login.specs.Runs.{Ran}
 use Rattle.oidc_login.specs.declared.errors.LoginError.{LoginError}
@@ -40,6 +42,7 @@ use Rattle.oidc_login.specs.declared.errors.TooLong.TheVariants as place
 use Rattle.oidc_login.proofs.NoMemory.{NeverWants, wanting, never_wanting, never_memory}
 use Rattle.oidc_login.proofs.InfoAnswers.{IsOwn, IsAbout, info_own}
 use Rattle.oidc_login.proofs.Asked.{about}
+use Rattle.oidc_login.proofs.Found.{info_answered}
 
 module _ {E : Type 0} where
   is_state : (e : LoginError E) → login.State ≡ seen e → e ≡ login.State
@@ -88,22 +91,24 @@ module _ {AC GC Key Use : Type 0} (types : SiteTypes AC GC Key Use) (a : Attempt
   never_wanted (check.SignatureVerification signature.Memory) own inside = absurd (inside refl)
   never_wanted check.Memory own inside = absurd (own refl)
 
-  own_wanted : {B : Type 0} (P : B → Type 0) (Law : Type 0) → Law → (e : ClaimsVerificationError) → IsOwn P Law (Err (info_error.ClaimsVerification e)) → is_wanting e ≡ false
-  own_wanted P Law law check.Unsupported own = refl
-  own_wanted P Law law check.InvalidIssuer own = refl
-  own_wanted P Law law check.InvalidAudience own = refl
-  own_wanted P Law law (check.SignatureVerification signature.AmbiguousKeyId) own = refl
-  own_wanted P Law law (check.SignatureVerification signature.CryptoError) own = refl
-  own_wanted P Law law (check.SignatureVerification signature.DisallowedAlg) own = refl
-  own_wanted P Law law (check.SignatureVerification signature.InvalidKey) own = refl
-  own_wanted P Law law (check.SignatureVerification signature.NoMatchingKey) own = refl
-  own_wanted P Law law (check.SignatureVerification signature.NoSignature) own = refl
-  own_wanted P Law law (check.SignatureVerification signature.UnsupportedAlg) own = refl
-  own_wanted P Law law check.Expired own = refl
-  own_wanted P Law law check.InvalidNonce own = refl
-  own_wanted P Law law check.InvalidSubject own = refl
-  own_wanted P Law law (check.SignatureVerification signature.Memory) own = absurd (own law)
-  own_wanted P Law law check.Memory own = absurd own
+  -- a refusal that has its cause
+  caused_wanted : (ask : SeenInfoRequest Key) (answers : List SeenAnswer) (e : ClaimsVerificationError)
+      → info_causes.Cause ask answers types (info_error.ClaimsVerification e) → is_wanting e ≡ false
+  caused_wanted ask answers check.Unsupported cause = refl
+  caused_wanted ask answers check.InvalidIssuer cause = refl
+  caused_wanted ask answers check.InvalidAudience cause = refl
+  caused_wanted ask answers (check.SignatureVerification signature.AmbiguousKeyId) cause = refl
+  caused_wanted ask answers (check.SignatureVerification signature.CryptoError) cause = refl
+  caused_wanted ask answers (check.SignatureVerification signature.DisallowedAlg) cause = refl
+  caused_wanted ask answers (check.SignatureVerification signature.InvalidKey) cause = refl
+  caused_wanted ask answers (check.SignatureVerification signature.NoMatchingKey) cause = refl
+  caused_wanted ask answers (check.SignatureVerification signature.NoSignature) cause = refl
+  caused_wanted ask answers (check.SignatureVerification signature.UnsupportedAlg) cause = refl
+  caused_wanted ask answers check.Expired cause = refl
+  caused_wanted ask answers check.InvalidNonce cause = refl
+  caused_wanted ask answers check.InvalidSubject cause = refl
+  caused_wanted ask answers (check.SignatureVerification signature.Memory) cause = absurd cause
+  caused_wanted ask answers check.Memory cause = absurd cause
 
   module _ (answers : List SeenAnswer) where
     info_subject : (signed : SeenSignedIn AC GC) (is : IsSignedIn types a answers signed) (found : SeenUserInfoClaims AC GC) → HoldsInfo types a answers is.held found
@@ -111,7 +116,7 @@ module _ {AC GC Key Use : Type 0} (types : SiteTypes AC GC Key Use) (a : Attempt
     info_subject signed is found x =
         let d = x.answered.asked.demands in
         let subject = about a.client d.demand is.held.tokens.access_token (subject_of is.held.token) x.ask d.own_ask in
-        subst (IsOwn (IsAbout types x.ask.demand) (NeverWants types)) x.info_in_response (info_own types x.ask.demand x.response x.answered.not_too_long) (subject_of is.held.token) subject
+        subst (IsOwn (IsAbout types x.ask.demand) (NeverWants types)) (info_answered types a answers is.held found x) (info_own types x.ask.demand x.response x.answered.not_too_long) (subject_of is.held.token) subject
         ∙ ap subject_of (sym is.own_id_token)
 
     by_info : (signed : SeenSignedIn AC GC) (is : IsSignedIn types a answers signed) (found : Option (SeenUserInfoClaims AC GC)) → HasInfo types a answers is.held found
@@ -241,9 +246,7 @@ module _ {AC GC Key Use : Type 0} (types : SiteTypes AC GC Key Use) (a : Attempt
       token_hides token_error.Memory c = absurd c
 
       info_hides : (e : UserInfoError E) → InfoCause types a ran.answers (seen_info e) → hides_memory (login.UserInfo e) ≡ false
-      info_hides (info_error.ClaimsVerification kind) c =
-          own_wanted (IsAbout types c.ask.demand) (NeverWants types) law kind
-          (subst (IsOwn (IsAbout types c.ask.demand) (NeverWants types)) c.refused (info_own types c.ask.demand c.response c.answered.not_too_long))
+      info_hides (info_error.ClaimsVerification kind) c = caused_wanted c.ask (rest_of ran.answers) kind c.cause
       info_hides (info_error.Parse refusal) c = refl
       info_hides (info_error.Request cause) c = refl
       info_hides (info_error.Response status body cause) c = refl

@@ -1,11 +1,10 @@
 -- Each cause has its row: the facts of a cause compute the reply.
-use Rattle.std.proofs.Common.{◌≡◌, ◌≢◌, ℕ, List, [], ◌∷◌, true, false, Option, None, Some, Ok, Err, refl, sym, ap, ◌∙◌, ⊎_elim}
-use Rattle.std.specs.Prelude.{codes}
+use Rattle.std.proofs.Common.{◌≡◌, ℕ, List, false, Option, None, Some, Ok, Err, refl, sym, ap, ◌∙◌, ⊎_elim}
 use Rattle.std.specs.Option.{ok_or}
 use Rattle.http_header.specs.FieldValue.{is_visible_text}
 use Rattle.oidc_types.specs.{signing_text}
 use Rattle.oidc_types.specs.declared.signing_error.SigningError.TheVariants.{UnsupportedAlg}
-use Rattle.oidc_pairs.specs.Pairs.{pairs, values}
+use Rattle.oidc_pairs.specs.Pairs.{pairs}
 use Rattle.oidc_oauth2.specs.Messages.{SeenRequest, SeenResponse, SeenAnswer}
 use Rattle.oidc_oauth2.specs.Transport.{first_of}
 use Rattle.oidc_oauth2.specs.TokenAnswers.{◌>>=◌, ◌>>◌, ◌when◌, ◌or_as◌, is_over_long}
@@ -14,7 +13,6 @@ use Rattle.oidc_oauth2.specs.declared.token_answers.RequestTokenError.TheVariant
 use Rattle.oidc_tokens.specs.declared.verification.refusals.ClaimsVerificationError.{ClaimsVerificationError}
 use Rattle.oidc_user_info.specs.UserInfoClaims.{SeenUserInfoClaims}
 use Rattle.oidc_user_info.specs.InfoErrors.{InfoRefusal}
-use Rattle.oidc_user_info.specs.InfoAnswers.{info_answer}
 use Rattle.oidc_user_info.specs.InfoRequests.{SeenInfoRequest, info_request}
 use Rattle.oidc_user_info.specs.InfoRuns.{unmade}
 use Rattle.oidc_user_info.specs.declared.errors.InfoOther.TheVariants as info_other
@@ -23,18 +21,20 @@ use Rattle.oidc_user_info.specs.declared.errors.PrepareInfoError.TheVariants as 
 use Rattle.oidc_user_info.specs.declared.errors.UserInfoError.TheVariants as info_error
 use Rattle.oidc_login.specs.SiteTypes.{SiteTypes}
 use Rattle.oidc_login.specs.Logins.{SeenLogin}
-use Rattle.oidc_login.specs.TokenResponse.{Tokens, TokenError, tokens_or_refusal}
-use Rattle.oidc_login.specs.IdTokens.{SeenIdToken, subject_of, verifier_of, failure_for}
+use Rattle.oidc_login.specs.TokenResponse.{Tokens, TokenError}
+use Rattle.oidc_login.specs.IdTokens.{subject_of, verifier_of, failure_for}
 use Rattle.oidc_login.specs.TokenHash.{claimed_hash, hash_beside}
 use Rattle.oidc_login.specs.SignedIn.{SeenSignedIn, signed_by}
 use Rattle.oidc_login.specs.Errors.{Error}
-use Rattle.oidc_login.specs.Rows.{Attempt, Meant, Run, ◌or◌, ◌for◌, SeenOpened, SeenAsked, rest_of, opening_by, opening, tokens_in, hash_rows, accepting, signing_in, after_token, prepared, asking, info_in, after_info, asked_run, info_run, token_run, opened_run, outcome}
-use Rattle.oidc_login.specs.Causes.{Names, Asks, Reads, Held, Holds, Accepted, own_hash, Fits, Demands, AsksInfo, InfoAnswered, HasInfo, HoldsInfo, IsSignedIn, HasNoTokens, HasNoInfo, HasNoInfoAddress, LacksEndpoint, TooLongCause, TokenCause, InfoCause, Cause}
+use Rattle.oidc_login.specs.Rows.{Attempt, Meant, ◌or◌, ◌for◌, SeenOpened, SeenAsked, rest_of, opening_by, opening, tokens_in, hash_rows, accepting, signing_in, after_token, prepared, asking, info_in, after_info, asked_run, info_run, token_run, opened_run, outcome}
+use Rattle.oidc_login.specs.Causes.{Asks, Reads, Held, Holds, Accepted, own_hash, Fits, Demands, AsksInfo, HasInfo, HoldsInfo, IsSignedIn, HasNoTokens, HasNoInfo, HasNoInfoAddress, LacksEndpoint, TooLongCause, TokenCause, InfoCause, Cause}
 use Rattle.oidc_login.specs.declared.errors.TooLong.{TooLong}
 use Rattle.oidc_login.specs.declared.errors.TooLong.TheVariants as place
 use Rattle.oidc_login.specs.declared.errors.LoginError.TheVariants as login
 use Rattle.oidc_login.specs.declared.demand.UserInfoDemand.{UserInfoDemand}
 use Rattle.oidc_login.proofs.Asked.{bearer_back, uri_back, own_token, asking_of, asking_nowhere}
+use Rattle.oidc_login.proofs.Answers.{tokens_back, refusal_back}
+use Rattle.oidc_login.proofs.InfoAnswers.{found_back, unfound_back}
 use Rattle.oidc_login.proofs.Verification.{accepted}
 use Rattle.oidc_login.proofs.TokenHash.{beside, other_claim, own_claim}
 
@@ -81,13 +81,13 @@ module _ {AC GC Key Use : Type 0} (types : SiteTypes AC GC Key Use) (a : Attempt
   refused_tokens e c =
       let x = c.answered in
       token_refused c.login x.request _ x.asked
-      (next_response c.login c.response (Err (login.Token e)) x.response_came (rw (x.not_too_long, c.refused) refl))
+      (next_response c.login c.response (Err (login.Token e)) x.response_came (rw (x.not_too_long, refusal_back types c.response e c.cause) refl))
 
   next_tokens : (l : SeenLogin) (tokens : Tokens AC GC) → Reads types a answers l tokens → next l ≡ signing_in types a.client a.now l tokens
   unfolding tokens_in
   next_tokens l tokens reads =
       let x = reads.answered in
-      next_response l reads.response (Ok tokens) x.response_came (rw (x.not_too_long, reads.tokens_in_response) refl)
+      next_response l reads.response (Ok tokens) x.response_came (rw (x.not_too_long, tokens_back types reads.response tokens reads.tokens_held) refl)
 
   -- ---- the rows on the ID token
 
@@ -170,13 +170,15 @@ module _ {AC GC Key Use : Type 0} (types : SiteTypes AC GC Key Use) (a : Attempt
   unfolding info_in
   refused_info e c =
       let x = c.answered in
-      info_reply c.held c.ask x.request c.response (Err (login.UserInfo e)) x.asked x.response_came (rw (x.not_too_long, c.refused) refl)
+      info_reply c.held c.ask x.request c.response (Err (login.UserInfo e)) x.asked x.response_came
+      (rw (x.not_too_long, unfound_back types c.ask (rest_of answers) x.request x.asked.request_made c.response x.response_came e c.cause) refl)
 
   found_reply : (h : Held AC GC) (found : SeenUserInfoClaims AC GC) → HoldsInfo types a answers h found → reply ≡ Ok (record (user_of h) { user_info = Some found })
   unfolding info_in
   found_reply h found c =
       let x = c.answered in
-      info_reply h c.ask x.request c.response (Ok found) x.asked x.response_came (rw (x.not_too_long, c.info_in_response) refl)
+      info_reply h c.ask x.request c.response (Ok found) x.asked x.response_came
+      (rw (x.not_too_long, found_back types c.ask (rest_of answers) x.request x.asked.request_made c.response x.response_came found c.info_held) refl)
 
   -- ---- each row
 

@@ -1,9 +1,8 @@
 -- A callback, return by return: what was handed over, and which reply and requests are meant.
-use Rattle.std.proofs.Common.{◌≡◌, ℕ, ℤ, zero, suc, ◌+◌, List, [], ◌∷◌, ◌++◌, length, take, drop, Bool, true, Option, None, Some, Result, Ok, Err, refl, sym, ap, subst, ◌∙◌, ◌≤◌, lit≤, arith, append-nil, append_assoc, inl, inr, ⊎_elim}
+use Rattle.std.proofs.Common.{◌≡◌, ℕ, ℤ, zero, suc, List, [], ◌∷◌, ◌++◌, length, take, drop, Bool, true, Option, None, Some, Result, Ok, Err, refl, sym, ap, subst, ◌∙◌, ◌≤◌, lit≤, arith, append-nil, append_assoc, inl, inr, ⊎_elim}
 use Rattle.std.specs.Prelude.{◌⊎◌, IfOk, IfErr, IsOk, OnOk}
-use Rattle.oidc_pairs.specs.Pairs.{pairs}
 use Rattle.oidc_oauth2.specs.Messages.{SeenRequest, SeenAnswer}
-use Rattle.oidc_oauth2.specs.Transport.{Log, log_after, first_of, played, Plays}
+use Rattle.oidc_oauth2.specs.Transport.{Log, log_after, first_of, Plays}
 use Rattle.oidc_oauth2.specs.Exchanges.{Known}
 use Rattle.oidc_user_info.specs.InfoRequests.{SeenInfoRequest}
 use Rattle.oidc_login.specs.Client.{SeenClient}
@@ -12,14 +11,14 @@ use Rattle.oidc_login.specs.Logins.{SeenLogin}
 use Rattle.oidc_login.specs.SignedIn.{SeenSignedIn, signed_by}
 use Rattle.oidc_login.specs.Errors.{Error, seen, memory_of, Unless, OrMemory, Gives}
 use Rattle.oidc_login.specs.Rows.{Attempt, Meant, SeenOpened, SeenAsked, Run, rest_of, preceded_by, answered_alone, opening, after_token, asking, after_info, asked_run, info_run, token_run, opened_run, outcome}
-use Rattle.oidc_login.specs.Causes.{Asks, AsksNothing, Held, AsksInfo, Cause, IsSignedIn}
-use Rattle.oidc_login.specs.ValidLogin.{IsValidLogin}
+use Rattle.oidc_login.specs.Causes.{Asks, AsksNothing, Held, Cause, IsSignedIn}
 use Rattle.oidc_login.specs.Runs.{IsItsRequest, AreBothRequests, AreItsRequests, handed_over, Ran}
 use Rattle.oidc_login.specs.Steps.{Exchanged, Untouched, Follows}
 use Rattle.oidc_login.specs.declared.demand.UserInfoDemand.{UserInfoDemand}
 use Rattle.oidc_login.specs.declared.errors.LoginError.{LoginError}
 use Rattle.oidc_login.specs.declared.errors.LoginError.TheVariants.{Memory}
 use Rattle.oidc_login.proofs.Walks.{Walk}
+use Rattle.oidc_login.proofs.NoMemory.{NeverWants}
 use Rattle.oidc_login.proofs.Rows as rows
 use Rattle.oidc_login.proofs.Causes as causes
 use Rattle.oidc_login.proofs.Valid.{signed_of_valid}
@@ -292,10 +291,10 @@ module _ {AC GC Key Use : Type 0} (types : SiteTypes AC GC Key Use) (a : Attempt
 
   -- ---- what was handed over and is meant makes the whole
 
-  pub ran : {E : Type 0} (old new : Known) (result : Result (SeenSignedIn AC GC) (LoginError E)) → Follows (outcome types a) old new result → Ran types a old new result
-  ran old new result x =
+  pub ran : {E : Type 0} → NeverWants types → (old new : Known) (result : Result (SeenSignedIn AC GC) (LoginError E)) → Follows (outcome types a) old new result → Ran types a old new result
+  ran never old new result x =
       let answers = x.answers in
-      let walk = rows.outcome-walk types a answers in
+      let walk = rows.outcome-walk types a answers never in
       let only = only_its answers (length answers) (outcome types a answers).sent (sendable answers) in record {
         answers = answers;
         logged = x.logged;
@@ -316,13 +315,13 @@ module _ {AC GC Key Use : Type 0} (types : SiteTypes AC GC Key Use) (a : Attempt
       }
 
   -- nothing was sent
-  pub unopened : {E : Type 0} (old : Known) (e : LoginError E) → Gives {A = SeenOpened} (Err e) opens → Ran types a old old (Err e)
-  unopened old e gives = ran old old (Err e) (refused (λ answers m. opened_run types a.client a.now answers m) old e opens (λ x. refl) gives)
+  pub unopened : {E : Type 0} → NeverWants types → (old : Known) (e : LoginError E) → Gives {A = SeenOpened} (Err e) opens → Ran types a old old (Err e)
+  unopened never old e gives = ran never old old (Err e) (refused (λ answers m. opened_run types a.client a.now answers m) old e opens (λ x. refl) gives)
 
   -- what was opened was followed
-  pub signed : {E : Type 0} (o : SeenOpened) → opens ≡ Ok o → (old new : Known) (result : Result (SeenSignedIn AC GC) (LoginError E))
+  pub signed : {E : Type 0} → NeverWants types → (o : SeenOpened) → opens ≡ Ok o → (old new : Known) (result : Result (SeenSignedIn AC GC) (LoginError E))
       → Follows (λ answers. opened_run types a.client a.now answers (Ok o)) old new result → Ran types a old new result
-  signed o is old new result x = ran old new result (subst (λ m. Follows (λ answers. opened_run types a.client a.now answers m) old new result) (sym is) x)
+  signed never o is old new result x = ran never old new result (subst (λ m. Follows (λ answers. opened_run types a.client a.now answers m) old new result) (sym is) x)
 
   -- and a query that asks for nothing opens nothing
   pub asks_of : {E : Type 0} (o : SeenOpened) → opens ≡ Ok o → (old new : Known) (result : Result (SeenSignedIn AC GC) (LoginError E))

@@ -1,5 +1,5 @@
 -- User info is demanded only where the client has an endpoint for it, after each begin and each callback.
-use Rattle.std.proofs.Common.{◌≡◌, ℕ, List, Bool, true, false, cond, Option, None, Some, Ok, Err, refl, sym, subst, ◌∙◌}
+use Rattle.std.proofs.Common.{◌≡◌, ℕ, List, Bool, true, false, Option, None, Some, Ok, Err, sym, subst, ◌∙◌}
 use Rattle.std.specs.Prelude.{is_some, IsTrue, OnOk, OnErr, if◌then◌else◌}
 use Rattle.std.specs.FinMap as finite
 use Rattle.std.specs.Ordering.{nat_cmp}

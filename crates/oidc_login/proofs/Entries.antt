@@ -1,5 +1,5 @@
 -- how changes of the hashed map change the map that it keeps
-use Rattle.std.proofs.Common.{◌≡◌, ◌≢◌, ℕ, suc, ◌+◌, List, [], ◌∷◌, length, map, Option, None, Some, Bool, true, false, cond, refl, sym, ap, subst, ◌∙◌, arith, String}
+use Rattle.std.proofs.Common.{◌≡◌, ◌≢◌, ℕ, suc, ◌+◌, List, [], ◌∷◌, length, Option, None, Some, Bool, true, false, cond, refl, sym, ap, subst, ◌∙◌, arith, String}
 use Rattle.std.specs.Prelude.{unwrap_or, IsTrue, IfSome, is_some}
 use Rattle.std.specs.List.{IsDistinct, AllByRecursion}
 use Rattle.std.specs.FinMap as finite

@@ -1,11 +1,12 @@
 -- What a response to a user info request is worth is never a fault of the transport, a request that isn't made, want of
 -- memory, or too long; claims in it are about the expected subject; and what the steps answer by it.
-use Rattle.std.proofs.Common.{◌≡◌, ◌≢◌, ◌==◌, ℕ, List, Bool, true, false, Option, None, Some, Result, Ok, Err, refl, ap, subst}
+use Rattle.std.proofs.Common.{◌≡◌, ◌≢◌, ◌==◌, ℕ, List, Bool, true, false, Option, None, Some, Result, Ok, Err, refl, sym, ap, subst, ◌∙◌}
 use Rattle.std.specs.Prelude.{not, if◌then◌else◌, codes}
 use Rattle.std.specs.Str.{is_utf8}
 use Rattle.oidc_members.specs.declared.refusal.Refusal.{Refusal}
 use Rattle.oidc_keys.specs.declared.refusals.SignatureVerificationError.TheVariants as signature
-use Rattle.oidc_oauth2.specs.Messages.{SeenResponse}
+use Rattle.oidc_oauth2.specs.Messages.{SeenRequest, SeenResponse, SeenAnswer}
+use Rattle.oidc_oauth2.specs.Transport.{first_of}
 use Rattle.oidc_oauth2.specs.HttpUtils.{may_be}
 use Rattle.oidc_oauth2.specs.TokenAnswers.{◌>>=◌, ◌>>◌, ◌when◌, ◌or_as◌, is_over_long}
 use Rattle.oidc_tokens.specs.UserInfoVerification.{is_expected_subject}
@@ -14,9 +15,12 @@ use Rattle.oidc_tokens.specs.declared.verification.refusals.ClaimsVerificationEr
 use Rattle.oidc_tokens.proofs.Theorems.{about, info_accepts, info_never_memory, info_never_memory_inside}
 use Rattle.oidc_user_info.specs.UserInfoClaims.{SeenUserInfoClaims, parties_of}
 use Rattle.oidc_user_info.specs.InfoErrors.{InfoRefusal, Gives as GivesInfo}
-use Rattle.oidc_user_info.specs.InfoAnswers.{◌for◌, Demand, claims_in, token_in, failure_of, accepted_claims, of_text, from_json, of_object, of_token, by_media_type, info_answer}
+use Rattle.oidc_user_info.specs.InfoAnswers.{◌for◌, Demand, claims_in, token_in, failure_of, from_json, of_object, of_token, by_media_type, info_answer}
+use Rattle.oidc_user_info.specs.InfoRequests.{SeenInfoRequest, info_request}
+use Rattle.oidc_user_info.specs.InfoCauses.{IsUserInfo, Cause}
+use Rattle.oidc_user_info.specs.InfoRuns.{reply_of, reply_to, reply}
 use Rattle.oidc_user_info.specs.declared.errors.InfoOther.TheVariants as other
-use Rattle.oidc_user_info.specs.declared.errors.ResponseCause.TheVariants.{Status, MediaType}
+use Rattle.oidc_user_info.specs.declared.errors.ResponseCause.TheVariants.{Status}
 use Rattle.oidc_user_info.specs.declared.errors.UserInfoError.{UserInfoError}
 use Rattle.oidc_user_info.specs.declared.errors.UserInfoError.TheVariants as info
 use Rattle.oidc_login.specs.SiteTypes.{SiteTypes}
@@ -26,6 +30,7 @@ use Rattle.oidc_login.specs.Rows.{Meant, info_in}
 use Rattle.oidc_login.specs.declared.errors.TooLong.TheVariants as place
 use Rattle.oidc_login.specs.declared.errors.LoginError.TheVariants as login
 use Rattle.oidc_login.proofs.NoMemory.{NeverWants}
+use Rattle.oidc_user_info.proofs.Theorems.{Rests, rests, holds_reply, refused_reply}
 
 -- ---- refusals that a response alone can be worth, and what is known of the claims in it
 
@@ -203,3 +208,19 @@ module _ {AC GC Key Use : Type 0} (types : SiteTypes AC GC Key Use) (demand : De
     pub info_no_fault : faulted (of_info e) ≡ false
     unfolding info_answer
     info_no_fault = no_fault (IsAbout types demand) (NeverWants types) (is_over_long r.body) r.body (short_worth types demand r) e (short_own types demand r) is
+
+-- ---- what a response rests on, by the rows on it, and back
+
+module _ {AC GC Key Use : Type 0} (types : SiteTypes AC GC Key Use) (ask : SeenInfoRequest Key) (answers : List SeenAnswer)
+    (request : SeenRequest) (made : info_request ask ≡ Ok request) (r : SeenResponse) (came : first_of answers ≡ Some r) where
+  reply_is : reply types ask answers ≡ info_answer types ask.demand r
+  reply_is = ap (λ m. reply_to types ask.demand m answers) made ∙ ap (reply_of types ask.demand) came
+
+  pub info_rests : NeverWants types → Rests types ask answers (info_answer types ask.demand r)
+  info_rests never = subst (Rests types ask answers) reply_is (rests types ask answers never)
+
+  pub found_back : (found : SeenUserInfoClaims AC GC) → IsUserInfo ask answers types found → info_answer types ask.demand r ≡ Ok found
+  found_back found held = sym reply_is ∙ holds_reply types ask answers found held
+
+  pub unfound_back : (e : InfoRefusal) → Cause ask answers types e → info_answer types ask.demand r ≡ Err e
+  unfound_back e cause = sym reply_is ∙ refused_reply types ask answers e cause

@@ -8,6 +8,7 @@ pub mod Walks
 pub mod NoMemory
 pub mod Answers
 pub mod InfoAnswers
+pub mod Found
 pub mod Asked
 pub mod Rows
 pub mod Causes
@@ -17,4 +18,5 @@ pub mod Signing
 pub mod Called
 pub mod ReadTokens
 pub mod NoFloat
+pub mod Turns
 pub mod Spent

@@ -10,7 +10,6 @@ use Rattle.oidc_keys.specs.declared.jwk.JsonWebKey.{Ghosts as Keys}
 use Rattle.oidc_keys.specs.declared.jwk.JsonWebKeyUse.{Ghosts as Uses}
 use Rattle.oidc_claims.specs.Others.{Others, list_of, read_others}
 use Rattle.oidc_oauth2.specs.Messages.{SeenAnswer}
-use Rattle.oidc_oauth2.specs.Words.{token_type_of}
 use Rattle.oidc_oauth2.specs.TokenResponse.{token_rule, access_token, token_type, tokens_of}
 use Rattle.oidc_tokens.proofs.Theorems.{response_free}
 use Rattle.oidc_login.specs.SiteTypes.{SiteTypes, site_types}
@@ -18,6 +17,7 @@ use Rattle.oidc_login.specs.TokenResponse.{Tokens, no_others, fields_of, tokens_
 use Rattle.oidc_login.specs.SignedIn.{SeenSignedIn}
 use Rattle.oidc_login.specs.Rows.{Attempt}
 use Rattle.oidc_login.specs.Causes.{IsSignedIn}
+use Rattle.oidc_login.proofs.Answers.{tokens_back}
 use Rattle.oidc_login.proofs.ReadTokens.{response_read}
 
 -- what follows from two steps that gave a value, by the value between them
@@ -45,6 +45,6 @@ module _ {GC Key Use : Type 0} (gender : SeenMember → Result GC Refusal) (keys
       → any_float (list_of signed.id_token.payload.additional_claims) ≡ false
   signed_free a answers signed is =
       let reads = is.holds.reads in
-      let read = response_read keeping reads.response is.held.tokens reads.tokens_in_response in
+      let read = response_read keeping reads.response is.held.tokens (tokens_back keeping reads.response is.held.tokens reads.tokens_held) in
       ap (λ t. any_float (list_of t.payload.additional_claims)) is.own_id_token
       ∙ response_free keeping.encrypts keeping.signs gender no_others read.0 is.held.tokens.extra_fields is.held.token (fields_read read.0 is.held.tokens read.1) is.holds.own_id_token

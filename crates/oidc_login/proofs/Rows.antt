@@ -1,27 +1,27 @@
 -- Each row of the table has its cause: one line for each row, in the order of the table.
-use Rattle.std.proofs.Common.{◌≡◌, ◌≢◌, ℕ, List, [], ◌∷◌, true, false, Option, None, Some, Ok, Err, refl, sym, ap, subst, ◌∙◌, inl, inr}
+use Rattle.std.proofs.Common.{◌≡◌, ℕ, List, [], ◌∷◌, true, false, Option, None, Some, Result, Ok, Err, refl, sym, ap, subst, ◌∙◌, inl, inr}
 use Rattle.std.specs.Prelude.{not, option_map, codes}
 use Rattle.std.specs.Option.{ok_or}
 use Rattle.std.specs.Str.{bytes_eq}
 use Rattle.http_header.specs.FieldValue.{is_visible_text}
 use Rattle.oidc_types.specs.{signing_text}
-use Rattle.oidc_types.specs.declared.core_authorization.CoreAuthErrorResponseType.{CoreAuthErrorResponseType}
 use Rattle.oidc_types.specs.declared.signing_error.SigningError.TheVariants.{UnsupportedAlg}
 use Rattle.oidc_pairs.specs.Pairs.{pairs, values, first_of as first_value}
 use Rattle.oidc_oauth2.specs.Messages.{SeenRequest, SeenResponse, SeenAnswer}
-use Rattle.oidc_oauth2.specs.ErrorResponse.{SeenError}
 use Rattle.oidc_oauth2.specs.Transport.{first_of}
 use Rattle.oidc_oauth2.specs.TokenAnswers.{is_over_long}
-use Rattle.oidc_oauth2.specs.declared.error_types.CoreErrorResponseType.{CoreErrorResponseType}
 use Rattle.oidc_oauth2.specs.declared.token_answers.OtherCause.TheVariants as other
 use Rattle.oidc_oauth2.specs.declared.token_answers.RequestTokenError.TheVariants as token_error
-use Rattle.oidc_oauth2.proofs.Theorems.{IsJudged}
+use Rattle.oidc_oauth2.specs.AnswerCauses.{StatusCause}
+use Rattle.oidc_oauth2.proofs.Theorems.{StatusRests}
 use Rattle.oidc_tokens.proofs.Theorems.{failure_cause}
 use Rattle.oidc_user_info.specs.UserInfoClaims.{SeenUserInfoClaims}
 use Rattle.oidc_user_info.specs.InfoErrors.{InfoRefusal}
 use Rattle.oidc_user_info.specs.InfoAnswers.{info_answer}
 use Rattle.oidc_user_info.specs.InfoRequests.{SeenInfoRequest, info_request}
+use Rattle.oidc_user_info.specs.InfoCauses as info_causes
 use Rattle.oidc_user_info.specs.InfoRuns.{unmade}
+use Rattle.oidc_user_info.proofs.Theorems.{Rests}
 use Rattle.oidc_user_info.specs.declared.errors.InfoOther.TheVariants as info_other
 use Rattle.oidc_user_info.specs.declared.errors.PrepareInfoError.{PrepareInfoError}
 use Rattle.oidc_user_info.specs.declared.errors.PrepareInfoError.TheVariants as prepare
@@ -29,9 +29,9 @@ use Rattle.oidc_user_info.specs.declared.errors.UserInfoError.TheVariants as inf
 use Rattle.oidc_login.specs.SiteTypes.{SiteTypes}
 use Rattle.oidc_login.specs.Logins.{SeenLogin}
 use Rattle.oidc_login.specs.TokenRequest.{token_request}
-use Rattle.oidc_login.specs.TokenResponse.{Tokens, TokenError, tokens_or_refusal}
-use Rattle.oidc_login.specs.IdTokens.{SeenIdToken, subject_of, verifier_of, is_nonce, IsAcceptedBy, failure_for}
-use Rattle.oidc_login.specs.TokenHash.{claimed_hash, hash_under, hash_beside, FitsHash}
+use Rattle.oidc_login.specs.TokenResponse.{Tokens, TokenError, error_read, tokens_read, tokens_or_refusal}
+use Rattle.oidc_login.specs.IdTokens.{SeenIdToken, subject_of, verifier_of, is_nonce, failure_for}
+use Rattle.oidc_login.specs.TokenHash.{claimed_hash}
 use Rattle.oidc_login.specs.SignedIn.{SeenSignedIn, signed_by}
 use Rattle.oidc_login.specs.UserInfo.{info_ask}
 use Rattle.oidc_login.specs.Errors.{Error}
@@ -40,8 +40,8 @@ use Rattle.oidc_login.specs.Causes.{Names, HasCode, Asks, Held, Answered, Reads,
 use Rattle.oidc_login.specs.declared.demand.UserInfoDemand.{UserInfoDemand}
 use Rattle.oidc_login.specs.declared.errors.LoginError.TheVariants.{UserInfo}
 use Rattle.oidc_login.proofs.Walks.{Walk, at_or, at_meant, at_or_as, at_last, at_when, at_for, at_then, at_end, walked_err, walked_ok}
-use Rattle.oidc_login.proofs.Answers.{judged}
-use Rattle.oidc_login.proofs.InfoAnswers.{IsOwn, IsAbout, info_own}
+use Rattle.oidc_login.proofs.Answers.{rests}
+use Rattle.oidc_login.proofs.InfoAnswers.{IsOwn, IsAbout, info_own, info_rests}
 use Rattle.oidc_login.proofs.NoMemory.{NeverWants}
 use Rattle.oidc_login.proofs.Asked.{bearer, uri, never_memory, no_endpoint, own_token}
 use Rattle.oidc_login.proofs.Verification.{accepts}
@@ -82,15 +82,18 @@ module _ {AC GC Key Use : Type 0} (types : SiteTypes AC GC Key Use) (a : Attempt
 
   -- ---- behind it
 
-  token_row : (l : SeenLogin) (r : SeenResponse) (e : TokenError) → Answered types a answers l r → tokens_or_refusal types r ≡ Err e → TokenCause types a answers e
-  token_row l r (token_error.Request cause) answered is = absurd (subst (IsJudged (Tokens AC GC) (SeenError CoreErrorResponseType)) is (judged types r))
-  token_row l r (token_error.Other other.Uri) answered is = absurd (subst (IsJudged (Tokens AC GC) (SeenError CoreErrorResponseType)) is (judged types r))
-  token_row l r (token_error.TooLong body) answered is = absurd (subst (IsJudged (Tokens AC GC) (SeenError CoreErrorResponseType)) is (judged types r))
-  token_row l r token_error.Memory answered is = absurd (subst (IsJudged (Tokens AC GC) (SeenError CoreErrorResponseType)) is (judged types r))
-  token_row l r (token_error.Other other.EmptyBody) answered is = record { login = l; response = r; answered = answered; refused = is }
-  token_row l r (token_error.Other other.MediaType) answered is = record { login = l; response = r; answered = answered; refused = is }
-  token_row l r (token_error.ServerResponse error) answered is = record { login = l; response = r; answered = answered; refused = is }
-  token_row l r (token_error.Parse refusal body) answered is = record { login = l; response = r; answered = answered; refused = is }
+  token_row : (l : SeenLogin) (r : SeenResponse) (e : TokenError) → Answered types a answers l r → StatusCause error_read (tokens_read types) r e → TokenCause types a answers e
+  token_row l r (token_error.Request cause) answered why = absurd why
+  token_row l r (token_error.Other other.Uri) answered why = absurd why
+  token_row l r (token_error.TooLong body) answered why = absurd why
+  token_row l r token_error.Memory answered why = absurd why
+  token_row l r (token_error.Other other.EmptyBody) answered why = record { login = l; response = r; answered = answered; cause = why }
+  token_row l r (token_error.Other other.MediaType) answered why = record { login = l; response = r; answered = answered; cause = why }
+  token_row l r (token_error.ServerResponse error) answered why = record { login = l; response = r; answered = answered; cause = why }
+  token_row l r (token_error.Parse refusal body) answered why = record { login = l; response = r; answered = answered; cause = why }
+
+  abbrev IsHeldBy : SeenResponse → Result (Tokens AC GC) TokenError → Type 0
+  IsHeldBy r worth = StatusRests error_read (tokens_read types) r worth
 
   tokens_in-walk : (l : SeenLogin) (request : SeenRequest) (r : SeenResponse) → Asks a l request → first_of answers ≡ Some r
       → Walk (λ ts. Reads types a answers l ts) Q (tokens_in types r)
@@ -99,8 +102,8 @@ module _ {AC GC Key Use : Type 0} (types : SiteTypes AC GC Key Use) (a : Attempt
       at_when _ _ (is_over_long r.body) _ _
       (λ long. record { login = l; request = request; asked = asked; response = r; response_came = came; too_long = long }) (λ short.
       let answered : Answered types a answers l r = record { request = request; asked = asked; response_came = came; not_too_long = short } in
-      at_last _ _ (tokens_or_refusal types r) _ (λ e is. token_row l r e answered is) (λ ts is.
-      record { response = r; answered = answered; tokens_in_response = is }))
+      at_last _ _ (tokens_or_refusal types r) _ (λ e is. token_row l r e answered (subst (IsHeldBy r) is (rests types r))) (λ ts is.
+      record { response = r; answered = answered; tokens_held = subst (IsHeldBy r) is (rests types r) }))
 
   -- by the claim in the ID token, and by the hash of the access token, where there is one
   claim-walk : (h : Held AC GC) (accepted : Accepted types a answers h) (claim own : Option (List ℕ)) → claimed_hash h.token ≡ claim → own_hash types a answers h accepted ≡ own
@@ -211,32 +214,33 @@ module _ {AC GC Key Use : Type 0} (types : SiteTypes AC GC Key Use) (a : Attempt
     own_row : (e : InfoRefusal) → info_answer types ask.demand r ≡ Err e → Own e
     own_row e is = subst (IsOwn (IsAbout types ask.demand) (NeverWants types)) is (info_own types ask.demand r answered.not_too_long)
 
-    info_row : (e : InfoRefusal) → info_answer types ask.demand r ≡ Err e → InfoCause types a answers e
-    info_row (info_error.Request cause) is = absurd (own_row (info_error.Request cause) is)
-    info_row (info_error.Other info_other.Bearer) is = absurd (own_row (info_error.Other info_other.Bearer) is)
-    info_row (info_error.Other info_other.Uri) is = absurd (own_row (info_error.Other info_other.Uri) is)
-    info_row (info_error.TooLong body) is = absurd (own_row (info_error.TooLong body) is)
-    info_row info_error.Memory is = absurd (own_row info_error.Memory is)
-    info_row (info_error.Other info_other.Utf8) is = record { held = h; ask = ask; response = r; answered = answered; refused = is }
-    info_row (info_error.ClaimsVerification kind) is = record { held = h; ask = ask; response = r; answered = answered; refused = is }
-    info_row (info_error.Parse refusal) is = record { held = h; ask = ask; response = r; answered = answered; refused = is }
-    info_row (info_error.Response status body cause) is = record { held = h; ask = ask; response = r; answered = answered; refused = is }
+    info_row : (e : InfoRefusal) → info_answer types ask.demand r ≡ Err e → info_causes.Cause ask (rest_of answers) types e → InfoCause types a answers e
+    info_row (info_error.Request cause) is why = absurd (own_row (info_error.Request cause) is)
+    info_row (info_error.Other info_other.Bearer) is why = absurd (own_row (info_error.Other info_other.Bearer) is)
+    info_row (info_error.Other info_other.Uri) is why = absurd (own_row (info_error.Other info_other.Uri) is)
+    info_row (info_error.TooLong body) is why = absurd (own_row (info_error.TooLong body) is)
+    info_row info_error.Memory is why = absurd (own_row info_error.Memory is)
+    info_row (info_error.Other info_other.Utf8) is why = record { held = h; ask = ask; response = r; answered = answered; cause = why }
+    info_row (info_error.ClaimsVerification kind) is why = record { held = h; ask = ask; response = r; answered = answered; cause = why }
+    info_row (info_error.Parse refusal) is why = record { held = h; ask = ask; response = r; answered = answered; cause = why }
+    info_row (info_error.Response status body cause) is why = record { held = h; ask = ask; response = r; answered = answered; cause = why }
 
   -- this user info came about who is held
   pub record IsFoundFor (h : Held AC GC) (ask : SeenInfoRequest Key) (found : SeenUserInfoClaims AC GC) : Type 0 where
     pub response : SeenResponse
     pub answered : InfoAnswered types a answers h ask response
-    pub info_in_response : info_answer types ask.demand response ≡ Ok found
+    pub info_held : info_causes.IsUserInfo ask (rest_of answers) types found
 
-  info_in-walk : (h : Held AC GC) (ask : SeenInfoRequest Key) (request : SeenRequest) (r : SeenResponse) → AsksInfo types a answers h ask request → first_of (rest_of answers) ≡ Some r
+  info_in-walk : NeverWants types → (h : Held AC GC) (ask : SeenInfoRequest Key) (request : SeenRequest) (r : SeenResponse) → AsksInfo types a answers h ask request → first_of (rest_of answers) ≡ Some r
       → Walk (IsFoundFor h ask) Q (info_in types ask.demand r)
   unfolding info_in
-  info_in-walk h ask request r asked came =
+  info_in-walk never h ask request r asked came =
       at_when _ _ (is_over_long r.body) _ _
       (λ long. record { held = h; ask = ask; request = request; asked = asked; response = r; response_came = came; too_long = long }) (λ short.
       let answered : InfoAnswered types a answers h ask r = record { request = request; asked = asked; response_came = came; not_too_long = short } in
-      at_last _ _ (info_answer types ask.demand r) _ (λ e is. info_row h ask r answered e is) (λ found is.
-      record { response = r; answered = answered; info_in_response = is }))
+      let rests = info_rests types ask (rest_of answers) request asked.request_made r came never in
+      at_last _ _ (info_answer types ask.demand r) _ (λ e is. info_row h ask r answered e is (subst (Rests types ask (rest_of answers)) is rests)) (λ found is.
+      record { response = r; answered = answered; info_held = subst (Rests types ask (rest_of answers)) is rests }))
 
   signed : (h : Held AC GC) → Fits types a answers h → (ask : SeenInfoRequest Key) (found : SeenUserInfoClaims AC GC) → IsFoundFor h ask found
       → IsSignedIn types a answers (record (signed_by h.token h.tokens) { user_info = Some found })
@@ -248,29 +252,29 @@ module _ {AC GC Key Use : Type 0} (types : SiteTypes AC GC Key Use) (a : Attempt
     own_id_token = refl;
     own_access_token = refl;
     own_refresh_token = refl;
-    info = record { ask = ask; response = x.response; answered = x.answered; info_in_response = x.info_in_response };
+    info = record { ask = ask; response = x.response; answered = x.answered; info_held = x.info_held };
   }
 
-  after_info-walk : (h : Held AC GC) (ask : SeenInfoRequest Key) (request : SeenRequest) → AsksInfo types a answers h ask request
+  after_info-walk : NeverWants types → (h : Held AC GC) (ask : SeenInfoRequest Key) (request : SeenRequest) → AsksInfo types a answers h ask request
       → Walk (IsSignedIn types a answers) Q (after_info types ask.demand (signed_by h.token h.tokens) (first_of (rest_of answers)))
   unfolding after_info
-  after_info-walk h ask request asked =
+  after_info-walk never h ask request asked =
       at_or _ _ (first_of (rest_of answers)) _ _
       (λ none. record { held = h; ask = ask; request = request; asked = asked; no_response = none }) (λ r came.
       at_meant _ _ (info_in types ask.demand r) _
-      (λ e is. walked_err _ _ (info_in types ask.demand r) e (info_in-walk h ask request r asked came) is)
-      (λ found is. signed h asked.demands.fits ask found (walked_ok _ _ (info_in types ask.demand r) found (info_in-walk h ask request r asked came) is)))
+      (λ e is. walked_err _ _ (info_in types ask.demand r) e (info_in-walk never h ask request r asked came) is)
+      (λ found is. signed h asked.demands.fits ask found (walked_ok _ _ (info_in types ask.demand r) found (info_in-walk never h ask request r asked came) is)))
 
   -- ---- the whole
 
-  asked_run-walk : (h : Held AC GC) (m : Meant (SeenAsked Key)) → Walk (IsAskedOf h) Q m
+  asked_run-walk : NeverWants types → (h : Held AC GC) (m : Meant (SeenAsked Key)) → Walk (IsAskedOf h) Q m
       → Walk (IsSignedIn types a answers) Q (asked_run types (signed_by h.token h.tokens) (rest_of answers) m).reply
-  asked_run-walk h (Err e) walk = walk
-  asked_run-walk h (Ok asked) walk = after_info-walk h asked.ask asked.request walk
+  asked_run-walk never h (Err e) walk = walk
+  asked_run-walk never h (Ok asked) walk = after_info-walk never h asked.ask asked.request walk
 
-  info_run-walk : (h : Held AC GC) → Fits types a answers h → (demand : Option UserInfoDemand) → h.login.user_info ≡ demand
+  info_run-walk : NeverWants types → (h : Held AC GC) → Fits types a answers h → (demand : Option UserInfoDemand) → h.login.user_info ≡ demand
       → Walk (IsSignedIn types a answers) Q (info_run types a.client demand (signed_by h.token h.tokens) (rest_of answers)).reply
-  info_run-walk h fits None none = record {
+  info_run-walk never h fits None none = record {
     held = h;
     holds = fits.accepted.holds;
     accepted = fits.accepted.accepts;
@@ -280,19 +284,19 @@ module _ {AC GC Key Use : Type 0} (types : SiteTypes AC GC Key Use) (a : Attempt
     own_refresh_token = refl;
     info = none;
   }
-  info_run-walk h fits (Some demand) is = asked_run-walk h _ (asking-walk h fits demand is)
+  info_run-walk never h fits (Some demand) is = asked_run-walk never h _ (asking-walk h fits demand is)
 
-  token_run-walk : (l : SeenLogin) (m : Meant (SeenSignedIn AC GC)) → Walk (IsHeld l) Q m
+  token_run-walk : NeverWants types → (l : SeenLogin) (m : Meant (SeenSignedIn AC GC)) → Walk (IsHeld l) Q m
       → Walk (IsSignedIn types a answers) Q (token_run types a.client l (rest_of answers) m).reply
-  token_run-walk l (Err e) walk = walk
-  token_run-walk l (Ok user) x =
+  token_run-walk never l (Err e) walk = walk
+  token_run-walk never l (Ok user) x =
       subst (λ u. Walk (IsSignedIn types a answers) Q (info_run types a.client l.user_info u (rest_of answers)).reply) x.own
-      (info_run-walk (held l x.tokens x.token) x.fits l.user_info refl)
+      (info_run-walk never (held l x.tokens x.token) x.fits l.user_info refl)
 
-  opened_run-walk : (opened : Meant SeenOpened) → Walk IsOpened Q opened → Walk (IsSignedIn types a answers) Q (opened_run types a.client a.now answers opened).reply
-  opened_run-walk (Err e) walk = walk
-  opened_run-walk (Ok opened) walk = token_run-walk opened.login _ (after_token-walk opened.login opened.request walk)
+  opened_run-walk : NeverWants types → (opened : Meant SeenOpened) → Walk IsOpened Q opened → Walk (IsSignedIn types a answers) Q (opened_run types a.client a.now answers opened).reply
+  opened_run-walk never (Err e) walk = walk
+  opened_run-walk never (Ok opened) walk = token_run-walk never opened.login _ (after_token-walk opened.login opened.request walk)
 
   -- a reply rests on its cause, and an Ok on all that signs in
-  pub outcome-walk : Walk (IsSignedIn types a answers) Q (outcome types a answers).reply
-  outcome-walk = opened_run-walk (opening a.client a.pending a.query) opening-walk
+  pub outcome-walk : NeverWants types → Walk (IsSignedIn types a answers) Q (outcome types a answers).reply
+  outcome-walk never = opened_run-walk never (opening a.client a.pending a.query) opening-walk

@@ -1,12 +1,9 @@
 -- The rows on tokens and on an ID token, by what was found of them.
 use Rattle.std.proofs.Common.{◌≡◌, ℕ, ℤ, List, true, false, Option, None, Some, Result, Ok, Err, refl, sym, ap, subst, ◌∙◌}
 use Rattle.std.specs.Prelude.{is_some, IfOk, IfErr}
-use Rattle.oidc_types.specs.declared.signing_error.SigningError.{SigningError}
-use Rattle.oidc_types.specs.declared.signing_error.SigningError.TheVariants as signing
 use Rattle.oidc_oauth2.specs.TokenAnswers.{◌>>=◌, ◌>>◌}
 use Rattle.oidc_tokens.specs.declared.verification.refusals.ClaimsVerificationError.{ClaimsVerificationError}
 use Rattle.oidc_tokens.specs.declared.verification.refusals.ClaimsVerificationError.TheVariants as check
-use Rattle.oidc_tokens.specs.Hashes.{GivesHash}
 use Rattle.oidc_tokens.specs.Verification.{first_failure, Judges}
 use Rattle.oidc_login.specs.Client.{SeenClient}
 use Rattle.oidc_login.specs.Logins.{SeenLogin}
@@ -21,7 +18,6 @@ use Rattle.oidc_login.specs.declared.errors.LoginError.{LoginError}
 use Rattle.oidc_login.specs.declared.errors.LoginError.TheVariants as login
 use Rattle.oidc_login.specs.Steps.{of_check, IsPassed}
 use Rattle.oidc_login.proofs.Drives.{unless_map}
-use Rattle.oidc_login.proofs.TokenHash.{other_claim, own_claim}
 
 -- ---- the checks
 

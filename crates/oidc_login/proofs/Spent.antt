@@ -1,6 +1,7 @@
 -- A login that was taken out is not there for the next callback.
-use Rattle.std.proofs.Common.{◌≡◌, ◌≤◌, ℕ, ◌+◌, List, [], ◌∷◌, ◌++◌, Bool, true, false, Option, None, Some, Result, Ok, Err, cond, refl, sym, ap, subst, ◌∙◌, arith, inl, inr, ⊎_elim, lit≤}
-use Rattle.std.specs.Prelude.{◌⊎◌, ◌&&◌, is_some, if◌then◌else◌, option_and_then}
+use Rattle.std.proofs.Common.{◌≡◌, ◌≤◌, ℕ, ◌+◌, suc, List, [], ◌∷◌, ◌++◌, length, take, Bool, true, false, Option, None, Some, Ok, Err, cond, refl, sym, ap, subst, ◌∙◌, arith, inl, inr, ⊎_elim, lit≤}
+use Rattle.std.specs.Prelude.{◌⊎◌, ◌&&◌, not, if◌then◌else◌, option_and_then}
+use Rattle.std.specs.List.{filter, take_while, prefix_len, zip}
 use Rattle.std.specs.FinMap as finite
 use Rattle.std.specs.Ordering.{nat_cmp, eq_by_cmp}
 use Rattle.std.specs.Str.{bytes_eq}
@@ -14,10 +15,11 @@ use Rattle.oidc_oauth2.specs.TokenAnswers.{is_over_long}
 use Rattle.oidc_login.specs.Client.{SeenClient}
 use Rattle.oidc_login.specs.SiteTypes.{SiteTypes}
 use Rattle.oidc_login.specs.Logins.{SeenLogin, Pending}
-use Rattle.oidc_login.specs.Begins.{Begin, Meant as BeginMeant, begin_reply, begin_store, with_login}
-use Rattle.oidc_login.specs.Rows.{Attempt, Meant, SeenOpened, state_in, login_named_by, without_named, callback_store, opening, opened_run, outcome}
+use Rattle.oidc_login.specs.Begins.{Begin, Meant as BeginMeant, begin_reply, begin_store}
+use Rattle.oidc_login.specs.Rows.{Attempt, Meant, SeenOpened, state_in, login_named_by, opening, opened_run, outcome}
 use Rattle.oidc_login.specs.Causes.{Asks, Cause}
-use Rattle.oidc_login.specs.Events.{Call, Event, begins, calls, called_with, begin_step, callback_step, is_accepted, is_of_state, one_if_any, sending, store_of, SpentOnce}
+use Rattle.oidc_login.specs.Events.{Event, begins, calls, Step, called_with, begin_step, callback_step, steps_from, store_of, is_accepted, is_of_state, is_any, begins_again, has_sent, SpentOnce}
+use Rattle.oidc_login.proofs.Turns.{turns_dropped}
 use Rattle.oidc_login.proofs.Walks.{Walk}
 use Rattle.oidc_login.proofs.Rows.{opening-walk}
 
@@ -62,6 +64,10 @@ none_named : (m : Pending) (found : Option (List ℕ)) (s : List ℕ) → is_of_
 none_named m None s same none = refl
 none_named m (Some q) s same none = ap (finite.get m) (sym (equal s q same)) ∙ none
 
+abbrev one_if_any : List SeenRequest → ℕ
+one_if_any [] = 0
+one_if_any (r ∷ later) = 1
+
 at_most_one : (sent : List SeenRequest) → one_if_any sent ≤ 1
 at_most_one [] = lit≤ tt
 at_most_one (r ∷ later) = lit≤ tt
@@ -85,6 +91,18 @@ module _ {AC GC Key Use : Type 0} (types : SiteTypes AC GC Key Use) (a : Attempt
 
   unsent_or_short : (one_if_any (outcome types a answers).sent ≡ 0) ⊎ (is_over_long a.query ≡ false)
   unsent_or_short = sent_or_short (opening a.client a.pending a.query) (opening-walk types a answers)
+
+-- ---- how many callbacks of a state send anything, before the next accepted begin of it
+
+module _ {AC GC Key Use : Type 0} (types : SiteTypes AC GC Key Use) where
+  abbrev sending : SeenClient Key → List ℕ → Pending → List Event → ℕ
+  sending client state pending [] = 0
+  sending client state pending (begins b ∷ later) =
+      if is_accepted (begin_reply client pending b) && bytes_eq state b.request.state then 0
+      else sending client state (begin_step types client pending b).pending later
+  sending client state pending (calls c ∷ later) =
+      (if is_of_state state (state_in (pairs c.query)) then one_if_any (callback_step types client pending c).sent else 0)
+      + sending client state (callback_step types client pending c).pending later
 
 -- ---- events
 
@@ -134,6 +152,55 @@ module _ {AC GC Key Use : Type 0} (types : SiteTypes AC GC Key Use) (client : Se
       (λ short. inr (sending_absent later _ (is_taken (is_over_long c.query) m (state_in (pairs c.query)) s short same)))
       (unsent_or_short types a c.answers))
 
+-- ---- the same among the turns of a run
+
+module _ {AC GC : Type 0} (s : List ℕ) where
+  abbrev goes_on : Event × Step AC GC → Bool
+  goes_on turn = not (begins_again s turn)
+
+  abbrev sent_among : List (Event × Step AC GC) → ℕ
+  sent_among turns = length (filter (has_sent s) turns)
+
+  begin_counted : (again : Bool) (b : Begin) (step : Step AC GC) (turns : List (Event × Step AC GC)) (n : ℕ) → sent_among turns ≡ n
+      → sent_among (cond (not again) ((begins b, step) ∷ turns) []) ≡ (if again then 0 else n)
+  begin_counted true b step turns n rest = refl
+  begin_counted false b step turns n rest = rest
+
+  call_counted : (own : Bool) (sent : List SeenRequest) (turn : Event × Step AC GC) (turns : List (Event × Step AC GC)) (n : ℕ) → sent_among turns ≡ n
+      → length (cond (own && is_any sent) (turn ∷ filter (has_sent s) turns) (filter (has_sent s) turns)) ≡ (if own then one_if_any sent else 0) + n
+  call_counted true [] turn turns n rest = omega (arith, rest)
+  call_counted true (r ∷ later) turn turns n rest = omega (arith, rest)
+  call_counted false sent turn turns n rest = omega (arith, rest)
+
+taken_by : {A : Type 0} (x : A) (xs : List A) (n : ℕ) (b : Bool) → take (cond b (1 + n) 0) (x ∷ xs) ≡ cond b (x ∷ take n xs) []
+taken_by x xs n true =
+    let more : 1 + n ≡ suc n = omega arith in
+    ap (λ k. take k (x ∷ xs)) more
+taken_by x xs n false = refl
+
+taken_more : {A : Type 0} (p : A → Bool) (x : A) (xs : List A) → take_while p (x ∷ xs) ≡ cond (p x) (x ∷ take_while p xs) []
+taken_more p x xs = taken_by x xs (prefix_len p xs) (p x)
+
+module _ {AC GC Key Use : Type 0} (types : SiteTypes AC GC Key Use) (client : SeenClient Key) where
+  -- the turns of events from a store on, up to the next accepted begin of a state
+  abbrev going_on : List ℕ → List Event → Pending → List (Event × Step AC GC)
+  going_on s later m = take_while (goes_on s) (zip later (steps_from types client m later))
+
+  counted : (s : List ℕ) (later : List Event) (m : Pending) → sent_among s (going_on s later m) ≡ sending types client s m later
+  counted s [] m = refl
+  counted s (begins b ∷ later) m =
+      ap (sent_among s) (taken_more (goes_on s) (begins b, begin_step types client m b) _)
+      ∙ begin_counted s (is_accepted (begin_reply client m b) && bytes_eq s b.request.state) b (begin_step types client m b) _ _
+      (counted s later (begin_step types client m b).pending)
+  counted s (calls c ∷ later) m =
+      ap (sent_among s) (taken_more (goes_on s) (calls c, callback_step types client m c) _)
+      ∙ call_counted s (is_of_state s (state_in (pairs c.query))) (callback_step types client m c).sent (calls c, callback_step types client m c) (going_on s later (callback_step types client m c).pending) _
+      (counted s later (callback_step types client m c).pending)
+
 module _ {AC GC Key Use : Type 0} (types : SiteTypes AC GC Key Use) where
   pub spent_once : SpentOnce types
-  spent_once client earlier later b = sending_once types client b.request.state later (store_of types client (earlier ++ begins b ∷ []))
+  spent_once client earlier later b =
+      let s = b.request.state in
+      let m = store_of types client (earlier ++ begins b ∷ []) in
+      subst (λ (turns : List (Event × Step AC GC)). sent_among s (take_while (goes_on s) turns) ≤ 1) (sym (turns_dropped types client earlier (begins b) later finite.empty))
+      (subst (λ n. n ≤ 1) (sym (counted types client s later m)) (sending_once types client s later m))

@@ -1,15 +1,16 @@
--- What crates above may cite: a transport that plays a script gives what the script gives; and where all additional claims
--- are kept, those of a user who is signed in hold no float.
-use Rattle.std.proofs.Common.{◌≡◌, ℕ, ℤ, zero, suc, List, [], ◌∷◌, Option, None, Some, Ok, Err, length, drop, refl, sym, ap, subst, ◌∙◌, arith}
+-- What crates above may cite: a transport that plays a script gives what the script gives; user info that an answer holds is
+-- what the answer is worth; and where all additional claims are kept, those of a user who is signed in hold no float.
+use Rattle.std.proofs.Common.{◌≡◌, ℕ, ℤ, zero, suc, List, [], ◌∷◌, Option, None, Some, Ok, Err, length, drop, refl, ap, ◌∙◌, arith}
 use Rattle.oidc_oauth2.specs.Messages.{SeenAnswer}
 use Rattle.oidc_oauth2.specs.Transport.{played, first_of}
 use Rattle.oidc_login.specs.Client.{SeenClient}
 use Rattle.oidc_login.specs.SiteTypes.{SiteTypes}
 use Rattle.oidc_login.specs.Logins.{SeenLogin}
 use Rattle.oidc_login.specs.SignedIn.{SeenSignedIn}
-use Rattle.oidc_login.specs.Rows.{Attempt, Meant, Run, SeenOpened, SeenAsked, rest_of, preceded_by, opening, after_token, asking, asked_run, info_run, token_run, opened_run, outcome}
+use Rattle.oidc_login.specs.Rows.{Attempt, Meant, SeenOpened, SeenAsked, rest_of, preceded_by, opening, after_token, asking, asked_run, info_run, token_run, opened_run, outcome}
 use Rattle.oidc_login.specs.declared.demand.UserInfoDemand.{UserInfoDemand}
 pub use Rattle.oidc_login.proofs.NoFloat.{signed_free}
+pub use Rattle.oidc_login.proofs.Found.{info_answered}
 
 -- answers that are the next ones of a script
 abbrev IsPlayed : List SeenAnswer → List SeenAnswer → Type 0

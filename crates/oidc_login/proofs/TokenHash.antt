@@ -1,17 +1,15 @@
 -- The hash beside an accepted ID token is that of its algorithm under its key, and what its rows say.
-use Rattle.std.proofs.Common.{◌≡◌, ◌≢◌, ℕ, List, [], Bool, true, false, Some, Result, Ok, Err, refl, sym, ap, ◌∙◌}
+use Rattle.std.proofs.Common.{◌≡◌, ◌≢◌, ℕ, List, Bool, true, false, Some, Ok, Err, refl, sym, ap, ◌∙◌}
 use Rattle.std.specs.Prelude.{not}
 use Rattle.std.specs.Option.{ok_or}
 use Rattle.std.specs.Str.{bytes_eq}
 use Rattle.std.proofs.lemmas.Slice.Eq.{bytes_eq-Decides}
 use Rattle.oidc_types.specs.{signing_text}
-use Rattle.oidc_types.specs.declared.signing_error.SigningError.{SigningError}
 use Rattle.oidc_types.specs.declared.signing_error.SigningError.TheVariants.{UnsupportedAlg}
 use Rattle.oidc_types.specs.declared.core_algorithms.CoreJwsSigningAlgorithm.{CoreJwsSigningAlgorithm}
 use Rattle.oidc_jwt.specs.declared.header.JsonWebTokenAlgorithm.TheVariants as algorithm
-use Rattle.oidc_keys.specs.declared.refusals.SignatureVerificationError.{SignatureVerificationError}
-use Rattle.oidc_tokens.specs.Hashes.{Hashing, hashing, hash_or_refusal}
-use Rattle.oidc_tokens.specs.Signatures.{signing_alg, key_for, checking_key}
+use Rattle.oidc_tokens.specs.Hashes.{hashing, hash_or_refusal}
+use Rattle.oidc_tokens.specs.Signatures.{signing_alg, key_for}
 use Rattle.oidc_tokens.specs.Steps.{◌>>=◌}
 use Rattle.oidc_login.specs.SiteTypes.{SiteTypes}
 use Rattle.oidc_login.specs.IdTokens.{SeenIdToken, KeyVerifier}

@@ -1,45 +1,41 @@
 -- A valid login signs in.
-use Rattle.std.proofs.Common.{◌≡◌, ◌==◌, ℕ, List, [], Bool, true, false, cond, None, Some, Result, Ok, Err, refl, sym, ap, ◌∙◌, ⊎_elim}
-use Rattle.std.specs.Prelude.{not, option_map, if◌then◌else◌, codes}
-use Rattle.std.specs.FinMap as finite
+use Rattle.std.proofs.Common.{◌≡◌, ℕ, List, false, Option, None, Some, refl, sym, ap, ◌∙◌, inl, ⊎_elim}
+use Rattle.std.specs.Prelude.{option_map}
 use Rattle.oidc_oauth2.specs.Messages.{SeenResponse, SeenAnswer}
-use Rattle.oidc_oauth2.specs.HttpUtils.{may_be}
-use Rattle.oidc_oauth2.specs.TokenAnswers.{◌>>=◌, ◌>>◌, ◌when◌, ◌or_as◌, is_over_long, is_empty, may_be_json, tokens_in as tokens_of_ok, status_worth}
-use Rattle.oidc_tokens.specs.UserInfoVerification.{is_expected_subject}
-use Rattle.oidc_tokens.proofs.Theorems.{about_back}
+use Rattle.oidc_oauth2.specs.Transport.{first_of}
+use Rattle.oidc_oauth2.specs.AnswerCauses.{HoldsTokens}
 use Rattle.oidc_user_info.specs.UserInfoClaims.{SeenUserInfoClaims}
-use Rattle.oidc_user_info.specs.InfoAnswers.{Demand, claims_in, from_json, of_object, by_media_type, info_answer}
-use Rattle.oidc_user_info.specs.InfoRequests.{SeenInfoRequest, info_request}
-use Rattle.oidc_user_info.specs.declared.errors.ResponseCause.TheVariants.{Status}
-use Rattle.oidc_user_info.specs.declared.errors.UserInfoError.TheVariants as info
+use Rattle.oidc_user_info.specs.InfoRequests.{SeenInfoRequest}
+use Rattle.oidc_user_info.specs.InfoCauses.{IsAsked, Fits as FitsAnswer, HoldsObject, ReadsObject, IsUserInfo}
 use Rattle.oidc_client.specs.Client.{info_request_at}
 use Rattle.oidc_login.specs.SiteTypes.{SiteTypes}
-use Rattle.oidc_login.specs.TokenResponse.{Tokens, tokens_or_refusal}
-use Rattle.oidc_login.specs.IdTokens.{SeenIdToken, subject_of}
+use Rattle.oidc_login.specs.TokenResponse.{Tokens, error_read, tokens_read}
+use Rattle.oidc_login.specs.IdTokens.{subject_of}
 use Rattle.oidc_login.specs.SignedIn.{SeenSignedIn}
 use Rattle.oidc_login.specs.UserInfo.{demanded, info_ask}
 use Rattle.oidc_login.specs.Rows.{Attempt, rest_of}
 use Rattle.oidc_login.specs.Causes.{Names, HasCode, Asks, Held, Answered, Reads, Holds, Accepted, Fits, Demands, AsksInfo, InfoAnswered, HoldsInfo, IsSignedIn}
 use Rattle.oidc_login.specs.ValidLogin.{IsTokenAnswer, IsInfoAnswer, IsValidInfo, IsValidLogin}
-use Rattle.oidc_login.specs.Events.{Call, Event, called_with, called, callback_step, store_of, ValidSignsIn}
 use Rattle.oidc_login.specs.declared.demand.UserInfoDemand.{UserInfoDemand}
 use Rattle.oidc_login.proofs.Asked.{made}
-use Rattle.oidc_login.proofs.Causes.{signs_in}
 
 module _ {AC GC Key Use : Type 0} (types : SiteTypes AC GC Key Use) where
-  -- ---- what the two answers are worth
+  -- ---- what the two answers hold
 
-  tokens_worth : (tokens : Tokens AC GC) (r : SeenResponse) → IsTokenAnswer types tokens r → tokens_or_refusal types r ≡ Ok tokens
-  unfolding tokens_or_refusal status_worth tokens_of_ok
-  tokens_worth tokens r x = rw (x.success, x.json, x.some_body, x.read) refl
+  tokens_held : (tokens : Tokens AC GC) (r : SeenResponse) → IsTokenAnswer types tokens r → HoldsTokens error_read (tokens_read types) r tokens
+  tokens_held tokens r x = record { holds = record { success = x.success; json = x.json; some_body = x.some_body }; read = x.read }
 
-  info_worth : (subject : List ℕ) (found : SeenUserInfoClaims AC GC) (r : SeenResponse) (demand : Demand Key) → IsInfoAnswer types subject found r
-      → demand.signed ≡ false → demand.verifier.expected_subject ≡ Some subject → info_answer types demand r ≡ Ok found
-  unfolding info_answer by_media_type of_object from_json
-  info_worth subject found r demand x unsigned expected =
-      let same : is_expected_subject demand.verifier.expected_subject found.standard_claims.subject ≡ true =
-      about_back demand.verifier.expected_subject found.standard_claims.subject (λ e is. let own : Some subject ≡ Some e = sym expected ∙ is in x.about ∙ cc) in
-      rw (x.not_too_long, x.success, x.json, unsigned, x.read, same) refl
+  same_text : (x y : List ℕ) → ◌≡◌ {A = Option (List ℕ)} (Some x) (Some y) → x ≡ y
+  same_text x y e = cc
+
+  info_held : (ask : SeenInfoRequest Key) (answers : List SeenAnswer) (subject : List ℕ) (found : SeenUserInfoClaims AC GC) (r : SeenResponse)
+      → IsAsked ask → first_of answers ≡ Some r → IsInfoAnswer types subject found r → ask.demand.signed ≡ false
+      → ask.demand.verifier.expected_subject ≡ Some subject → IsUserInfo ask answers types found
+  info_held ask answers subject found r asked came x unsigned expected =
+      let fits : FitsAnswer ask answers r = record { came = record { asked = asked; response_came = came }; not_too_long = x.not_too_long } in
+      let holds : HoldsObject ask answers r.body = record { response = r; succeeds = record { fits = fits; success = x.success }; json = x.json; own_body = refl } in
+      let reads : ReadsObject ask answers types found = record { body = r.body; allows = record { holds = holds; unsigned_allowed = unsigned }; read = x.read } in
+      inl (record { reads = reads; about = λ e is. x.about ∙ same_text subject e (sym expected ∙ is) })
 
   module _ (a : Attempt Key) (answers : List SeenAnswer) where
     -- ---- up to user info
@@ -56,7 +52,7 @@ module _ {AC GC Key Use : Type 0} (types : SiteTypes AC GC Key Use) where
         let answered : Answered types a answers v.login v.response =
         record { request = v.request; asked = asked; response_came = v.response_came; not_too_long = v.token_answer.not_too_long } in
         let reads : Reads types a answers v.login v.tokens =
-        record { response = v.response; answered = answered; tokens_in_response = tokens_worth v.tokens v.response v.token_answer } in
+        record { response = v.response; answered = answered; tokens_held = tokens_held v.tokens v.response v.token_answer } in
         let holds : Holds types a answers (held v) = record { reads = reads; own_id_token = v.own_id_token } in
         let accepted : Accepted types a answers (held v) = record { holds = holds; accepts = v.accepted } in
         record { accepted = accepted; fits_hash = v.fits_hash }
@@ -104,7 +100,8 @@ module _ {AC GC Key Use : Type 0} (types : SiteTypes AC GC Key Use) where
             ask = ask;
             response = i.response;
             answered = answered;
-            info_in_response = info_worth (subject_of v.token) i.found i.response ask.demand i.info_answer i.unsigned_allowed refl;
+            info_held = info_held ask (rest_of answers) (subject_of v.token) i.found i.response (record { token_fits = i.header_text; address_fits = i.address }) i.response_came
+                i.info_answer i.unsigned_allowed refl;
           }
 
       with_info : (signed : SeenSignedIn AC GC) × IsSignedIn types a answers signed
@@ -131,11 +128,3 @@ module _ {AC GC Key Use : Type 0} (types : SiteTypes AC GC Key Use) where
 
     pub signed_of_valid : IsValidLogin types a answers → (signed : SeenSignedIn AC GC) × IsSignedIn types a answers signed
     signed_of_valid v = ⊎_elim (without_info v) (with_demand v) v.info
-
-  -- ---- the law
-
-  pub valid_signs_in : ValidSignsIn types
-  valid_signs_in client earlier c valid =
-      let a = called_with client (store_of types client earlier) c in
-      let v = signed_of_valid a c.answers valid in
-      (v.0, ap called (signs_in types a c.answers v.0 v.1))

@@ -1,5 +1,5 @@
 -- What each reply to a callback rests on, said without the table.
-use Rattle.std.specs.Prelude.{◌≡◌, ◌≢◌, ◌⊎◌, ℕ, List, [], Option, None, Some, false, true, Ok, Err, codes}
+use Rattle.std.specs.Prelude.{◌≡◌, ◌≢◌, ◌⊎◌, ℕ, List, [], Option, None, Some, false, true, Ok, codes}
 use Rattle.http_header.specs.FieldValue.{is_visible_text}
 use Rattle.oidc_pairs.specs.Pairs.{pairs, values, only_of}
 use Rattle.oidc_types.specs.{signing_text}
@@ -10,19 +10,20 @@ use Rattle.oidc_oauth2.specs.Messages.{SeenRequest, SeenResponse, SeenAnswer}
 use Rattle.oidc_oauth2.specs.Requests.{is_address}
 use Rattle.oidc_oauth2.specs.Transport.{first_of}
 use Rattle.oidc_oauth2.specs.TokenAnswers.{is_over_long}
+use Rattle.oidc_oauth2.specs.AnswerCauses.{HoldsTokens, StatusCause}
 use Rattle.oidc_oauth2.specs.declared.token_answers.OtherCause.TheVariants as other
 use Rattle.oidc_oauth2.specs.declared.token_answers.RequestTokenError.TheVariants as token_error
 use Rattle.oidc_tokens.specs.declared.verification.refusals.ClaimsVerificationError.{ClaimsVerificationError}
 use Rattle.oidc_user_info.specs.UserInfoClaims.{SeenUserInfoClaims}
 use Rattle.oidc_user_info.specs.InfoErrors.{InfoRefusal}
-use Rattle.oidc_user_info.specs.InfoAnswers.{info_answer}
 use Rattle.oidc_user_info.specs.InfoRequests.{SeenInfoRequest, info_request}
+use Rattle.oidc_user_info.specs.InfoCauses as info_causes
 use Rattle.oidc_user_info.specs.declared.errors.InfoOther.TheVariants as info_other
 use Rattle.oidc_user_info.specs.declared.errors.UserInfoError.TheVariants as info_error
 use Rattle.oidc_login.specs.SiteTypes.{SiteTypes}
 use Rattle.oidc_login.specs.Logins.{SeenLogin}
 use Rattle.oidc_login.specs.TokenRequest.{token_request}
-use Rattle.oidc_login.specs.TokenResponse.{Tokens, TokenError, tokens_or_refusal}
+use Rattle.oidc_login.specs.TokenResponse.{Tokens, TokenError, error_read, tokens_read}
 use Rattle.oidc_login.specs.IdTokens.{SeenIdToken, subject_of, IsAcceptedBy, failure_for, FailsFor}
 use Rattle.oidc_login.specs.TokenHash.{claimed_hash, hash_under, FitsHash}
 use Rattle.oidc_login.specs.SignedIn.{SeenSignedIn}
@@ -103,7 +104,7 @@ module _ {AC GC Key Use : Type 0} (types : SiteTypes AC GC Key Use) (a : Attempt
   pub record Reads (login : SeenLogin) (tokens : Tokens AC GC) : Type 0 where
     pub response : SeenResponse
     pub answered : Answered login response
-    pub tokens_in_response : tokens_or_refusal types response ≡ Ok tokens
+    pub tokens_held : HoldsTokens error_read (tokens_read types) response tokens
 
   -- with this ID token among them
   pub record Holds (h : Held AC GC) : Type 0 where
@@ -156,7 +157,7 @@ module _ {AC GC Key Use : Type 0} (types : SiteTypes AC GC Key Use) (a : Attempt
     pub ask : SeenInfoRequest Key
     pub response : SeenResponse
     pub answered : InfoAnswered h ask response
-    pub info_in_response : info_answer types ask.demand response ≡ Ok found
+    pub info_held : info_causes.IsUserInfo ask (rest_of answers) types found
 
   -- user info is there exactly where the login demands it
   abbrev pub HasInfo : Held AC GC → Option (SeenUserInfoClaims AC GC) → Type 0
@@ -197,12 +198,12 @@ module _ {AC GC Key Use : Type 0} (types : SiteTypes AC GC Key Use) (a : Attempt
     pub response_came : first_of answers ≡ Some response
     pub too_long : is_over_long response.body ≡ true
 
-  -- its response is refused
+  -- its response is refused: by its status, by its media type, as empty, or by what it says
   pub record HasNoTokens (e : TokenError) : Type 0 where
     pub login : SeenLogin
     pub response : SeenResponse
     pub answered : Answered login response
-    pub refused : tokens_or_refusal types response ≡ Err e
+    pub cause : StatusCause error_read (tokens_read types) response e
 
   -- the tokens have no ID token among them
   pub record LacksIdToken : Type 0 where
@@ -279,13 +280,13 @@ module _ {AC GC Key Use : Type 0} (types : SiteTypes AC GC Key Use) (a : Attempt
     pub response_came : first_of (rest_of answers) ≡ Some response
     pub too_long : is_over_long response.body ≡ true
 
-  -- its response is refused
+  -- its response is refused: by its status, by its media type, or by what it says
   pub record HasNoInfo (e : InfoRefusal) : Type 0 where
     pub held : Held AC GC
     pub ask : SeenInfoRequest Key
     pub response : SeenResponse
     pub answered : InfoAnswered held ask response
-    pub refused : info_answer types ask.demand response ≡ Err e
+    pub cause : info_causes.Cause ask (rest_of answers) types e
 
   -- ---- the cause of each refusal
 

@@ -1,5 +1,6 @@
 -- Begins and callbacks, one after another, from the empty store.
-use Rattle.std.specs.Prelude.{◌≡◌, ◌≤◌, ℕ, ℤ, ◌+◌, ◌&&◌, List, [], ◌∷◌, ◌++◌, Bool, true, false, Option, None, Some, Result, Ok, Err, if◌then◌else◌}
+use Rattle.std.specs.Prelude.{◌≡◌, ◌≤◌, ℕ, ℤ, suc, ◌&&◌, not, List, [], ◌∷◌, ◌++◌, length, drop, map, Bool, true, false, Option, None, Some, Ok, Err}
+use Rattle.std.specs.List.{filter, take_while, zip}
 use Rattle.std.specs.FinMap as finite
 use Rattle.std.specs.Str.{bytes_eq}
 use Rattle.url.specs.Parts.{Parts}
@@ -84,20 +85,38 @@ abbrev pub is_of_state : List ℕ → Option (List ℕ) → Bool
 is_of_state state None = false
 is_of_state state (Some found) = bytes_eq state found
 
-abbrev pub one_if_any : List SeenRequest → ℕ
-one_if_any [] = 0
-one_if_any (request ∷ later) = 1
+abbrev pub is_any : List SeenRequest → Bool
+is_any [] = false
+is_any (request ∷ later) = true
+
+module _ {AC GC : Type 0} where
+  abbrev pub is_begun : Reply AC GC → Bool
+  is_begun (begun reply) = is_accepted reply
+  is_begun (called reply) = false
+
+  -- an event and its step: an accepted begin of this state
+  abbrev pub begins_again : List ℕ → Event × Step AC GC → Bool
+  begins_again state (begins b, s) = is_begun s.reply && bytes_eq state b.request.state
+  begins_again state (calls c, s) = false
+
+  -- a callback of this state, which sent something
+  abbrev pub has_sent : List ℕ → Event × Step AC GC → Bool
+  has_sent state (begins b, s) = false
+  has_sent state (calls c, s) = is_of_state state (state_in (pairs c.query)) && is_any s.sent
 
 module _ {AC GC Key Use : Type 0} (types : SiteTypes AC GC Key Use) where
-  -- how many callbacks of this state send anything, before the next accepted begin of it
-  abbrev pub sending : SeenClient Key → List ℕ → Pending → List Event → ℕ
-  sending client state pending [] = 0
-  sending client state pending (begins b ∷ later) =
-      if is_accepted (begin_reply client pending b) && bytes_eq state b.request.state then 0
-      else sending client state (begin_step types client pending b).pending later
-  sending client state pending (calls c ∷ later) =
-      (if is_of_state state (state_in (pairs c.query)) then one_if_any (callback_step types client pending c).sent else 0)
-      + sending client state (callback_step types client pending c).pending later
+  -- the events of a run, each with its step
+  abbrev pub turns_of : SeenClient Key → List Event → List (Event × Step AC GC)
+  turns_of client events = zip events (run_of types client events)
+
+  abbrev pub replies_of : SeenClient Key → List Event → List (Reply AC GC)
+  replies_of client events = map (λ s. s.reply) (run_of types client events)
+
+  -- those behind a begin, up to the next accepted begin of its state
+  abbrev pub turns_behind : SeenClient Key → List Event → Begin → List Event → List (Event × Step AC GC)
+  turns_behind client earlier b later =
+      take_while (λ turn. not (begins_again b.request.state turn))
+      (drop (suc (length earlier)) (turns_of client (earlier ++ begins b ∷ later)))
 
   -- ---- the laws
 
@@ -105,12 +124,13 @@ module _ {AC GC Key Use : Type 0} (types : SiteTypes AC GC Key Use) where
   abbrev pub SpentOnce : Type 0
   SpentOnce =
       (client : SeenClient Key) (earlier later : List Event) (b : Begin)
-      → sending client b.request.state (store_of types client (earlier ++ begins b ∷ [])) later ≤ 1
+      → length (filter (has_sent b.request.state) (turns_behind client earlier b later)) ≤ 1
 
-  -- A callback that is a valid login is signed in, whatever came before.
+  -- A callback that is a valid login is signed in, whatever came before and comes behind: its reply is the first
+  -- behind those to the earlier events.
   abbrev pub ValidSignsIn : Type 0
   ValidSignsIn =
-      (client : SeenClient Key) (earlier : List Event) (c : Call)
+      (client : SeenClient Key) (earlier later : List Event) (c : Call)
       → IsValidLogin types (called_with client (store_of types client earlier) c) c.answers
-      → (signed : SeenSignedIn AC GC)
-      × ((callback_step types client (store_of types client earlier) c).reply ≡ called (Ok signed))
+      → (signed : SeenSignedIn AC GC) × (rest : List (Reply AC GC))
+      × (drop (length earlier) (replies_of client (earlier ++ calls c ∷ later)) ≡ called (Ok signed) ∷ rest)

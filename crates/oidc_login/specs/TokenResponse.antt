@@ -25,6 +25,10 @@ no_others members = Ok (record {})
 abbrev pub Tokens : Type 0 → Type 0 → Type 0
 Tokens AC GC = SeenTokens CoreTokenType (Fields AC GC)
 
+-- the error response that the members of an object are
+abbrev pub error_read : List SeenMember → Result (SeenError CoreErrorResponseType) Refusal
+error_read = error_response_of error_of
+
 -- why an answer holds no tokens, whatever the transport's error was
 abbrev pub TokenError : Type 0
 TokenError = TokenRefusal (SeenError CoreErrorResponseType)
@@ -39,4 +43,4 @@ module _ {AC GC Key Use : Type 0} (types : SiteTypes AC GC Key Use) where
 
   -- the tokens that a response holds whose body isn't too long, or why it is refused
   unfoldable pub tokens_or_refusal : SeenResponse → Result (Tokens AC GC) TokenError
-  tokens_or_refusal = status_worth (error_response_of error_of) tokens_read
+  tokens_or_refusal = status_worth error_read tokens_read

@@ -11,11 +11,11 @@
 #[cfg(test)]
 mod tests;
 
-ghost use Rattle.std.specs.Prelude.{◌≡◌, ◌≢◌, ◌↔◌, ◌⊎◌, ◌≤◌, List, ℕ, map, Some, None, IfOk, IfErr};
+ghost use Rattle.std.specs.Prelude.{◌≡◌, ◌≢◌, ◌↔◌, ◌⊎◌, ◌≤◌, List, ℕ, length, map, Some, None, IfOk, IfErr};
 ghost use Rattle.std.specs.String.{string_bytes};
 ghost use Rattle.std.specs.IoError.{error_kind};
 ghost use Rattle.std.specs.Io.KnownBytes.{IsAtEnd};
-ghost use Rattle.oidc_cli.specs.{HasRisen, Puts, PutsPrefix, fault_of, report, drill_text, command_of, Asks, EndsInFault};
+ghost use Rattle.oidc_cli.specs.{HasRisen, Takes, Puts, PutsPrefix, fault_of, report, drill_text, command_of, Asks, EndsInFault};
 
 use oidc_cli::{Command, NO_MEMORY, ReadSource, Sink, Source, WRONG_WORDS, WriteSink, run};
 use std::alloc::Global;
@@ -67,10 +67,16 @@ fn exit_status<S: Source, O: Sink>(
     ensures asked { IfOk words
         (λ words. result ≢ 2 → (command : Command) × Asks words.items command) }
     ensures idle { result ≡ 2 → (source.new ≡ source.old) × (sink.new ≡ sink.old) }
+    ensures unwritten { result ≡ 4 → sink.new ≡ sink.old }
     ensures sink_fault { result ≡ 1 → HasRisen (O.faults sink.old) (O.faults sink.new) }
     ensures source_fault { result ≡ 4 → HasRisen (S.faults source.old) (S.faults source.new) }
     ensures of_a_script { IfOk words
         (λ words. (result ≡ 3) ⊎ (result ≡ 4) → Asks words.items Command.Replay) }
+    ensures counts { IfOk words (λ words. (S.faults source.old ≤ S.faults source.new)
+        × (O.faults sink.old ≤ O.faults sink.new)) }
+    ensures bounded { IfOk words (λ words. (read : List ℕ)
+        × Takes (S.remaining source.old) (S.remaining source.new) read
+        × (length read ≤ 67_108_865)) }
 
     // Where they are `replay`.
     ensures ended { IfOk words
@@ -87,6 +93,11 @@ fn exit_status<S: Source, O: Sink>(
     ensures begun { IfOk words (λ words. (script : List ℕ) → Asks words.items Command.Replay
         → S.remaining source.old ≡ Some script → (result ≡ 1) ⊎ (result ≡ 5)
         → PutsPrefix (O.written sink.old) (O.written sink.new) (report script)) }
+    ensures completes { IfOk words (λ words. (script : List ℕ) → Asks words.items Command.Replay
+        → S.remaining source.old ≡ Some script → fault_of script ≡ None
+        → ¬ (HasRisen (S.faults source.old) (S.faults source.new))
+        → ¬ (HasRisen (O.faults sink.old) (O.faults sink.new))
+        → (result ≡ 0) ⊎ (result ≡ 5)) }
 
     // Where they are `drill` and a number.
     ensures drill_unread { IfOk words (λ words. (count : ℕ) → Asks words.items (Command.Drill count)
@@ -96,6 +107,10 @@ fn exit_status<S: Source, O: Sink>(
     ensures drill_begun { IfOk words (λ words. (count : ℕ) → Asks words.items (Command.Drill count)
         → (result ≡ 1) ⊎ (result ≡ 5)
         → PutsPrefix (O.written sink.old) (O.written sink.new) (drill_text count)) }
+    ensures drill_completes { IfOk words (λ words. (count : ℕ)
+        → Asks words.items (Command.Drill count)
+        → ¬ (HasRisen (O.faults sink.old) (O.faults sink.new))
+        → (result ≡ 0) ⊎ (result ≡ 5)) }
 {
     match words {
         Ok(words) => run(alloc, words.as_slice(), source, sink),

@@ -1,8 +1,8 @@
 //! A site that signs a user in, over the crate `oidc`: what its author writes.
 //!
 //! The site's transport, its generator and its clock are its own. Here the provider is played by `Recorded`, which
-//! answers from a list, and state, nonce and verifier are fixed, so that the program always prints the same. It reads
-//! the query with which the browser comes back from standard input.
+//! answers from a list, and the generator begins at a fixed number, so that the program always prints the same. It
+//! reads the query with which the browser comes back from standard input.
 #![tactic(auto)]
 
 ghost use Rattle.std.specs.Prelude.{◌≡◌, true, false, None, IfOk, IfSome, IsSome, OnOk, option_and_then};
@@ -18,11 +18,12 @@ mod provider;
 use crate::provider::{answers, metadata, text};
 use jiff::Timestamp;
 use oidc::core_types::{CoreGenderClaim, CoreJsonWebKey};
-use oidc::login::{LoginClient, LoginError, Logins, SignedIn, UserInfoDemand};
+use oidc::login::{LoginClient, LoginError, LoginSecrets, Logins, SignedIn, UserInfoDemand};
 use oidc::{
-    AllOtherClaims, AuthenticationFlow, Client, ClientId, ClientSecret, CsrfToken, EndUserName,
-    Nonce, PkceCodeVerifier, Recorded, RedirectUrl, Scope, SyncHttpClient, UserInfoResponseType,
+    AllOtherClaims, AuthenticationFlow, Client, ClientId, ClientSecret, EndUserName, Recorded,
+    RedirectUrl, Scope, SyncHttpClient, UserInfoResponseType,
 };
+use rand_pcg::Pcg32;
 use std::alloc::Global;
 use url::Url;
 
@@ -41,16 +42,18 @@ fn client(alloc: Global) -> anyhow::Result<LoginClient> {
     Ok(client.set_redirect_uri(redirect))
 }
 
-// The user asks to sign in: the browser is sent to this URL, and the state is bound to its session. A site draws state,
-// nonce and verifier by `CsrfToken::new_random`, `Nonce::new_random` and `PkceCodeChallenge::new_random_sha256`.
+// The user asks to sign in: the browser is sent to this URL, and the state is bound to its session.
 fn begin<'c>(
     alloc: Global,
     client: &'c LoginClient,
     logins: &mut SiteLogins<'c>,
+    rng: &mut Pcg32,
 ) -> anyhow::Result<Url> {
-    let state = CsrfToken::new(text(alloc, "CSRF123")?);
-    let nonce = Nonce::new(text(alloc, "NONCE456")?);
-    let verifier = text(alloc, "dBjftJeZ4CVP-mB92K27uhbUJU1p1r_wW1gFWFOEjXk")?;
+    let LoginSecrets {
+        state,
+        nonce,
+        verifier,
+    } = LoginSecrets::new_random(alloc, rng)?;
     let flow = AuthenticationFlow::AuthorizationCode;
     let request = client.authorize_url(alloc, flow, move || state, move || nonce)?;
     let request = request.add_scope(Scope::new(text(alloc, "email")?))?;
@@ -60,7 +63,6 @@ fn begin<'c>(
         audience_match: true,
         response_type: UserInfoResponseType::Json,
     };
-    let verifier = PkceCodeVerifier::new(verifier);
     Ok(logins.begin(request, verifier, Some(user_info))?)
 }
 
@@ -137,7 +139,9 @@ fn sign_in<H: SyncHttpClient<Error: Drop>>(
     requires { H.ready http.old }
 {
     let mut logins = Logins::new(alloc, client)?;
-    let url = begin(alloc, client, &mut logins)?;
+    // A site seeds its generator from the system: `make_rng(&rt)` of the kit's `rand`.
+    let mut rng = Pcg32::new(42, 54);
+    let url = begin(alloc, client, &mut logins, &mut rng)?;
     println!(rt; "{url}")?;
     let line = answered(alloc, &mut logins, query, http, now)?;
     println!(rt; "{line}")?;

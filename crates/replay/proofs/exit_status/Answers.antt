@@ -29,3 +29,9 @@ returns-in-Ok-clause-drilled g c = rw c.in-Ok.is (rw c.as_slice.ensures.value at
 
 pub returns-in-Ok-clause-drill_begun : goal.returns-in-Ok-clause-drill_begun
 returns-in-Ok-clause-drill_begun g c = rw c.in-Ok.is (rw c.as_slice.ensures.value at c.run.ensures.drill_begun)
+
+pub returns-in-Ok-clause-completes : goal.returns-in-Ok-clause-completes
+returns-in-Ok-clause-completes g c = rw c.in-Ok.is (rw c.as_slice.ensures.value at c.run.ensures.completes)
+
+pub returns-in-Ok-clause-drill_completes : goal.returns-in-Ok-clause-drill_completes
+returns-in-Ok-clause-drill_completes g c = rw c.in-Ok.is (rw c.as_slice.ensures.value at c.run.ensures.drill_completes)

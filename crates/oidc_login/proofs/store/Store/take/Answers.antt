@@ -1,4 +1,4 @@
-use Rattle.std.proofs.Common.{subst, sym, ap, ◌∙◌}
+use Rattle.std.proofs.Common.{subst, sym, ◌∙◌}
 use Rattle.oidc_login.specs.Logins.{HasVerifiers}
 use Rattle.oidc_login.proofs.Entries.{get_kept, kept_remove, verifiers_remove, verifier_found}
 use Rattle.oidc_login.proofs.store.Store.take.Goals as goal
