@@ -18,7 +18,7 @@ use Rattle.oidc_login.specs.Logins.{SeenLogin, Pending}
 use Rattle.oidc_login.specs.Begins.{Begin, Meant as BeginMeant, begin_reply, begin_store}
 use Rattle.oidc_login.specs.Rows.{Attempt, Meant, SeenOpened, state_in, login_named_by, opening, opened_run, outcome}
 use Rattle.oidc_login.specs.Causes.{Asks, Cause}
-use Rattle.oidc_login.specs.Events.{Event, begins, calls, Step, called_with, begin_step, callback_step, steps_from, store_of, is_accepted, is_of_state, is_any, begins_again, has_sent, SpentOnce}
+use Rattle.oidc_login.specs.Events.{Event, begins, calls, Step, called_with, begin_step, callback_step, steps_from, store_of, is_accepted, is_of_state, has_any, begins_again, has_sent, SpentOnce}
 use Rattle.oidc_login.proofs.Turns.{turns_dropped}
 use Rattle.oidc_login.proofs.Walks.{Walk}
 use Rattle.oidc_login.proofs.Rows.{opening-walk}
@@ -167,7 +167,7 @@ module _ {AC GC : Type 0} (s : List ℕ) where
   begin_counted false b step turns n rest = rest
 
   call_counted : (own : Bool) (sent : List SeenRequest) (turn : Event × Step AC GC) (turns : List (Event × Step AC GC)) (n : ℕ) → sent_among turns ≡ n
-      → length (cond (own && is_any sent) (turn ∷ filter (has_sent s) turns) (filter (has_sent s) turns)) ≡ (if own then one_if_any sent else 0) + n
+      → length (cond (own && has_any sent) (turn ∷ filter (has_sent s) turns) (filter (has_sent s) turns)) ≡ (if own then one_if_any sent else 0) + n
   call_counted true [] turn turns n rest = omega (arith, rest)
   call_counted true (r ∷ later) turn turns n rest = omega (arith, rest)
   call_counted false sent turn turns n rest = omega (arith, rest)

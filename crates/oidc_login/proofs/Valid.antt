@@ -15,21 +15,21 @@ use Rattle.oidc_login.specs.SignedIn.{SeenSignedIn}
 use Rattle.oidc_login.specs.UserInfo.{demanded, info_ask}
 use Rattle.oidc_login.specs.Rows.{Attempt, rest_of}
 use Rattle.oidc_login.specs.Causes.{Names, HasCode, Asks, Held, Answered, Reads, Holds, Accepted, Fits, Demands, AsksInfo, InfoAnswered, HoldsInfo, IsSignedIn}
-use Rattle.oidc_login.specs.ValidLogin.{IsTokenAnswer, IsInfoAnswer, IsValidInfo, IsValidLogin}
+use Rattle.oidc_login.specs.ValidLogin.{IsValidTokenAnswer, IsValidInfoAnswer, IsValidInfo, IsValidLogin}
 use Rattle.oidc_login.specs.declared.demand.UserInfoDemand.{UserInfoDemand}
 use Rattle.oidc_login.proofs.Asked.{made}
 
 module _ {AC GC Key Use : Type 0} (types : SiteTypes AC GC Key Use) where
   -- ---- what the two answers hold
 
-  tokens_held : (tokens : Tokens AC GC) (r : SeenResponse) → IsTokenAnswer types tokens r → HoldsTokens error_read (tokens_read types) r tokens
+  tokens_held : (tokens : Tokens AC GC) (r : SeenResponse) → IsValidTokenAnswer types tokens r → HoldsTokens error_read (tokens_read types) r tokens
   tokens_held tokens r x = record { holds = record { success = x.success; json = x.json; some_body = x.some_body }; read = x.read }
 
   same_text : (x y : List ℕ) → ◌≡◌ {A = Option (List ℕ)} (Some x) (Some y) → x ≡ y
   same_text x y e = cc
 
   info_held : (ask : SeenInfoRequest Key) (answers : List SeenAnswer) (subject : List ℕ) (found : SeenUserInfoClaims AC GC) (r : SeenResponse)
-      → IsAsked ask → first_of answers ≡ Some r → IsInfoAnswer types subject found r → ask.demand.signed ≡ false
+      → IsAsked ask → first_of answers ≡ Some r → IsValidInfoAnswer types subject found r → ask.demand.signed ≡ false
       → ask.demand.verifier.expected_subject ≡ Some subject → IsUserInfo ask answers types found
   info_held ask answers subject found r asked came x unsigned expected =
       let fits : FitsAnswer ask answers r = record { came = record { asked = asked; response_came = came }; not_too_long = x.not_too_long } in

@@ -280,7 +280,7 @@ module _ {AC GC Key Use : Type 0} (types : SiteTypes AC GC Key Use) (a : Attempt
     pub response_came : first_of (rest_of answers) ≡ Some response
     pub too_long : is_over_long response.body ≡ true
 
-  -- its response is refused: by its status, by its media type, or by what it says
+  -- its response is refused: by its status, by its media type, as unsigned, or by what it says
   pub record HasNoInfo (e : InfoRefusal) : Type 0 where
     pub held : Held AC GC
     pub ask : SeenInfoRequest Key

@@ -85,9 +85,9 @@ abbrev pub is_of_state : List ℕ → Option (List ℕ) → Bool
 is_of_state state None = false
 is_of_state state (Some found) = bytes_eq state found
 
-abbrev pub is_any : List SeenRequest → Bool
-is_any [] = false
-is_any (request ∷ later) = true
+abbrev pub has_any : List SeenRequest → Bool
+has_any [] = false
+has_any (request ∷ later) = true
 
 module _ {AC GC : Type 0} where
   abbrev pub is_begun : Reply AC GC → Bool
@@ -102,17 +102,17 @@ module _ {AC GC : Type 0} where
   -- a callback of this state, which sent something
   abbrev pub has_sent : List ℕ → Event × Step AC GC → Bool
   has_sent state (begins b, s) = false
-  has_sent state (calls c, s) = is_of_state state (state_in (pairs c.query)) && is_any s.sent
+  has_sent state (calls c, s) = is_of_state state (state_in (pairs c.query)) && has_any s.sent
 
 module _ {AC GC Key Use : Type 0} (types : SiteTypes AC GC Key Use) where
-  -- the events of a run, each with its step
+  -- the turns of a run: its events, each with its step
   abbrev pub turns_of : SeenClient Key → List Event → List (Event × Step AC GC)
   turns_of client events = zip events (run_of types client events)
 
   abbrev pub replies_of : SeenClient Key → List Event → List (Reply AC GC)
   replies_of client events = map (λ s. s.reply) (run_of types client events)
 
-  -- those behind a begin, up to the next accepted begin of its state
+  -- the turns behind a begin, up to the next accepted begin of its state
   abbrev pub turns_behind : SeenClient Key → List Event → Begin → List Event → List (Event × Step AC GC)
   turns_behind client earlier b later =
       take_while (λ turn. not (begins_again b.request.state turn))
@@ -126,8 +126,8 @@ module _ {AC GC Key Use : Type 0} (types : SiteTypes AC GC Key Use) where
       (client : SeenClient Key) (earlier later : List Event) (b : Begin)
       → length (filter (has_sent b.request.state) (turns_behind client earlier b later)) ≤ 1
 
-  -- A callback that is a valid login is signed in, whatever came before and comes behind: its reply is the first
-  -- behind those to the earlier events.
+  -- A callback that is a valid login signs in, whatever came before and comes behind: its reply is the first behind
+  -- those to the earlier events.
   abbrev pub ValidSignsIn : Type 0
   ValidSignsIn =
       (client : SeenClient Key) (earlier later : List Event) (c : Call)

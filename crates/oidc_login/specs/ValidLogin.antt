@@ -21,7 +21,7 @@ use Rattle.oidc_login.specs.declared.demand.UserInfoDemand.{UserInfoDemand}
 
 module _ {AC GC Key Use : Type 0} (types : SiteTypes AC GC Key Use) where
   -- a response of status 200 and media type JSON, or none, whose body of 1 to 1,048,576 bytes reads as these tokens
-  pub record IsTokenAnswer (tokens : Tokens AC GC) (response : SeenResponse) : Type 0 where
+  pub record IsValidTokenAnswer (tokens : Tokens AC GC) (response : SeenResponse) : Type 0 where
     pub success : response.status ≡ 200
     pub json : may_be_json response ≡ true
     pub some_body : is_empty response.body ≡ false
@@ -29,7 +29,7 @@ module _ {AC GC Key Use : Type 0} (types : SiteTypes AC GC Key Use) where
     pub read : record_in (tokens_read types) response.body ≡ Ok tokens
 
   -- the same for user info, whose members read as these claims, about this subject
-  pub record IsInfoAnswer (subject : List ℕ) (found : SeenUserInfoClaims AC GC) (response : SeenResponse) : Type 0 where
+  pub record IsValidInfoAnswer (subject : List ℕ) (found : SeenUserInfoClaims AC GC) (response : SeenResponse) : Type 0 where
     pub success : response.status ≡ 200
     pub json : may_be_json response ≡ true
     pub not_too_long : is_over_long response.body ≡ false
@@ -47,7 +47,7 @@ module _ {AC GC Key Use : Type 0} (types : SiteTypes AC GC Key Use) where
       pub response : SeenResponse
       pub response_came : first_of (rest_of answers) ≡ Some response
       pub found : SeenUserInfoClaims AC GC
-      pub info_answer : IsInfoAnswer subject found response
+      pub info_answer : IsValidInfoAnswer subject found response
 
     pub record IsValidLogin : Type 0 where
       -- the query has one `state` of a pending login, one `code`, and no `error`
@@ -63,7 +63,7 @@ module _ {AC GC Key Use : Type 0} (types : SiteTypes AC GC Key Use) where
       pub response : SeenResponse
       pub response_came : first_of answers ≡ Some response
       pub tokens : Tokens AC GC
-      pub token_answer : IsTokenAnswer tokens response
+      pub token_answer : IsValidTokenAnswer tokens response
       pub token : SeenIdToken AC GC
       pub own_id_token : tokens.extra_fields.id_token ≡ Some token
       -- which is accepted, and any `at_hash` in it is that of the access token

@@ -9,8 +9,8 @@ use oidc_keys::JsonWebKey;
 pub use oidc_tokens::laws::claims_one_home;
 use oidc_types::CoreJwsSigningAlgorithm;
 
-/// Of the callbacks of one accepted begin at most one sends anything: over every client, every list of begins and
-/// callbacks, and all that comes between.
+/// Of the callbacks of one begin, up to the next accepted begin of its state, at most one sends anything: in the run of
+/// every list of begins and callbacks, over every client.
 #[tactic(auto, using(crate::proofs::Spent::spent_once))]
 pub fn spent_once<
     AC: AdditionalClaims,
@@ -22,7 +22,7 @@ pub fn spent_once<
         SpentOnce types }
 {}
 
-/// A callback that is a valid login is signed in, whatever begins and callbacks came before.
+/// A callback that is a valid login signs in, whatever begins and callbacks came before and come behind.
 #[tactic(auto, using(crate::proofs::Valid::valid_signs_in))]
 pub fn valid_signs_in<
     AC: AdditionalClaims,

@@ -20,9 +20,10 @@ use jiff::Timestamp;
 use oidc::core_types::{CoreGenderClaim, CoreJsonWebKey};
 use oidc::login::{LoginClient, LoginError, LoginSecrets, Logins, SignedIn, UserInfoDemand};
 use oidc::{
-    AllOtherClaims, AuthenticationFlow, Client, ClientId, ClientSecret, EndUserName, Recorded,
-    RedirectUrl, Scope, SyncHttpClient, UserInfoResponseType,
+    AllOtherClaims, AuthenticationFlow, Client, ClientId, ClientSecret, CsrfToken, EndUserName,
+    Recorded, RedirectUrl, Scope, SyncHttpClient, UserInfoResponseType,
 };
+use rand_core::Rng;
 use rand_pcg::Pcg32;
 use std::alloc::Global;
 use url::Url;
@@ -42,18 +43,19 @@ fn client(alloc: Global) -> anyhow::Result<LoginClient> {
     Ok(client.set_redirect_uri(redirect))
 }
 
-// The user asks to sign in: the browser is sent to this URL, and the state is bound to its session.
-fn begin<'c>(
+// The user asks to sign in: the browser is sent to the URL, and the state beside it is kept in its session.
+fn begin<'c, R: Rng>(
     alloc: Global,
     client: &'c LoginClient,
     logins: &mut SiteLogins<'c>,
-    rng: &mut Pcg32,
-) -> anyhow::Result<Url> {
+    rng: &mut R,
+) -> anyhow::Result<(Url, CsrfToken)> {
     let LoginSecrets {
         state,
         nonce,
         verifier,
     } = LoginSecrets::new_random(alloc, rng)?;
+    let kept = state.clone_in(alloc)?;
     let flow = AuthenticationFlow::AuthorizationCode;
     let request = client.authorize_url(alloc, flow, move || state, move || nonce)?;
     let request = request.add_scope(Scope::new(text(alloc, "email")?))?;
@@ -63,7 +65,8 @@ fn begin<'c>(
         audience_match: true,
         response_type: UserInfoResponseType::Json,
     };
-    Ok(logins.begin(request, verifier, Some(user_info))?)
+    let url = logins.begin(request, verifier, Some(user_info))?;
+    Ok((url, kept))
 }
 
 // The browser comes back, with the state of its session.
@@ -139,9 +142,9 @@ fn sign_in<H: SyncHttpClient<Error: Drop>>(
     requires { H.ready http.old }
 {
     let mut logins = Logins::new(alloc, client)?;
-    // A site seeds its generator from the system: `make_rng(&rt)` of the kit's `rand`.
+    // This generator can be guessed. A site takes one for secrets: `StdRng` of the kit's `rand`, by `make_rng(&rt)`.
     let mut rng = Pcg32::new(42, 54);
-    let url = begin(alloc, client, &mut logins, &mut rng)?;
+    let (url, _kept) = begin(alloc, client, &mut logins, &mut rng)?;
     println!(rt; "{url}")?;
     let line = answered(alloc, &mut logins, query, http, now)?;
     println!(rt; "{line}")?;
