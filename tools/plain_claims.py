@@ -10,6 +10,7 @@ an object against all that stand before it, and then looks each claim up in the 
 Connect Core 1.0 sections 5.1, 5.1.1, 5.1.2 and 5.2).
 """
 import json
+import math
 import sys
 from collections import namedtuple
 from urllib.parse import quote
@@ -63,6 +64,10 @@ class Refused(Exception):
 
 # ---- members
 
+# How deep the value of a member may nest.
+DEEPEST = 127
+
+
 class Float:
     """A number that isn't whole, or out of range."""
 
@@ -71,9 +76,23 @@ class Object(list):
     """An object's members, as name and value, duplicates kept."""
 
 
+def fraction(digits):
+    """A number that isn't whole. One past the range of a float isn't read at all."""
+    if math.isinf(float(digits)):
+        raise ValueError
+    return Float()
+
+
 def whole(digits):
     number = int(digits)
-    return number if -(2**63) <= number < 2**64 and digits != "-0" else Float()
+    return number if -(2**63) <= number < 2**64 and digits != "-0" else fraction(digits)
+
+
+def depth(value):
+    """How deep a value nests: a text or a number not at all."""
+    if isinstance(value, Object):
+        return 1 + max((depth(inner) for _, inner in value), default=0)
+    return 1 + max(map(depth, value), default=0) if isinstance(value, list) else 0
 
 
 def holds_float(value):
@@ -92,11 +111,11 @@ def members_of(text):
 
     try:
         value = json.loads(
-            text, object_pairs_hook=Object, parse_float=lambda _: Float(), parse_int=whole, parse_constant=constant
+            text, object_pairs_hook=Object, parse_float=fraction, parse_int=whole, parse_constant=constant
         )
     except ValueError:
         raise Refused(None, "syntax", "")
-    if not isinstance(value, Object):
+    if not isinstance(value, Object) or any(depth(inner) > DEEPEST for _, inner in value):
         raise Refused(None, "syntax", "")
     if any(holds_float(inner) for _, inner in value):
         raise Refused(None, "number", "")
