@@ -1,5 +1,5 @@
--- What each reply to a request for tokens rests on, said without the rows of its table (RFC 6749 sections 5.1 and
--- 5.2).
+-- What each reply to a request for tokens rests on, said without the rows of its table
+-- (RFC 6749 sections 5.1 and 5.2).
 use Rattle.std.specs.Prelude.{◌≡◌, ◌≢◌, ◌⊎◌, ℕ, List, None, Some, true, false, Result, Ok, Err, IfOk, IfErr}
 use Rattle.oidc_members.specs.Seen.{SeenMember}
 use Rattle.oidc_members.specs.declared.refusal.Refusal.{Refusal}
@@ -14,13 +14,13 @@ use Rattle.oidc_oauth2.specs.declared.token_answers.RequestTokenError.TheVariant
 
 -- ---- how far a response came
 
--- its status is 200, its media type that of JSON, or absent, and its body isn't empty
+-- Its status is 200, its media type is that of JSON, or absent, and its body isn't empty.
 pub record HoldsObject (r : SeenResponse) : Type 0 where
   pub success : r.status ≡ 200
   pub json : may_be_json r ≡ true
   pub some_body : is_empty r.body ≡ false
 
--- its status is another, and its body isn't empty
+-- Its status isn't 200, and its body isn't empty.
 pub record HoldsErrorObject (r : SeenResponse) : Type 0 where
   pub no_success : r.status ≢ 200
   pub some_body : is_empty r.body ≡ false
@@ -32,7 +32,7 @@ pub record HasEmptyBody (r : SeenResponse) : Type 0 where
   pub empty : is_empty r.body ≡ true
   pub json : r.status ≡ 200 → may_be_json r ≡ true
 
--- its status is 200, and its media type is there and isn't that of JSON
+-- Its status is 200, and its media type is there and isn't that of JSON.
 pub record HasOtherType (r : SeenResponse) : Type 0 where
   pub success : r.status ≡ 200
   pub no_json : may_be_json r ≡ false
@@ -43,24 +43,25 @@ pub record IsTooLong (r : SeenResponse) (body : List ℕ) : Type 0 where
 
 -- ---- what a body says, as an error response and as tokens
 
-module _ {TE TR : Type 0} (error_of : List SeenMember → Result TE Refusal) (token_of : List SeenMember → Result TR Refusal) where
+module _ {TE TR : Type 0} (error_of : List SeenMember → Result TE Refusal)
+    (token_of : List SeenMember → Result TR Refusal) where
   module _ (r : SeenResponse) where
-    -- it is these tokens
+    -- Its body reads as these tokens.
     pub record HoldsTokens (tokens : TR) : Type 0 where
       pub holds : HoldsObject r
       pub read : record_in token_of r.body ≡ Ok tokens
 
-    -- it is this error response
+    -- Its body reads as this error response.
     pub record HoldsError (error : TE) : Type 0 where
       pub holds : HoldsErrorObject r
       pub read : record_in error_of r.body ≡ Ok error
 
-    -- it is to be tokens, and doesn't read
+    -- Its body should be tokens, and doesn't read as such.
     pub record HoldsNoTokens (refusal : Refusal) : Type 0 where
       pub holds : HoldsObject r
       pub unread : record_in token_of r.body ≡ Err refusal
 
-    -- it is to be an error response, and doesn't read
+    -- Its body should be an error response, and doesn't read as such.
     pub record HoldsNoError (refusal : Refusal) : Type 0 where
       pub holds : HoldsErrorObject r
       pub unread : record_in error_of r.body ≡ Err refusal
@@ -71,7 +72,7 @@ module _ {TE TR : Type 0} (error_of : List SeenMember → Result TE Refusal) (to
 
     -- ---- the cause of each refusal of a response
 
-    -- whose body isn't too long
+    -- of a response whose body isn't too long
     abbrev pub StatusCause : TokenRefusal TE → Type 0
     StatusCause (ServerResponse error) = HoldsError error
     StatusCause (Request u) = ⊥
@@ -90,13 +91,13 @@ module _ {TE TR : Type 0} (error_of : List SeenMember → Result TE Refusal) (to
     AnswerCause (TooLong body) = IsTooLong r body
     AnswerCause e = FailsWith e
 
-    -- ---- tokens
+    -- ---- an answer with tokens
 
     pub record IsTokenAnswer (tokens : TR) : Type 0 where
       pub not_too_long : is_over_long r.body ≡ false
       pub tokens_held : HoldsTokens tokens
 
-  -- the fact that a refusal is about, unless there was no memory
+  -- The cause of a refusal; want of memory needs none.
   abbrev pub Because : {RE : Type 0} → SeenResponse → RequestTokenError RE TE → Type 0
   Because r Memory = Unit {0}
   Because r e = AnswerCause r (seen_refusal e)
@@ -104,13 +105,13 @@ module _ {TE TR : Type 0} (error_of : List SeenMember → Result TE Refusal) (to
   -- ---- a whole request
 
   module _ (ask : SeenCodeRequest) (answers : List SeenAnswer) where
-    -- the request was made, and this came back
+    -- The request was made, and this came back.
     pub record Came (answer : SeenAnswer) : Type 0 where
       pub request : SeenRequest
       pub request_made : code_request ask ≡ Some request
       pub answer_came : first_of answers ≡ answer
 
-    -- a response that is refused
+    -- The response that came is refused with this.
     pub record IsRefused (e : TokenRefusal TE) : Type 0 where
       pub response : SeenResponse
       pub came : Came (Some response)
@@ -123,14 +124,15 @@ module _ {TE TR : Type 0} (error_of : List SeenMember → Result TE Refusal) (to
     Cause Memory = ⊥
     Cause e = IsRefused e
 
-    -- a response that holds these tokens
+    -- The response that came holds these tokens.
     pub record TokensCame (tokens : TR) : Type 0 where
       pub response : SeenResponse
       pub came : Came (Some response)
       pub tokens_in_response : IsTokenAnswer response tokens
 
   -- What a request leaves of any transport, and what its result rests on.
-  pub record Ran {RE : Type 0} (ask : SeenCodeRequest) (old new : Known) (result : Result TR (RequestTokenError RE TE)) : Type 0 where
+  pub record Ran {RE : Type 0} (ask : SeenCodeRequest) (old new : Known)
+      (result : Result TR (RequestTokenError RE TE)) : Type 0 where
     pub exchanged : Exchanges (token_answer error_of token_of) (code_request ask) old new result
     -- each refusal has its cause, and each cause its refusal
     pub cause : IfErr result (λ e. OrMemory result (Cause ask exchanged.answers (seen_refusal e)))

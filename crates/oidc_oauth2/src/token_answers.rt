@@ -154,7 +154,7 @@ pub fn token_answer<RE, TE: ErrorResponse, TR: OAuth2TokenResponse>(
 ) -> Result<TR, RequestTokenError<RE, TE>>
     ensures answer { let worth = spec.token_answer TE.read_of TR.read_of in
         spec.Gives result (worth (seen_response response)) }
-    // Each refusal has its cause, and each cause its refusal.
+    // Each refusal has its cause, want of memory aside, and each cause its refusal.
     ensures cause { IfErr result (Because TE.read_of TR.read_of (seen_response response)) }
     ensures refused { let Caused = AnswerCause TE.read_of TR.read_of (seen_response response) in
         (e : spec.TokenRefusal TE) → Caused e → spec.Gives result (Err e) }
