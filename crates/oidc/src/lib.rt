@@ -55,7 +55,7 @@ pub use oidc_keys::{
 
 // The token layer, and the transport that a site hands in.
 pub use oidc_oauth2::{
-    Adapter, Answer, AuthType, Body, CallError, CodeTokenRequest, ConfigurationError,
+    Adapter, Answer, AuthType, Body, CallError, ClientAuth, CodeTokenRequest, ConfigurationError,
     DeviceAuthorizationResponse, DeviceCodeErrorResponse, DeviceCodeErrorResponseType,
     EmptyExtraDeviceAuthorizationFields, EmptyExtraTokenFields, ErrorResponse,
     ExtraDeviceAuthorizationFields, ExtraTokenFields, Fault, HttpRequest, HttpResponse,
@@ -75,8 +75,8 @@ pub use oidc_tokens::{
 // User info.
 pub use oidc_user_info::{
     AdditionalProviderMetadata, BuildUrlError, EmptyAdditionalProviderMetadata, InfoOther,
-    ResponseCause, UserInfoClaims, UserInfoError, UserInfoJsonWebToken, UserInfoRequest,
-    UserInfoResponseType,
+    PrepareInfoError, ResponseCause, UserInfoClaims, UserInfoError, UserInfoJsonWebToken,
+    UserInfoRequest, UserInfoResponseType,
 };
 
 // The client.

@@ -128,7 +128,8 @@ store_after client pending event = store_after_event client pending (login_event
 abbrev pub rest_of_report : SeenClient → Pending → ℕ → List (List ℕ) → Option ℕ → List ℕ
 rest_of_report client pending n all fault =
     let events = login_events client (map event_of (lines_before n fault all)) in
-    steps_lines (runs.steps_from types client pending events) ++ last_line fault (runs.store_from types client pending events)
+    steps_lines (runs.steps_from types client pending events)
+    ++ last_line fault (runs.store_from types client pending events)
 
 -- how it ends
 abbrev pub ending_of : Option ℕ → Ending

@@ -182,8 +182,8 @@ verdict_line (Err login.TokenHash) = line_of (codes "callback refused token_hash
 verdict_line (Err (login.UserInfo e)) = line_of (codes "callback refused user_info " ++ info_words e)
 verdict_line (Err (login.Memory spent)) = []
 
--- Neither the claims of a user who is signed in nor user info hold a float: none that was read does. No clause knows the
--- text of claims that hold one.
+-- Neither the claims of a user who is signed in nor user info hold a float: none that was read does. No clause knows
+-- the text of claims that hold one.
 abbrev pub HasNoFloats : Result SeenSignedIn Error → Type 0
 HasNoFloats (Err e) = Unit {0}
 HasNoFloats (Ok signed) =

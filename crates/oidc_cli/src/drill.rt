@@ -81,10 +81,12 @@ fn take_begin<'c>(
 ) -> Result<Tally, AllocError>
     requires same { logins.old.client ≡ client.now }
     requires own { client.now ≡ drill_client }
-    ensures counts { let taken = step types drill_client logins.old.pending (event_of_turn (Turn.Begin i)) in
+    ensures counts { let event = event_of_turn (Turn.Begin i) in
+        let taken = step types drill_client logins.old.pending event in
         IfOk result (λ more. more ≡ added_by (Turn.Begin i) taken) }
     ensures client { logins.new.client ≡ logins.old.client }
-    ensures store { let taken = step types drill_client logins.old.pending (event_of_turn (Turn.Begin i)) in
+    ensures store { let event = event_of_turn (Turn.Begin i) in
+        let taken = step types drill_client logins.old.pending event in
         OnOk result (logins.new.pending ≡ taken.pending) }
 {
     let line = begin_line(alloc, i)?;
@@ -106,10 +108,12 @@ fn take_first(
 ) -> Result<Tally, AllocError>
     requires own { logins.old.client ≡ drill_client }
     requires issuer { issuer.now ≡ drill_issuer }
-    ensures counts { let taken = step types drill_client logins.old.pending (event_of_turn (Turn.First i)) in
+    ensures counts { let event = event_of_turn (Turn.First i) in
+        let taken = step types drill_client logins.old.pending event in
         IfOk result (λ more. more ≡ added_by (Turn.First i) taken) }
     ensures client { logins.new.client ≡ logins.old.client }
-    ensures store { let taken = step types drill_client logins.old.pending (event_of_turn (Turn.First i)) in
+    ensures store { let event = event_of_turn (Turn.First i) in
+        let taken = step types drill_client logins.old.pending event in
         OnOk result (logins.new.pending ≡ taken.pending) }
 {
     let line = first_line(alloc, issuer, i)?;
@@ -128,10 +132,12 @@ fn take_first(
 // It is called back once more.
 fn take_again(alloc: Global, logins: &mut PendingLogins<'_>, i: u16) -> Result<Tally, AllocError>
     requires own { logins.old.client ≡ drill_client }
-    ensures counts { let taken = step types drill_client logins.old.pending (event_of_turn (Turn.Again i)) in
+    ensures counts { let event = event_of_turn (Turn.Again i) in
+        let taken = step types drill_client logins.old.pending event in
         IfOk result (λ more. more ≡ added_by (Turn.Again i) taken) }
     ensures client { logins.new.client ≡ logins.old.client }
-    ensures store { let taken = step types drill_client logins.old.pending (event_of_turn (Turn.Again i)) in
+    ensures store { let event = event_of_turn (Turn.Again i) in
+        let taken = step types drill_client logins.old.pending event in
         OnOk result (logins.new.pending ≡ taken.pending) }
 {
     let line = again_line(alloc, i)?;

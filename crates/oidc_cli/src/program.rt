@@ -90,7 +90,8 @@ pub fn run<S: Source, O: Sink>(alloc: Global, words: &[String], source: &mut S, 
 
     // On a drill nothing is read. On 0 its line stands behind what the sink held, on 1 and 5 a beginning
     // of it. It comes to its end, where the sink doesn't fail and there is memory.
-    ensures drill_unread { (count : ℕ) → Asks words.now (Command.Drill count) → source.new ≡ source.old }
+    ensures drill_unread { (count : ℕ) → Asks words.now (Command.Drill count)
+        → source.new ≡ source.old }
     ensures drilled { (count : ℕ) → Asks words.now (Command.Drill count) → result ≡ 0
         → Puts (O.written sink.old) (O.written sink.new) (drill_text count) }
     ensures drill_begun { (count : ℕ) → Asks words.now (Command.Drill count)

@@ -1,5 +1,5 @@
--- What contracts see of a client of one provider (RFC 6749 section 2.2, OpenID Connect Core 1.0 section 2),
--- and when its type is right about its endpoints.
+-- What contracts see of a client of one provider (RFC 6749 sections 2.2 and 3, OpenID Connect Core 1.0 sections
+-- 3.1.3.7 and 5.3), and when its type is right about its endpoints.
 use Rattle.std.specs.Prelude.{◌≡◌, ℕ, List, [], Bool, true, false, Option, None, Some, option_map}
 use Rattle.url.specs.Parts.{serialize}
 use Rattle.oidc_types.specs.{TextAndUrl}

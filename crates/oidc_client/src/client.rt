@@ -1,5 +1,5 @@
-//! A client of one provider, whose type says which endpoints are set (RFC 6749 section 2.2, OpenID Connect Core
-//! 1.0 section 2).
+//! A client of one provider, whose type says which endpoints are set (RFC 6749 sections 2.2 and 3, OpenID Connect
+//! Core 1.0 sections 3.1.3.7 and 5.3).
 
 ghost use Rattle.std.specs.Prelude.{◌≡◌};
 ghost use Rattle.oidc_client.specs.Client.{new_client};

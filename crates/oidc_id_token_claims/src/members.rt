@@ -1,6 +1,6 @@
 //! Members of claims: those that are additional, and those that are written, which are UTF-8.
 
-ghost use Rattle.std.specs.Prelude.{◌≡◌, ◌++◌, IfOk, OnOk, map};
+ghost use Rattle.std.specs.Prelude.{◌≡◌, ◌++◌, IfOk, OnErr, OnOk, map};
 ghost use Rattle.std.specs.Option.{option_copied};
 ghost use Rattle.serde_json.specs.View.{view};
 ghost use Rattle.oidc_claims.specs.Home.{home_of, is_additional_home};
@@ -44,7 +44,7 @@ pub fn additional_copies(
     Ok(copies)
 }
 
-/// Appends an array of texts, where there is one.
+/// Appends an array of texts, where there is one. After an error nothing is appended.
 pub fn push_texts<M: Marker>(
     alloc: Global,
     out: &mut Vec<OutMember>,
@@ -53,6 +53,7 @@ pub fn push_texts<M: Marker>(
 ) -> Result<(), AllocError>
     ensures members { OnOk result
         (out.new.items ≡ out.old.items ++ texts_member name.now (option_copied texts.entry)) }
+    ensures err { OnErr result (out.new.items ≡ out.old.items) }
     ensures texts { OnOk result (KeepsUtf8 out.old.items out.new.items) }
 {
     match texts {

@@ -144,7 +144,8 @@ impl<AC: AdditionalClaims, GC: GenderClaim> IdTokenClaims<AC, GC> {
 
     /// Changes `preferred_username` alone.
     pub fn set_preferred_username(self, preferred_username: Option<EndUserUsername>) -> Self
-        ensures { let standard = record self.standard_claims { preferred_username = preferred_username } in
+        ensures { let standard =
+            record self.standard_claims { preferred_username = preferred_username } in
             result ≡ record self { standard_claims = standard } }
     {
         let standard_claims = self
@@ -422,7 +423,8 @@ impl<AC: AdditionalClaims, GC: GenderClaim> IdTokenClaims<AC, GC> {
 
     /// `updated_at`: when the user's claims were last changed.
     pub fn updated_at(&self) -> Option<Timestamp>
-        ensures { option_map (λ moment. moment.nanosecond) result ≡ self.now.standard_claims.updated_at }
+        ensures { option_map (λ moment. moment.nanosecond) result
+            ≡ self.now.standard_claims.updated_at }
     {
         self.standard_claims.updated_at()
     }

@@ -67,10 +67,17 @@ Issues meant (Ok token) = meant ≡ Ok token
 Issues meant (Err (token_error.SigningError refusal)) = meant ≡ Err refusal
 Issues meant (Err token_error.Memory) = Unit {0}
 
--- A signer refuses some message so; or there was no memory.
-abbrev pub IsRefusedBy : (List ℕ → Result (List ℕ) SigningError) → JsonWebTokenError → Type 0
-IsRefusedBy signs (token_error.SigningError refusal) = (message : List ℕ) × (signs message ≡ Err refusal)
-IsRefusedBy signs token_error.Memory = Unit {0}
+-- A signer refuses a message with this header so.
+pub record RefusesMessage (header : List OutSeen) (signs : List ℕ → Result (List ℕ) SigningError)
+    (refusal : SigningError) : Type 0 where
+  pub message : List ℕ
+  pub headed : IsHeadedBy message header
+  pub refused : signs message ≡ Err refusal
+
+-- That is why there is no token; or there was no memory.
+abbrev pub IsRefusedBy : List OutSeen → (List ℕ → Result (List ℕ) SigningError) → JsonWebTokenError → Type 0
+IsRefusedBy header signs (token_error.SigningError refusal) = RefusesMessage header signs refusal
+IsRefusedBy header signs token_error.Memory = Unit {0}
 
 -- An error of a signer, as one of issuing: want of memory is never inside another error.
 abbrev pub issue_error : SigningError → JsonWebTokenError

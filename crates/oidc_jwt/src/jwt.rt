@@ -210,8 +210,9 @@ impl<JE: ClosedVocabulary, JS: JwsSigningAlgorithm, P: Payload> JsonWebToken<JE,
     /// Issues a token: its header has the algorithm and, where the verification key has one, the key's
     /// id, and the signer signs the first two parts with the dot between them.
     ///
-    /// Where the payload's values hold no float, the whole token is the one that `issued` says. It is
-    /// refused as the signer refuses the message, or as `Memory`.
+    /// Where the payload's values hold no float, the whole token or refusal is the one that `issued` says.
+    /// Whatever they hold, it is refused as the signer refuses a message with the token's header, or as
+    /// `Memory`.
     pub fn new<S: PrivateSigningKey>(
         alloc: Global,
         payload: P,
@@ -235,7 +236,9 @@ impl<JE: ClosedVocabulary, JS: JwsSigningAlgorithm, P: Payload> JsonWebToken<JE,
             S.signs key.now alg.now token.message ≡ Ok token.signature) }
         ensures text { IfOk result (λ token.
             token.text ≡ issuing.compact token.message token.signature) }
-        ensures refused { IfErr result (IsRefusedBy (S.signs key.now alg.now)) }
+        ensures refused { let key_id = S.VerificationKey.key_id (S.verification_key key.now) in
+            let header = written_header (JS.as_ref alg.now) key_id in
+            IfErr result (IsRefusedBy header (S.signs key.now alg.now)) }
 
         // What is issued is read back.
         ensures reads_back { IsNamed JS.as_ref JS.from_str alg.now
@@ -283,7 +286,7 @@ impl Unsigned {
             IsReady header (P.write_of payload.now) (string_bytes unsigned.message)) }
         ensures headed { let key_id = S.VerificationKey.key_id (S.verification_key key.now) in
             let header = written_header alg.now key_id in IfOk result (λ unsigned.
-            IsHeaded (string_bytes unsigned.message) (object_text header)) }
+            issuing.IsHeadedBy (string_bytes unsigned.message) header) }
     {
         let checker = key.as_verification_key(alloc)?;
         let header = header_members(alloc, alg, checker.key_id())?;

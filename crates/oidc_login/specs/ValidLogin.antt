@@ -29,7 +29,8 @@ module _ {AC GC Key Use : Type 0} (types : SiteTypes AC GC Key Use) where
     pub read : record_in (tokens_read types) response.body ≡ Ok tokens
 
   -- the same for user info, whose members read as these claims, about this subject
-  pub record IsValidInfoAnswer (subject : List ℕ) (found : SeenUserInfoClaims AC GC) (response : SeenResponse) : Type 0 where
+  pub record IsValidInfoAnswer (subject : List ℕ) (found : SeenUserInfoClaims AC GC)
+      (response : SeenResponse) : Type 0 where
     pub success : response.status ≡ 200
     pub json : may_be_json response ≡ true
     pub not_too_long : is_over_long response.body ≡ false

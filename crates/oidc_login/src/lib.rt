@@ -19,8 +19,8 @@
 //! exactly where the login demands it, about the ID token's subject. It sends at most two requests, its own:
 //! that for the code, and behind an accepted ID token that for user info. Where it sends any the named login is
 //! gone afterwards. A callback leaves every other login as it was. Every refusal but want of memory has its
-//! cause, and a valid login is signed in. The contracts of `begin` and `callback` say so by the definitions in
-//! `specs/`: the table of a callback in `specs/Rows.antt`, what each reply rests on in `specs/Causes.antt`, a valid
+//! cause, and a valid login is signed in, where there is memory. The contracts of `begin` and `callback` say so by
+//! the definitions in `specs/`: the table of a callback in `specs/Rows.antt`, what each reply rests on in `specs/Causes.antt`, a valid
 //! login in `specs/ValidLogin.antt`, and all together as `Ran` in `specs/Runs.antt`; whole runs in `specs/Events.antt`.
 //!
 //! `Ran` says all this for some answers. Where the transport keeps a log, they are those that came.

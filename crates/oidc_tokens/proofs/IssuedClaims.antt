@@ -1,10 +1,13 @@
 -- What issuing an ID token answers, of claims that have their hashes.
-use Rattle.std.proofs.Common.{◌≡◌, ℕ, List, Option, Some, Result, Ok, Err, sym, ap, subst}
+use Rattle.std.proofs.Common.{◌≡◌, ℕ, List, Option, Some, Result, Ok, Err, sym, ap, subst, inr}
 use Rattle.oidc_types.specs.declared.signing_error.SigningError.{SigningError}
 use Rattle.oidc_types.specs.declared.signing_error.SigningError.TheVariants.{CryptoError, UnsupportedAlg, Other, Memory}
+use Rattle.oidc_members.specs.Seen.{OutSeen}
 use Rattle.oidc_jwt.specs.declared.jwt.JsonWebTokenError.{JsonWebTokenError}
+use Rattle.oidc_jwt.specs.declared.jwt.JsonWebTokenError.TheVariants as token_error
 use Rattle.oidc_tokens.specs.Steps.{◌>>=◌, and_then}
-use Rattle.oidc_jwt.specs.Issuing.{Issues}
+use Rattle.oidc_jwt.specs.Issuing.{Issues, IsRefusedBy}
+use Rattle.oidc_tokens.specs.Issuing.{IsUnissued}
 use Rattle.oidc_tokens.specs.Hashes.{Hashing, hash_or_refusal, with_token_hash, with_code_hash, GivesHash}
 use Rattle.oidc_id_token_claims.specs.IdTokenClaims.{SeenIdTokenClaims}
 
@@ -12,6 +15,12 @@ module _ {P : Type 0} (hashed : Result P SigningError) where
   -- what is issued of claims that have their hashes
   pub issues_after : {T : Type 0} (claims : P) (issue : P → Result T SigningError) (answer : Result T JsonWebTokenError) → Ok claims ≡ hashed → Issues (issue claims) answer → Issues (and_then hashed issue) answer
   issues_after claims issue answer is h = subst (λ (o : Result P SigningError). Issues (and_then o issue) answer) is h
+
+  -- nor are they issued, where the signer refuses
+  pub unissued_after : (claims : P) (header : List OutSeen) (signs : List ℕ → Result (List ℕ) SigningError) (error : JsonWebTokenError) → Ok claims ≡ hashed → IsRefusedBy header signs error
+      → IsUnissued hashed header signs error
+  unissued_after claims header signs (token_error.SigningError refusal) is refuses = inr (record { payload = claims; own_hashes = sym is; refuses = refuses })
+  unissued_after claims header signs token_error.Memory is refuses = tt
 
 -- ---- a hash that doesn't exist, on the way
 

@@ -75,8 +75,9 @@ fn hash_of<K: JsonWebKey>(
 ) -> Result<String, SigningError>
     ensures ok { let by = hashing (K.SigningAlgorithm.as_ref alg.now) (K.hash_of key.now alg.now)
         in IfOk result (λ hash. hash_or_refusal by text.now ≡ Ok (string_bytes hash)) }
-    ensures refused { let by = hashing (K.SigningAlgorithm.as_ref alg.now) (K.hash_of key.now alg.now)
-        in IfErr result (λ refusal. GivesHash (hash_or_refusal by text.now) (Err refusal)) }
+    ensures refused { let by = hashing (K.SigningAlgorithm.as_ref alg.now)
+        (K.hash_of key.now alg.now) in
+        IfErr result (λ refusal. GivesHash (hash_or_refusal by text.now) (Err refusal)) }
 {
     match key.hash_bytes(alloc, text.as_bytes(), alg) {
         Ok(digest) => match half_encoded(alloc, digest.as_slice()) {

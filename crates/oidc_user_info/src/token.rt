@@ -71,8 +71,9 @@ impl<
 
     /// Issues a token of these claims, signed by `key`.
     ///
-    /// Where the additional claims hold no float, the whole token is the one that the definitions say. It is
-    /// refused as the signer refuses the message, or as `Memory`.
+    /// Where the additional claims hold no float, the whole token or refusal is the one that the definitions
+    /// say. Whatever they hold, it is refused as the signer refuses a message with the token's header, or as
+    /// `Memory`.
     pub fn new<S: PrivateSigningKey>(
         alloc: Global,
         claims: UserInfoClaims<AC, GC>,
@@ -84,7 +85,7 @@ impl<
         ensures issued { let key_id = S.VerificationKey.key_id (S.verification_key key.now) in
             let issue = issuing.issued JS.as_ref (user_info_members AC.write_of GC.write_of)
             (S.signs key.now alg) key_id alg in
-            any_float (user_info_members AC.write_of GC.write_of claims) ≡ false
+            any_float (AC.write_of claims.additional_claims) ≡ false
             → Issues (issue claims) result }
 
         // Whatever the additional claims hold.
@@ -98,7 +99,9 @@ impl<
             S.signs key.now alg token.message ≡ Ok token.signature) }
         ensures text { IfOk result (λ token.
             token.text ≡ issuing.compact token.message token.signature) }
-        ensures refused { IfErr result (IsRefusedBy (S.signs key.now alg)) }
+        ensures refused { let key_id = S.VerificationKey.key_id (S.verification_key key.now) in
+            let header = written_header (JS.as_ref alg) key_id in
+            IfErr result (IsRefusedBy header (S.signs key.now alg)) }
 
         // What is issued is read back.
         ensures reads_back { IsNamed JS.as_ref JS.from_str alg → IsInRange AC.write_of claims

@@ -1,7 +1,7 @@
 //! URLs with pairs after their query, to which a site sends its users: the authorization endpoint's (RFC 6749
 //! section 3.1) and the logout endpoint's.
 
-ghost use Rattle.std.specs.Prelude.{◌≡◌, ◌∷◌, ◌++◌, [], false, Some, All, IfOk, IsTrue, OnOk, OnErr, map, option_map};
+ghost use Rattle.std.specs.Prelude.{◌≡◌, ◌∷◌, ◌++◌, [], false, Some, All, IfOk, IsTrue, OnOk, OnErr, length, map, option_map, take};
 ghost use Rattle.std.specs.Option.{option_copied};
 ghost use Rattle.std.specs.String.{string_bytes};
 ghost use Rattle.form_urlencoded.specs.Form.{pair_text};
@@ -157,10 +157,25 @@ impl<'p> QueryPairs<'p> {
         Ok(())
     }
 
-    /// Adds a pair for each name that has a value, in their order. After an error the list isn't known:
-    /// drop it.
+    /// Adds a pair for each name that has a value, in their order. After an error nothing is added.
     pub fn push_given(&mut self, list: &[(&'p str, Option<&'p str>)]) -> Result<(), AllocError>
         ensures ok { OnOk result (self.new ≡ self.old ++ given_pairs (map named_value list.now)) }
+        ensures err { OnErr result (self.new ≡ self.old) }
+    {
+        let before = self.pairs.len();
+        match self.push_each(list) {
+            Ok(()) => Ok(()),
+            Err(error) => {
+                self.pairs.truncate(before);
+                Err(error)
+            }
+        }
+    }
+
+    // The same, but that some pairs may be added before an error.
+    fn push_each(&mut self, list: &[(&'p str, Option<&'p str>)]) -> Result<(), AllocError>
+        ensures ok { OnOk result (self.new ≡ self.old ++ given_pairs (map named_value list.now)) }
+        ensures err { OnErr result (take (length self.old) self.new ≡ self.old) }
     {
         for (name, value) in list {
             self.push_if(name, *value)?;
@@ -170,8 +185,9 @@ impl<'p> QueryPairs<'p> {
 
     // Adds a pair at the end, where there is a value.
     fn push_if(&mut self, name: &'p str, value: Option<&'p str>) -> Result<(), AllocError>
-        ensures { let added = pair_if name.now (option_copied value.entry) in
+        ensures ok { let added = pair_if name.now (option_copied value.entry) in
             OnOk result (self.new ≡ self.old ++ added) }
+        ensures err { OnErr result (self.new ≡ self.old) }
     {
         match value {
             None => Ok(()),

@@ -36,9 +36,10 @@ impl<
     /// Issues an ID token for these claims, signed by `key`. The hashes of the access token and of the
     /// code are those of what is given here; where nothing is given, the claims' own stay.
     ///
-    /// Where the additional claims hold no float, the whole token is the one that the definitions say.
-    /// It is refused as `UnsupportedAlg` where a hash is wanted that doesn't exist under the verification
-    /// key, then as the signer refuses the message, or as `Memory`.
+    /// Where the additional claims hold no float, the whole token or refusal is the one that the
+    /// definitions say. Whatever they hold, it is refused as `UnsupportedAlg` where a hash is wanted that
+    /// doesn't exist under the verification key, else as the signer refuses a message with the token's
+    /// header, or as `Memory`.
     pub fn new<S: PrivateSigningKey>(
         alloc: Global,
         claims: IdTokenClaims<AC, GC>,
@@ -78,7 +79,8 @@ impl<
             let by = hashing (JS.as_ref alg) (S.VerificationKey.hash_of checker alg) in
             let token = option_copied access_token.entry in
             let hashed = spec.with_hashes by token (option_copied code.entry) claims in
-            IfErr result (IsUnissued hashed (S.signs key.now alg)) }
+            let header = written_header (JS.as_ref alg) (S.VerificationKey.key_id checker) in
+            IfErr result (IsUnissued hashed header (S.signs key.now alg)) }
 
         // What is issued is read back as it is, and whoever expects these claims accepts it.
         ensures reads_back { IsNamed JS.as_ref JS.from_str alg → IsInRange AC.write_of claims

@@ -122,7 +122,8 @@ impl<'a, K: JsonWebKey> IdTokenVerifier<'a, K> {
     fn is_allowed(&self, alg: &K::SigningAlgorithm) -> bool
         ensures { let k = meanings K.JsonWebKey K.KeyUse.JsonWebKeyUse
             K.SigningAlgorithm.JwsSigningAlgorithm.own K.SigningAlgorithm.ClosedVocabulary
-            K.SigningAlgorithm.KeyType.ClosedVocabulary in result ≡ spec.is_allowed k self.now alg.now }
+            K.SigningAlgorithm.KeyType.ClosedVocabulary in
+            result ≡ spec.is_allowed k self.now alg.now }
     {
         match &self.allowed_algs {
             Some(algs) => algs.iter().any(|allowed| is_same_word(allowed, alg)),

@@ -50,7 +50,8 @@ pub fn is_expected_subject(
     expected: Option<&SubjectIdentifier>,
     subject: &SubjectIdentifier,
 ) -> bool
-    ensures expected { result ≡ spec.is_expected_subject (option_copied expected.entry) subject.now }
+    ensures expected { let expected = option_copied expected.entry in
+        result ≡ spec.is_expected_subject expected subject.now }
 {
     match expected {
         None => true,

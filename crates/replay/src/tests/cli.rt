@@ -1,8 +1,9 @@
 //! Tests of oidc_cli that no line of text can say: words, objects that fail at one call, bytes that are no
 //! text, scripts and addresses at their limits, ten thousand logins, and the adapters over std.
 //!
-//! The first script and its report stand in the project's demand. Its token was signed by Python's `hmac`,
-//! and the challenges of the other verifiers were made by its `hashlib`.
+//! The first script is one login from its client to its callback. Its token was signed by Python's `hmac`, and
+//! the challenges of the other verifiers were made by its `hashlib`; its report was fixed before the program
+//! was written.
 ghost use Rattle.std.specs.Prelude.{Option};
 
 use base64::engine::general_purpose::URL_SAFE_NO_PAD;

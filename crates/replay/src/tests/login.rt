@@ -12,14 +12,16 @@ use oidc_login::{
     LoginClient, LoginError, LoginRequest, Logins, NewLoginsError, SignedIn, UserInfoDemand,
 };
 use oidc_oauth2::{
-    Adapter, Answer, Body, Fault, HttpRequest, HttpResponse, Recorded, SyncHttpClient,
+    Adapter, Answer, Body, Fault, HttpRequest, HttpResponse, Recorded, RequestTokenError,
+    SyncHttpClient,
 };
 use oidc_types::{
     AuthUrl, ClientId, ClientSecret, CoreGenderClaim, CoreJwsSigningAlgorithm, CsrfToken,
     IssuerUrl, JsonWebKeySetUrl, Nonce, PkceCodeVerifier, RedirectUrl, TokenUrl, UserInfoUrl,
 };
-use oidc_user_info::{EmptyAdditionalProviderMetadata, UserInfoResponseType};
+use oidc_user_info::{EmptyAdditionalProviderMetadata, UserInfoError, UserInfoResponseType};
 use std::alloc::{AllocError, Global};
+use std::fmt::Display;
 use std::test::Fail;
 
 /// Logins that keep all claims.
@@ -216,10 +218,18 @@ fn no_text(alloc: Global) -> Result<HttpResponse, Fail> {
     typed(response, HeaderValue::from_static("application/jwt"))
 }
 
-// What a refusal prints, and whether the login is gone.
-fn refusal<E: Drop>(alloc: Global, error: &LoginError<E>) -> Result<String, AllocError> {
+// What a refusal prints, the transport's own error where it carries one, and whether the login is gone.
+fn refusal<E: Drop + Display>(alloc: Global, error: &LoginError<E>) -> Result<String, AllocError> {
     let spent = error.spent();
-    format!(in alloc; "{error}; {spent}")
+    match error {
+        LoginError::Token(RequestTokenError::Request(own)) => {
+            format!(in alloc; "{error}: {own}; {spent}")
+        }
+        LoginError::UserInfo(UserInfoError::Request(own)) => {
+            format!(in alloc; "{error}: {own}; {spent}")
+        }
+        _ => format!(in alloc; "{error}; {spent}"),
+    }
 }
 
 // A user who is signed in, and whom the user info is about, where there is some.
@@ -237,7 +247,7 @@ fn signed_line(alloc: Global, signed: &User) -> Result<String, AllocError> {
 }
 
 // What a callback answers, in words.
-fn answer<E: Drop>(
+fn answer<E: Drop + Display>(
     alloc: Global,
     reply: &Result<User, LoginError<E>>,
 ) -> Result<String, AllocError> {
@@ -251,7 +261,7 @@ fn answer<E: Drop>(
 const QUERY: &str = "code=c1&state=CSRF123";
 
 /// A callback with this query: what it answers, in words, and whether a login is gone.
-pub fn called_back<E: Drop, H: SyncHttpClient<Error = E>>(
+pub fn called_back<E: Drop + Display, H: SyncHttpClient<Error = E>>(
     alloc: Global,
     logins: &mut CoreLogins<'_>,
     http: &mut H,
@@ -269,7 +279,7 @@ pub fn called_back<E: Drop, H: SyncHttpClient<Error = E>>(
 
 // A login in this store over any transport, in one line: whether its state alone is pending before its
 // callback, whether it is pending after it, and what the callback answers.
-fn login_in<'c, E: Drop, H: SyncHttpClient<Error = E>>(
+fn login_in<'c, E: Drop + Display, H: SyncHttpClient<Error = E>>(
     alloc: Global,
     client: &'c LoginClient,
     logins: &mut CoreLogins<'c>,
@@ -288,7 +298,7 @@ fn login_in<'c, E: Drop, H: SyncHttpClient<Error = E>>(
 }
 
 // A login at this client, which may demand user info, and whose callback has this query.
-fn login<E: Drop, H: SyncHttpClient<Error = E>>(
+fn login<E: Drop + Display, H: SyncHttpClient<Error = E>>(
     alloc: Global,
     client: &LoginClient,
     http: &mut H,
@@ -336,17 +346,17 @@ static CASES: [(usize, Given, &str); 12] = [
     (
         5,
         Given::Fault,
-        "1 true false no tokens: the request failed; true",
+        "1 true false no tokens: the request failed: no response; true",
     ),
     (
         5,
         Given::Nothing,
-        "1 true false no tokens: the request failed; true",
+        "1 true false no tokens: the request failed: no response; true",
     ),
     (
         65_518,
         Given::Nothing,
-        "1 true false no tokens: the request failed; true",
+        "1 true false no tokens: the request failed: no response; true",
     ),
     (
         65_519,
@@ -666,9 +676,9 @@ fn login_over_closure(alloc: Global, is_up: bool) -> Result<String, Fail> {
 fn login_by_closure(alloc: Global, client: &LoginClient, is_up: bool) -> Result<String, Fail> {
     let mut http = Adapter::new(move |request: HttpRequest| -> Result<HttpResponse, Down> {
         if !is_up {
-            return Err(Down);
+            return Err(Down(0));
         }
-        echo(alloc, &request).map_err(|_| Down)
+        echo(alloc, &request).map_err(|_| Down(1))
     });
     let line = login(alloc, client, &mut http, None, QUERY)?;
     Ok(format!(in alloc; "{line} {}", http.faults())?)
@@ -677,7 +687,10 @@ fn login_by_closure(alloc: Global, client: &LoginClient, is_up: bool) -> Result<
 // Whether the closure answers, and the line.
 static CLOSURES: [(bool, &str); 2] = [
     (true, "true false u1 POST https://example/aaaaa true 0"),
-    (false, "true false no tokens: the request failed; true 1"),
+    (
+        false,
+        "true false no tokens: the request failed: down since 0; true 1",
+    ),
 ];
 
 #[test]
@@ -718,11 +731,11 @@ fn logins_over_own(alloc: Global, asks: bool) -> Result<String, Fail> {
 static OWN: [(bool, &str); 2] = [
     (
         false,
-        "true false u1 POST https://example/aaaaa true, true false no tokens: the request failed; true, (2, 1)",
+        "true false u1 POST https://example/aaaaa true, true false no tokens: the request failed: down since 1; true, (2, 1)",
     ),
     (
         true,
-        "true false no user info: the request failed; true, (2, 1)",
+        "true false no user info: the request failed: down since 1; true, (2, 1)",
     ),
 ];
 

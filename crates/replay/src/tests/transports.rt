@@ -12,14 +12,14 @@ use std::alloc::{AllocError, Global};
 use std::fmt;
 use std::test::Fail;
 
-/// Why there is no response.
+/// Why there is no response: the transport is down, since so many requests.
 #[derive(Clone, Copy, Debug, PartialEq, Eq)]
-pub(crate) struct Down;
+pub(crate) struct Down(pub(crate) u64);
 
 /// Prints why there is no response.
 impl fmt::Display for Down {
     fn fmt<W: fmt::Write>(&self, f: &mut fmt::Formatter<W>) -> fmt::Result {
-        f.write_str("down")
+        write!(f, "down since {}", self.0)
     }
 }
 
@@ -75,9 +75,10 @@ impl SyncHttpClient for Fleeting {
         request: HttpRequest,
     ) -> Result<HttpResponse, CallError<Down>> {
         if self.requests > 0 {
+            let since = self.requests;
             self.requests = self.requests.saturating_add(1);
             self.faults = self.faults.saturating_add(1);
-            return Err(CallError::Transport(Down));
+            return Err(CallError::Transport(Down(since)));
         }
         match echo(alloc, &request) {
             Ok(response) => {
@@ -121,20 +122,20 @@ fn code_request<'a>(
     Ok(CodeTokenRequest::new(alloc, &parts.endpoint, auth, code))
 }
 
-// The access token of a reply, or a word.
-fn word_of<E: Drop>(
+// The access token of a reply, the transport's own error, or a word.
+fn word_of<E: Drop + fmt::Display>(
     alloc: Global,
     reply: Result<Tokens, CoreRequestTokenError<E>>,
 ) -> Result<String, AllocError> {
     match reply {
         Ok(tokens) => String::from_str(alloc, tokens.access_token().secret()),
-        Err(RequestTokenError::Request(_)) => String::from_str(alloc, "down"),
+        Err(RequestTokenError::Request(error)) => format!(in alloc; "{error}"),
         Err(_) => String::from_str(alloc, "refused"),
     }
 }
 
 // The reply to one code request over a transport.
-fn exchanged<E: Drop, C: SyncHttpClient<Error = E>>(
+fn exchanged<E: Drop + fmt::Display, C: SyncHttpClient<Error = E>>(
     alloc: Global,
     parts: &Parts,
     http: &mut C,
@@ -147,7 +148,7 @@ fn exchanged<E: Drop, C: SyncHttpClient<Error = E>>(
 }
 
 // The replies to two code requests over a transport.
-fn exchanged_twice<E: Drop, C: SyncHttpClient<Error = E>>(
+fn exchanged_twice<E: Drop + fmt::Display, C: SyncHttpClient<Error = E>>(
     alloc: Global,
     http: &mut C,
 ) -> Result<String, Fail>
@@ -165,9 +166,9 @@ fn exchanged_twice<E: Drop, C: SyncHttpClient<Error = E>>(
 fn over_closure(alloc: Global, is_up: bool) -> Result<String, Fail> {
     let mut http = Adapter::new(move |request: HttpRequest| -> Result<HttpResponse, Down> {
         if !is_up {
-            return Err(Down);
+            return Err(Down(0));
         }
-        echo(alloc, &request).map_err(|_| Down)
+        echo(alloc, &request).map_err(|_| Down(1))
     });
     let line = exchanged_twice(alloc, &mut http)?;
     Ok(format!(in alloc; "{line}, {}", http.faults())?)
@@ -179,7 +180,7 @@ static CLOSURES: [(bool, &str); 2] = [
         true,
         "POST https://example/token, POST https://example/token, 0",
     ),
-    (false, "down, down, 2"),
+    (false, "down since 0, down since 0, 2"),
 ];
 
 #[test]
@@ -201,7 +202,10 @@ fn over_own(alloc: Global) -> Result<String, Fail> {
 #[test]
 fn requests_over_a_transport_of_ones_own(rt: HostRuntime) -> Result<(), Fail> {
     let line = over_own(rt.alloc())?;
-    assert_eq!(rt; line.as_str(), "POST https://example/token, down, (2, 1)");
+    assert_eq!(rt;
+        line.as_str(),
+        "POST https://example/token, down since 1, (2, 1)"
+    );
     Ok(())
 }
 

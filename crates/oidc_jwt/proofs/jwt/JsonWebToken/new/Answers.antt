@@ -1,10 +1,9 @@
 use Rattle.std.proofs.Common.{◌≡◌, ◌++◌, ◌∙◌, Ok, codes, refl, sym, ap, subst, string_bytes, length}
 use Rattle.std.specs.Prelude.{IsCharBoundary}
 use Rattle.oidc_jwt.specs.Header.{written_header}
-use Rattle.oidc_jwt.specs.Encoded.{Encodes, IsHeaded, IsReady}
-use Rattle.oidc_members.specs.Write.{object_text}
+use Rattle.oidc_jwt.specs.Encoded.{Encodes, IsReady}
 use Rattle.oidc_jwt.specs.Issuing.{IsHeadedBy, compact, signed_with}
-use Rattle.oidc_jwt.proofs.IssuedToken.{ready_message, issued_is, message_at, token_is, headed_by}
+use Rattle.oidc_jwt.proofs.IssuedToken.{ready_message, issued_is, message_at, token_is}
 use Rattle.oidc_jwt.proofs.TokenBack.{token_again}
 use Rattle.oidc_jwt.proofs.FloatFree.{standing_free}
 use Rattle.oidc_jwt.proofs.jwt.JsonWebToken.new.Goals as goal
@@ -29,8 +28,8 @@ returns g c =
     let text = string_bytes c.in_ok-text.text in
     let ready : IsReady (written_header (alg_text alg) id) (payload_out payload) message =
     subst (λ t. IsReady (written_header t id) (payload_out payload) message) c.as_ref.ensures.text c.in_ok-unsigned.ensures.ready in
-    let headed : IsHeaded message (object_text (written_header (alg_text alg) id)) =
-    subst (λ t. IsHeaded message (object_text (written_header t id))) c.as_ref.ensures.text c.in_ok-unsigned.ensures.headed in
+    let headed : IsHeadedBy message (written_header (alg_text alg) id) =
+    subst (λ t. IsHeadedBy message (written_header t id)) c.as_ref.ensures.text c.in_ok-unsigned.ensures.headed in
     let said : signs message ≡ Ok signature = ap signs (sym c.as_bytes.ensures.value) ∙ c.in_ok-signature.ensures.signature ∙ ap Ok (sym c.new.ensures.bytes) in
     let last = c.in_ok-text.ensures in
     let is : text ≡ message ++ codes "." ++ last.0 = last.2 ∙ ap (λ m. m ++ codes "." ++ last.0) c.as_str.ensures.value in
@@ -41,7 +40,7 @@ returns g c =
       issued = λ free. issued_is alg_text payload_out signs id alg payload message signature (ready_message alg_text payload_out id alg payload message ready free) said ∙ ap Ok (sym made);
       header = ap (λ t. t.header) made;
       payload = refl;
-      head = subst (λ m. IsHeadedBy m (written_header (alg_text alg) id)) (sym (ap (λ t. t.message) made)) (headed_by (alg_text alg) id message headed);
+      head = subst (λ m. IsHeadedBy m (written_header (alg_text alg) id)) (sym (ap (λ t. t.message) made)) headed;
       signed = ap signs (ap (λ t. t.message) made) ∙ said;
       text = whole ∙ ap (λ m. compact m signature) (sym (ap (λ t. t.message) made));
       refused = tt;

@@ -1,7 +1,7 @@
 use Rattle.std.proofs.Common.{◌≡◌, ◌∙◌, ap, string_bytes}
 use Rattle.std.specs.Option.{option_copied}
 use Rattle.oidc_jwt.specs.Header.{written_header}
-use Rattle.oidc_jwt.proofs.IssuedToken.{ready_of, headed_of}
+use Rattle.oidc_jwt.proofs.IssuedToken.{ready_of, headed_of, headed_by}
 use Rattle.oidc_jwt.proofs.jwt.Unsigned.of.Goals as goal
 
 pub returns-clause-ready : goal.returns-clause-ready
@@ -17,4 +17,5 @@ returns-clause-headed g c =
     let id = g.S.VerificationKey.JsonWebKey.key_id (g.S.PrivateSigningKey.verification_key c.args.key.now) in
     let named : option_copied c.key_id.result ≡ id = c.key_id.ensures.id ∙ ap g.S.VerificationKey.JsonWebKey.key_id c.in_ok-checker.ensures.key in
     let header : c.in_ok-header.header.items ≡ written_header c.args.alg.now id = c.in_ok-header.ensures.members ∙ ap (written_header c.args.alg.now) named in
-    headed_of c.args.alg.now id (string_bytes c.in_ok-message.message) c.in_ok-header.header.items _ header c.as_slice.ensures.value c.in_ok-message.ensures.head
+    headed_by c.args.alg.now id (string_bytes c.in_ok-message.message)
+    (headed_of c.args.alg.now id (string_bytes c.in_ok-message.message) c.in_ok-header.header.items _ header c.as_slice.ensures.value c.in_ok-message.ensures.head)
