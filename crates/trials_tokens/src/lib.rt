@@ -1,5 +1,5 @@
 //! Tests of oidc_tokens, oidc_user_info and oidc_client that no line of `vectors` can say: types of the test's own
-//! behind a trait, answers and addresses at their limits, the order of calls. A file for each crate.
+//! behind a trait, claims with every field, answers and addresses at their limits, the order of calls.
 //!
 //! Types of the test's own whose trait has laws are the crate's only items outside of its tests: their contracts are
 //! those of the trait, so that an edit of such a type is refused. No crate stands on this one.
