@@ -1,9 +1,9 @@
 -- Texts in a row, and pairs after the query of a URL.
-use Rattle.std.proofs.Common.{◌≡◌, ℕ, ◌<◌, length, All, List, [], ◌∷◌, ◌++◌, map, None, Some, refl, sym, ap, ◌∙◌, subst, arith}
+use Rattle.std.proofs.Common.{◌≡◌, ℕ, ◌<◌, length, All, List, [], ◌∷◌, ◌++◌, map, take, None, Some, refl, sym, ap, ◌∙◌, subst, arith}
 use Rattle.std.specs.Prelude.{unwrap_or, codes}
 use Rattle.std.specs.Borrow.{Bor}
 use Rattle.std.specs.List.{join_by, flat_map}
-use Rattle.std.proofs.lemmas.List.{map-append}
+use Rattle.std.proofs.lemmas.List.{map-append, length-map, take-map, take_at}
 use Rattle.std.proofs.lemmas.List.Elements.{All-nil, All-cons, All-append}
 use Rattle.form_urlencoded.specs.Form.{extend_pairs, pair_text}
 use Rattle.url.specs.Parts.{Parts, IsValid}
@@ -56,3 +56,12 @@ more_texts old new pair grown were is =
     subst (All IsTextPair) (sym (ap (map pair_text) grown ∙ map-append pair_text old (pair ∷ [])))
     (All-append IsTextPair (map pair_text old) (pair_text pair ∷ []) were
     (All-cons IsTextPair (pair_text pair) [] is (All-nil IsTextPair)))
+
+-- ---- lists that go back to what they were
+
+-- what was added behind a list, taken off again
+pub added_take : {A : Type 0} (old added now : List A) → now ≡ old ++ added → take (length old) now ≡ old
+added_take old added now is = ap (take (length old)) is ∙ take_at old added (length old) refl
+
+pub truncated : {X A : Type 0} (f : X → A) (old now : List X) → take (length (map f old)) (map f now) ≡ map f old → map f (take (length old) now) ≡ map f old
+truncated f old now is = sym (take-map f (length old) now) ∙ ap (λ n. take n (map f now)) (sym (length-map old f)) ∙ is

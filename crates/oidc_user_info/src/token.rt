@@ -108,8 +108,10 @@ impl<
             → IfOk result (λ token. token_of JE.from_str JS.from_str
             (user_info_claims_of AC.read_of GC.read_of) token.text ≡ Ok token) }
     {
-        let token = JsonWebToken::new(alloc, claims, key, &alg)?;
-        Ok(UserInfoJsonWebToken { token })
+        match JsonWebToken::new(alloc, claims, key, &alg) {
+            Ok(token) => Ok(UserInfoJsonWebToken { token }),
+            Err(error) => Err(error),
+        }
     }
 
     /// The text that was read or made.

@@ -158,6 +158,7 @@ impl<'p> QueryPairs<'p> {
     }
 
     /// Adds a pair for each name that has a value, in their order. After an error nothing is added.
+    #[tactic(auto, using(crate::proofs::QueryLists::truncated))]
     pub fn push_given(&mut self, list: &[(&'p str, Option<&'p str>)]) -> Result<(), AllocError>
         ensures ok { OnOk result (self.new ≡ self.old ++ given_pairs (map named_value list.now)) }
         ensures err { OnErr result (self.new ≡ self.old) }
@@ -173,6 +174,7 @@ impl<'p> QueryPairs<'p> {
     }
 
     // The same, but that some pairs may be added before an error.
+    #[tactic(auto, using(crate::proofs::QueryLists::added_take))]
     fn push_each(&mut self, list: &[(&'p str, Option<&'p str>)]) -> Result<(), AllocError>
         ensures ok { OnOk result (self.new ≡ self.old ++ given_pairs (map named_value list.now)) }
         ensures err { OnErr result (take (length self.old) self.new ≡ self.old) }
