@@ -196,8 +196,8 @@ fn exchange_info<
         K.JsonWebKey K.KeyUse.JsonWebKeyUse in
         let before = known (H.log http.old) (H.script http.old) in
         let after = known (H.log http.new) (H.script http.new) in
-        let run = λ answers. rows.asked_run types user answers (Ok asked.entry) in
-        Follows run before after result }
+        Follows (λ answers. rows.asked_run types user answers (Ok asked.entry))
+        before after result }
     ensures spent { is_spent_by result ≡ true }
     ensures blamed { IsBlamed (H.faults http.old) (H.faults http.new) result }
     ensures never_falls { H.faults http.old ≤ H.faults http.new }
