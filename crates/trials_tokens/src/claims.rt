@@ -47,7 +47,7 @@ struct Names {
     nickname: LocalizedClaim<EndUserNickname>,
 }
 
-fn names(alloc: Global) -> Result<Names, AllocError> {
+fn name_values(alloc: Global) -> Result<Names, AllocError> {
     Ok(Names {
         name: both(alloc, "Joan Roe", "Juana Roe")?,
         given_name: both(alloc, "Joan", "Juana")?,
@@ -73,7 +73,7 @@ struct Pages {
     website: LocalizedClaim<EndUserWebsiteUrl>,
 }
 
-fn pages(alloc: Global) -> Result<Pages, AllocError> {
+fn page_values(alloc: Global) -> Result<Pages, AllocError> {
     Ok(Pages {
         profile: both(alloc, "https://p/", "https://p/es")?,
         picture: both(alloc, "https://i/", "https://i/es")?,
@@ -101,7 +101,7 @@ struct Person {
     address: AddressClaim,
 }
 
-fn person(alloc: Global) -> Result<Person, AllocError> {
+fn person_values(alloc: Global) -> Result<Person, AllocError> {
     Ok(Person {
         preferred_username: one(alloc, "j.roe")?,
         email: one(alloc, "joan@example.com")?,
@@ -153,7 +153,7 @@ struct Own {
     code_hash: AuthorizationCodeHash,
 }
 
-fn own(alloc: Global) -> Result<Own, AllocError> {
+fn own_values(alloc: Global) -> Result<Own, AllocError> {
     let mut methods = Vec::new(alloc);
     methods.push(one(alloc, "pwd")?)?;
     methods.push(one(alloc, "otp")?)?;
@@ -196,7 +196,7 @@ struct Required {
     tenant: Tenant,
 }
 
-fn required(alloc: Global) -> Result<Required, Fail> {
+fn required_values(alloc: Global) -> Result<Required, Fail> {
     let mut audiences = Vec::new(alloc);
     audiences.push(one(alloc, "a")?)?;
     audiences.push(one(alloc, "b")?)?;
@@ -226,8 +226,12 @@ fn with_required(claims: Claims, required: Required, moments: [Timestamp; 2]) ->
 fn full_text(alloc: Global) -> Result<String, Fail> {
     let moments = [Timestamp::from_second(2000)?, Timestamp::from_second(900)?];
     let (auth_time, updated_at) = (Timestamp::from_second(800)?, Timestamp::from_second(700)?);
-    let (required, own) = (required(alloc)?, own(alloc)?);
-    let (names, pages, person) = (names(alloc)?, pages(alloc)?, person(alloc)?);
+    let (required, own) = (required_values(alloc)?, own_values(alloc)?);
+    let (names, pages, person) = (
+        name_values(alloc)?,
+        page_values(alloc)?,
+        person_values(alloc)?,
+    );
     let claims = with_required(first_claims(alloc)?, required, moments);
     let claims = with_own(with_names(claims, names), own, auth_time);
     let claims = with_person(with_pages(claims, pages), person, updated_at);
