@@ -104,6 +104,15 @@ def holds_float(value):
     return isinstance(value, Float)
 
 
+def is_lone(value):
+    """Whether half of a surrogate pair stands in a value by itself, which no UTF-8 has (RFC 3629 section 3)."""
+    if isinstance(value, Object):
+        return any(is_lone(name) or is_lone(inner) for name, inner in value)
+    if isinstance(value, list):
+        return any(map(is_lone, value))
+    return isinstance(value, str) and any("\ud800" <= c <= "\udfff" for c in value)
+
+
 def members_of(text):
     """The members of an object, with the texts of their values."""
     def constant(_):
@@ -115,7 +124,7 @@ def members_of(text):
         )
     except ValueError:
         raise Refused(None, "syntax", "")
-    if not isinstance(value, Object) or any(depth(inner) > DEEPEST for _, inner in value):
+    if not isinstance(value, Object) or any(depth(inner) > DEEPEST for _, inner in value) or is_lone(value):
         raise Refused(None, "syntax", "")
     if any(holds_float(inner) for _, inner in value):
         raise Refused(None, "number", "")

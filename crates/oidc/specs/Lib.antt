@@ -1,6 +1,8 @@
 pub mod LoginSecrets
 -- The words of oidc_login that its contracts cite, passed on for those of a site.
 pub use Rattle.oidc_login.specs.Pairs
+pub use Rattle.oidc_login.specs.Replies
+pub use Rattle.oidc_login.specs.Exchanges
 pub use Rattle.oidc_login.specs.SiteTypes
 pub use Rattle.oidc_login.specs.Client
 pub use Rattle.oidc_login.specs.Logins

@@ -15,8 +15,8 @@ use Rattle.oidc_readers.specs.WrittenBack.{IsWholeNumber, AreInOrder, MembersAre
 use Rattle.oidc_claims.specs.declared.claim.Claim.{Claim}
 use Rattle.oidc_claims.specs.declared.claim.Claim.TheVariants.{Subject, Name, GivenName, FamilyName, MiddleName, Nickname, PreferredUsername, Profile, Picture, Website, Email, EmailVerified, Gender, Birthday, Birthdate, Zoneinfo, Locale, PhoneNumber, PhoneNumberVerified, Address, UpdatedAt}
 use Rattle.oidc_claims.specs.declared.claims.address.AddressClaim.{AddressClaim}
-use Rattle.oidc_claims.specs.declared.claims.part.AddressPart.{AddressPart}
-use Rattle.oidc_claims.specs.declared.claims.part.AddressPart.TheVariants as part
+use Rattle.oidc_claims.specs.declared.claims.address_reader.AddressPart.{AddressPart}
+use Rattle.oidc_claims.specs.declared.claims.address_reader.AddressPart.TheVariants as part
 use Rattle.oidc_claims.specs.Address.{part_name}
 use Rattle.oidc_claims.specs.Gender.{GenderIsValue}
 use Rattle.oidc_readers.specs.Moments.{moment_at, seconds_of, seconds_data}

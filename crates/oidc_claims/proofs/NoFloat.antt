@@ -3,13 +3,13 @@ use Rattle.std.proofs.Common.{◌≡◌, ℕ, ℤ, pos, negsuc, List, [], ◌∷
 use Rattle.std.specs.FinMap as finite
 use Rattle.std.specs.List.{flat_map}
 use Rattle.std.proofs.lemmas.Bool.{or_from}
-use Rattle.serde_json.specs.Data.{unsigned, negative, float, Data, null, boolean, number, string, array, object, Items, no_items, item, Members, no_members, member}
+use Rattle.serde_json.specs.Data.{Data, boolean, number, string}
 use Rattle.serde_json.specs.Find.{of_integer}
-use Rattle.serde_json.specs.Written.{has_float, items_have_float, members_have_float}
+use Rattle.serde_json.specs.Written.{has_float}
 use Rattle.oidc_types.specs.{Variants}
 use Rattle.oidc_members.specs.Seen.{OutSeen}
 use Rattle.oidc_members.specs.Write.{data_of, any_float}
-use Rattle.oidc_readers.specs.WrittenBack.{IsWhole, ItemsAreWhole, MembersAreWhole}
+use Rattle.oidc_readers.proofs.Theorems.{whole_value, whole_members, free_append}
 use Rattle.oidc_claims.specs.declared.claim.Claim.{Claim}
 use Rattle.oidc_claims.specs.declared.claim.Claim.TheVariants.{Subject, Name, GivenName, FamilyName, MiddleName, Nickname, PreferredUsername, Profile, Picture, Website, Email, EmailVerified, Gender, Birthday, Birthdate, Zoneinfo, Locale, PhoneNumber, PhoneNumberVerified, Address, UpdatedAt}
 use Rattle.oidc_readers.specs.Moments.{seconds_of, seconds_data}
@@ -19,40 +19,11 @@ use Rattle.oidc_claims.specs.Table.{all_claims}
 use Rattle.oidc_claims.specs.Write.{address_members, address_data, plain_member, variant_member, variant_members, claim_members, written}
 use Rattle.oidc_claims.proofs.MayStand.{address_whole}
 
--- ---- whole values have none
-
-mutual
-  whole_value : (d : Data) → IsWhole d → has_float d ≡ false
-  whole_value null h = refl
-  whole_value (boolean b) h = refl
-  whole_value (number (unsigned n)) h = refl
-  whole_value (number (negative z)) h = refl
-  whole_value (number (float x)) h = absurd h
-  whole_value (string s) h = refl
-  whole_value (array ds) h = whole_items ds h
-  whole_value (object ms) h = whole_members ms h.1
-
-  whole_items : (ds : Items) → ItemsAreWhole ds → items_have_float ds ≡ false
-  whole_items no_items h = refl
-  whole_items (item d ds) h = or_from (has_float d) (items_have_float ds) (whole_value d h.0) (whole_items ds h.1)
-
-  whole_members : (ms : Members) → MembersAreWhole ms → members_have_float ms ≡ false
-  whole_members no_members h = refl
-  whole_members (member k d ms) h = or_from (has_float d) (members_have_float ms) (whole_value d h.0) (whole_members ms h.1)
-
 -- ---- lists
-
-appended : (xs ys : List OutSeen) → any_float xs ≡ false → any_float ys ≡ false → any_float (xs ++ ys) ≡ false
-appended [] ys h k = k
-appended (x ∷ xs) ys h k = or_after (has_float x.value) (any_float xs) (any_float (xs ++ ys)) h (λ h. appended xs ys h k)
-  where
-    or_after : (a b c : Bool) → (a || b) ≡ false → (b ≡ false → c ≡ false) → (a || c) ≡ false
-    or_after true b c h f = h
-    or_after false b c h f = f h
 
 all_free : {K : Type 0} (parts : K → List OutSeen) (ks : List K) → ((k : K) → any_float (parts k) ≡ false) → any_float (flat_map parts ks) ≡ false
 all_free parts [] h = refl
-all_free parts (k ∷ ks) h = appended (parts k) (flat_map parts ks) (h k) (all_free parts ks h)
+all_free parts (k ∷ ks) h = free_append (parts k) (flat_map parts ks) (h k) (all_free parts ks h)
 
 -- ---- claims
 

@@ -18,8 +18,8 @@ use Rattle.oidc_readers.specs.Fields.{own, judged, judged_among, first_value}
 use Rattle.oidc_readers.specs.Records.{◌>>=◌, without_place}
 use Rattle.oidc_readers.specs.Writing.{text_member}
 use Rattle.oidc_claims.specs.declared.claims.address.AddressClaim.{AddressClaim}
-use Rattle.oidc_claims.specs.declared.claims.part.AddressPart.{AddressPart}
-use Rattle.oidc_claims.specs.declared.claims.part.AddressPart.TheVariants.{Formatted, StreetAddress, Locality, Region, PostalCode, Country}
+use Rattle.oidc_claims.specs.declared.claims.address_reader.AddressPart.{AddressPart}
+use Rattle.oidc_claims.specs.declared.claims.address_reader.AddressPart.TheVariants.{Formatted, StreetAddress, Locality, Region, PostalCode, Country}
 use Rattle.oidc_claims.specs.declared.claim.Claim.TheVariants.{Address}
 use Rattle.oidc_claims.specs.Table.{name_of}
 use Rattle.oidc_claims.specs.Address.{part_name, part_field, address_rule, address_of, address_in, address_kind}

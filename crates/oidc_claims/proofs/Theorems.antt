@@ -1,5 +1,4 @@
--- Lemmas that other crates may cite: that a value of a program has UTF-8 texts, since a `String` is; and
--- that claims which are written may stand in an object, and read back. `all_kept` is that `AllOtherClaims` keep
+-- Lemmas that other crates may cite: that claims which are written may stand in an object, and read back. `all_kept` is that `AllOtherClaims` keep
 -- all additional members. The lemmas of `Bases` say that members which no standard claim names change nothing of
 -- the claims.
 pub use Rattle.oidc_claims.proofs.Seconds.{whole_second}
@@ -8,48 +7,4 @@ pub use Rattle.oidc_claims.proofs.NoFloat.{written_free}
 pub use Rattle.oidc_claims.proofs.Kept.{all_kept}
 pub use Rattle.oidc_claims.proofs.Bases.{moment_stands, standard_name, is_standard, is_claim, narrowed, standard_same, fault_outside, fault_narrowed, claims_by, are_standard, standard_named}
 pub use Rattle.oidc_claims.proofs.SplitBack.{split_reads_back}
-use Rattle.std.proofs.Common.{◌≡◌, List, [], ◌∷◌, ◌++◌, map, String, string_bytes, Global, subst, sym, All}
-use Rattle.std.proofs.lemmas.List.Elements.{All-push}
-use Rattle.std.specs.Str.{IsUtf8}
-use Rattle.std.proofs.lemmas.Str.{IsUtf8-string_bytes}
-use Rattle.serde_json.specs.Data.{Data}
-use Rattle.serde_json.specs.View.{view, view_step, items_of, members_of}
-use Rattle.serde_json.specs.declared.value.Value.{Value, map-Value}
-use Rattle.serde_json.specs.declared.value.Value.TheOpen.{Value-F}
-use Rattle.serde_json.specs.declared.value.Value.TheFolds.{fold-roll-Value, ind-Value}
-use Rattle.oidc_members.specs.Seen.{OutSeen}
-use Rattle.oidc_readers.specs.WrittenBack.{IsUtf8Member, HasTexts, ItemsHaveTexts, MembersHaveTexts}
-
--- a value whose texts are UTF-8
-abbrev Fine : Type 0
-Fine = (v : Value) × HasTexts (view v)
-
-items_fine : (es : List Fine) → ItemsHaveTexts (items_of (map view (map (λ e. e.0) es)))
-items_fine [] = tt
-items_fine (e ∷ es) = (e.1, items_fine es)
-
-abbrev Entry : Type 0
-Entry = String Global × Value
-
-members_fine : (es : List (String Global × Fine)) → MembersHaveTexts (members_of (map {A = Entry} (λ m. (m.0, view m.1)) (map (λ m. (m.0, m.1.0)) es)))
-members_fine [] = tt
-members_fine (e ∷ es) = (IsUtf8-string_bytes e.0, e.1.1, members_fine es)
-
-layer_fine : (y : Value-F Fine) → HasTexts (view_step (map-Value Value Data view (map-Value Fine Value (λ e. e.0) y)))
-layer_fine Value-F.Null = tt
-layer_fine (Value-F.Bool b) = tt
-layer_fine (Value-F.Number n) = tt
-layer_fine (Value-F.String s) = IsUtf8-string_bytes s
-layer_fine (Value-F.Array v) = items_fine v.items
-layer_fine (Value-F.Object m) = members_fine m.entries
-
-pub value_has_texts : (v : Value) → HasTexts (view v)
-value_has_texts = ind-Value (λ v. HasTexts (view v)) (λ x y is.
-    subst HasTexts (sym (fold-roll-Value Data view_step x)) (subst (λ x. HasTexts (view_step (map-Value Value Data view x))) is (layer_fine y)))
-
--- One more member of a name and a value that a program holds is UTF-8.
-pub utf8_pushed : (before after : List OutSeen) (m : OutSeen) (name : String Global) (value : Value)
-    → after ≡ before ++ m ∷ [] → m.name ≡ string_bytes name → m.value ≡ view value → All IsUtf8Member before → All IsUtf8Member after
-utf8_pushed before after m name value is named valued h =
-    let member : IsUtf8Member m = (subst IsUtf8 (sym named) (IsUtf8-string_bytes name), subst HasTexts (sym valued) (value_has_texts value)) in
-    subst (All IsUtf8Member) (sym is) (All-push IsUtf8Member before m h member)
+pub use Rattle.oidc_readers.proofs.Theorems.{value_has_texts, utf8_pushed}

@@ -9,8 +9,8 @@ use Rattle.oidc_readers.specs.Kinds.{Kind, of_member, text_kind, or_null}
 use Rattle.oidc_readers.specs.Fields.{Field, field, judged}
 use Rattle.oidc_readers.specs.Records.{◌>>=◌, Rule, by_table, faultless, optional}
 use Rattle.oidc_claims.specs.declared.claims.address.AddressClaim.{AddressClaim}
-use Rattle.oidc_claims.specs.declared.claims.part.AddressPart.{AddressPart}
-use Rattle.oidc_claims.specs.declared.claims.part.AddressPart.TheVariants.{Formatted, StreetAddress, Locality, Region, PostalCode, Country}
+use Rattle.oidc_claims.specs.declared.claims.address_reader.AddressPart.{AddressPart}
+use Rattle.oidc_claims.specs.declared.claims.address_reader.AddressPart.TheVariants.{Formatted, StreetAddress, Locality, Region, PostalCode, Country}
 
 -- ---- the table
 

@@ -6,8 +6,8 @@ use Rattle.oidc_readers.specs.Kinds.{Kind, text_kind, flag_kind, moment_kind, or
 use Rattle.oidc_readers.specs.Slots.{slot, slot_among}
 use Rattle.oidc_claims.specs.declared.claim.Claim.{Claim}
 use Rattle.oidc_claims.specs.declared.claim.Claim.TheVariants.{Subject, Name, GivenName, FamilyName, MiddleName, Nickname, PreferredUsername, Profile, Picture, Website, Email, EmailVerified, Gender, Birthday, Birthdate, Zoneinfo, Locale, PhoneNumber, PhoneNumberVerified, Address, UpdatedAt}
-use Rattle.oidc_claims.specs.declared.claims.part.AddressPart.TheVariants as part
-use Rattle.oidc_claims.specs.declared.claims.part.AddressReader.{AddressReader}
+use Rattle.oidc_claims.specs.declared.claims.address_reader.AddressPart.TheVariants as part
+use Rattle.oidc_claims.specs.declared.claims.address_reader.AddressReader.{AddressReader}
 use Rattle.oidc_claims.specs.declared.claims.reader.ClaimsReader.{ClaimsReader}
 use Rattle.oidc_claims.specs.Seen.{SeenClaims}
 use Rattle.oidc_claims.specs.Address.{part_field, address_kind}

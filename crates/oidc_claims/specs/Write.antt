@@ -1,7 +1,7 @@
 -- The members that the standard claims are written as (OpenID Connect Core 1.0 sections 5.1, 5.1.1
 -- and 5.2).
 use Rattle.std.specs.Prelude.{◌≡◌, ◌≢◌, ℕ, ℤ, List, [], ◌∷◌, ◌++◌, map, Option, None, Some, option_map, Result, Ok, codes}
-use Rattle.std.specs.List.{All, flat_map}
+use Rattle.std.specs.List.{flat_map}
 use Rattle.std.specs.FinMap as finite
 use Rattle.serde_json.specs.Data.{Data, boolean, string, object, Members, put}
 use Rattle.oidc_types.specs.{Variants}
@@ -11,12 +11,11 @@ use Rattle.oidc_members.specs.Write.{data_of, object_text}
 use Rattle.oidc_members.specs.declared.refusal.Refusal.{Refusal}
 use Rattle.oidc_readers.specs.Moments.{moment_at, seconds_data}
 use Rattle.oidc_readers.specs.Writing.{text_member}
-use Rattle.oidc_readers.specs.WrittenBack.{IsUtf8Member}
 use Rattle.oidc_claims.specs.declared.claim.Claim.{Claim}
 use Rattle.oidc_claims.specs.declared.claim.Claim.TheVariants.{Subject, Name, GivenName, FamilyName, MiddleName, Nickname, PreferredUsername, Profile, Picture, Website, Email, EmailVerified, Gender, Birthday, Birthdate, Zoneinfo, Locale, PhoneNumber, PhoneNumberVerified, Address, UpdatedAt}
 use Rattle.oidc_claims.specs.declared.claims.address.AddressClaim.{AddressClaim}
-use Rattle.oidc_claims.specs.declared.claims.part.AddressPart.{AddressPart}
-use Rattle.oidc_claims.specs.declared.claims.part.AddressPart.TheVariants as part
+use Rattle.oidc_claims.specs.declared.claims.address_reader.AddressPart.{AddressPart}
+use Rattle.oidc_claims.specs.declared.claims.address_reader.AddressPart.TheVariants as part
 use Rattle.oidc_claims.specs.Seen.{SeenClaims}
 use Rattle.oidc_claims.specs.Address.{part_name}
 use Rattle.oidc_claims.specs.Standard.{claims_of}
@@ -133,10 +132,6 @@ GivesClaims gender_read members claims =
     option_map (claims_of gender_read) (members_of (object_text members)) ≡ Some (Ok claims)
 
 -- ---- for private clauses
-
--- The members are UTF-8 where those before were.
-abbrev pub KeepsUtf8 : List OutSeen → List OutSeen → Type 0
-KeepsUtf8 before after = All IsUtf8Member before → All IsUtf8Member after
 
 -- A part is put among the members of an object.
 abbrev pub put_part : List ℕ → Option (List ℕ) → Members → Members

@@ -1,19 +1,19 @@
 //! The standard claims of an end user (OpenID Connect Core 1.0 section 5.1).
 
-ghost use Rattle.std.specs.Prelude.{◌≡◌, ℤ, Option, None, IfOk, option_map};
+ghost use Rattle.std.specs.Prelude.{◌≡◌, ℤ, Option, None, IfOk, OnOk, option_map};
 ghost use Rattle.std.specs.Option.{option_copied};
 ghost use Rattle.oidc_claims.specs.SameClaims.{same_names, same_pages, same_person, same_rest};
 ghost use Rattle.oidc_claims.specs.Seen.{only_subject};
 
 mod address;
+mod address_reader;
 mod copies;
-mod part;
+mod gender_value;
 mod reader;
 mod slots;
-mod values;
 
 pub use crate::claims::address::AddressClaim;
-use crate::claims::copies::{copied_address, copied_gender, copied_localized, copied_text};
+use crate::claims::copies::{copy_address, copy_gender, copy_localized, copy_text};
 pub use crate::claims::reader::{ClaimsReader, read_standard};
 use crate::gender::GenderClaim;
 use jiff::Timestamp;
@@ -446,29 +446,45 @@ impl<GC: GenderClaim> StandardClaims<GC> {
     pub fn clone_in(&self, alloc: Global) -> Result<Self, AllocError>
         ensures copy { IfOk result (λ copy. copy ≡ self.now) }
     {
-        Ok(StandardClaims {
-            subject: self.subject.clone_in(alloc)?,
-            name: copied_localized(alloc, &self.name)?,
-            given_name: copied_localized(alloc, &self.given_name)?,
-            family_name: copied_localized(alloc, &self.family_name)?,
-            middle_name: copied_localized(alloc, &self.middle_name)?,
-            nickname: copied_localized(alloc, &self.nickname)?,
-            preferred_username: copied_text(alloc, &self.preferred_username)?,
-            profile: copied_localized(alloc, &self.profile)?,
-            picture: copied_localized(alloc, &self.picture)?,
-            website: copied_localized(alloc, &self.website)?,
-            email: copied_text(alloc, &self.email)?,
-            email_verified: self.email_verified,
-            gender: copied_gender(alloc, &self.gender)?,
-            birthday: copied_text(alloc, &self.birthday)?,
-            birthdate: copied_text(alloc, &self.birthdate)?,
-            zoneinfo: copied_text(alloc, &self.zoneinfo)?,
-            locale: copied_text(alloc, &self.locale)?,
-            phone_number: copied_text(alloc, &self.phone_number)?,
-            phone_number_verified: self.phone_number_verified,
-            address: copied_address(alloc, &self.address)?,
-            updated_at: self.updated_at,
-        })
+        let mut copy = StandardClaims::new(self.subject.clone_in(alloc)?);
+        match copy.copy_claims(alloc, self) {
+            Ok(()) => Ok(copy),
+            Err(error) => {
+                drop(copy);
+                Err(error)
+            }
+        }
+    }
+
+    // Puts copies of all claims but `sub` into the place of these.
+    fn copy_claims(&mut self, alloc: Global, claims: &Self) -> Result<(), AllocError>
+        ensures { OnOk result (self.new ≡ record claims.now { subject = self.old.subject }) }
+    {
+        copy_localized(alloc, &mut self.name, &claims.name)?;
+        copy_localized(alloc, &mut self.given_name, &claims.given_name)?;
+        copy_localized(alloc, &mut self.family_name, &claims.family_name)?;
+        copy_localized(alloc, &mut self.middle_name, &claims.middle_name)?;
+        copy_localized(alloc, &mut self.nickname, &claims.nickname)?;
+        copy_text(
+            alloc,
+            &mut self.preferred_username,
+            &claims.preferred_username,
+        )?;
+        copy_localized(alloc, &mut self.profile, &claims.profile)?;
+        copy_localized(alloc, &mut self.picture, &claims.picture)?;
+        copy_localized(alloc, &mut self.website, &claims.website)?;
+        copy_text(alloc, &mut self.email, &claims.email)?;
+        self.email_verified = claims.email_verified;
+        copy_gender(alloc, &mut self.gender, &claims.gender)?;
+        copy_text(alloc, &mut self.birthday, &claims.birthday)?;
+        copy_text(alloc, &mut self.birthdate, &claims.birthdate)?;
+        copy_text(alloc, &mut self.zoneinfo, &claims.zoneinfo)?;
+        copy_text(alloc, &mut self.locale, &claims.locale)?;
+        copy_text(alloc, &mut self.phone_number, &claims.phone_number)?;
+        self.phone_number_verified = claims.phone_number_verified;
+        copy_address(alloc, &mut self.address, &claims.address)?;
+        self.updated_at = claims.updated_at;
+        Ok(())
     }
 }
 

@@ -17,21 +17,21 @@
 //! copy equals its source. Want of memory is an answer of its own, and no clause says when it comes.
 #![tactic(auto)]
 
-pub mod additional;
+mod additional;
+mod all_other_claims;
 mod claim;
-pub mod claims;
-pub mod gender;
-pub mod home;
+mod claims;
+mod gender;
+mod home;
 pub mod laws;
 mod name;
-pub mod others;
 mod same;
-pub mod write;
+mod write;
 
 pub use crate::additional::{AdditionalClaims, EmptyAdditionalClaims};
+pub use crate::all_other_claims::AllOtherClaims;
 pub use crate::claims::{AddressClaim, ClaimsReader, StandardClaims, read_standard};
 pub use crate::gender::GenderClaim;
 pub use crate::home::{Home, ID_TOKEN_FIELDS, USER_INFO_FIELDS, belongs};
-pub use crate::others::AllOtherClaims;
 pub use crate::write::write_standard;
 pub use oidc_readers::PlacedError;

@@ -1,27 +1,26 @@
 //! The standard claims, written as members.
 
-ghost use Rattle.std.specs.Prelude.{◌≡◌, ◌∷◌, ◌++◌, [], false, Option, Some, IfOk, OnOk, option_map};
+ghost use Rattle.std.specs.Prelude.{◌≡◌, ◌∷◌, ◌++◌, [], false, Option, IfOk, OnOk, option_map};
 ghost use Rattle.std.specs.List.{All};
 ghost use Rattle.std.specs.String.{string_bytes};
 ghost use Rattle.std.specs.Option.{option_copied};
 ghost use Rattle.serde_json.specs.Data.{Data, string, boolean};
 ghost use Rattle.serde_json.specs.View.{view, members_view};
-ghost use Rattle.oidc_members.specs.Seen.{OutSeen};
 ghost use Rattle.oidc_members.specs.Write.{any_float};
-ghost use Rattle.oidc_readers.specs.WrittenBack.{IsUtf8Member};
+ghost use Rattle.oidc_readers.specs.WrittenBack.{IsUtf8Member, KeepsUtf8};
 ghost use Rattle.oidc_claims.specs.Table.{name_of};
 ghost use Rattle.oidc_claims.specs.Write.{written, claim_members, plain_member};
 ghost use Rattle.oidc_claims.specs.Write.{variant_member, variant_members, with_tag};
 ghost use Rattle.oidc_claims.specs.Write.{address_data, put_part};
 ghost use Rattle.oidc_readers.specs.Moments.{seconds_data};
-ghost use Rattle.oidc_claims.specs.Write.{IsInRange, GivesClaims, KeepsUtf8};
+ghost use Rattle.oidc_claims.specs.Write.{IsInRange, GivesClaims};
 
 use crate::claim::Claim;
 use crate::claims::{AddressClaim, StandardClaims};
 use crate::gender::GenderClaim;
 use jiff::Timestamp;
-use oidc_members::{FieldName, OutMember};
-use oidc_readers::seconds_value;
+use oidc_members::OutMember;
+use oidc_readers::{put, put_text, seconds_value};
 use oidc_types::{LanguageTag, LocalizedClaim, Marker, Text};
 use serde_json::{Map, Value};
 use std::alloc::{AllocError, Global};
@@ -64,28 +63,26 @@ fn write_claim<GC: GenderClaim>(
     ensures texts { OnOk result (KeepsUtf8 out.old.items out.new.items) }
 {
     match claim {
-        Claim::Subject => write_text(alloc, out, claim, Some(&claims.subject)),
-        Claim::Name => write_variants(alloc, out, claim, claims.name.as_ref()),
-        Claim::GivenName => write_variants(alloc, out, claim, claims.given_name.as_ref()),
-        Claim::FamilyName => write_variants(alloc, out, claim, claims.family_name.as_ref()),
-        Claim::MiddleName => write_variants(alloc, out, claim, claims.middle_name.as_ref()),
-        Claim::Nickname => write_variants(alloc, out, claim, claims.nickname.as_ref()),
-        Claim::PreferredUsername => {
-            write_text(alloc, out, claim, claims.preferred_username.as_ref())
-        }
-        Claim::Profile => write_variants(alloc, out, claim, claims.profile.as_ref()),
-        Claim::Picture => write_variants(alloc, out, claim, claims.picture.as_ref()),
-        Claim::Website => write_variants(alloc, out, claim, claims.website.as_ref()),
-        Claim::Email => write_text(alloc, out, claim, claims.email.as_ref()),
+        Claim::Subject => put_text(alloc, out, claim.name(), claims.subject.as_str()),
+        Claim::Name => write_variants(alloc, out, claim, &claims.name),
+        Claim::GivenName => write_variants(alloc, out, claim, &claims.given_name),
+        Claim::FamilyName => write_variants(alloc, out, claim, &claims.family_name),
+        Claim::MiddleName => write_variants(alloc, out, claim, &claims.middle_name),
+        Claim::Nickname => write_variants(alloc, out, claim, &claims.nickname),
+        Claim::PreferredUsername => write_text(alloc, out, claim, &claims.preferred_username),
+        Claim::Profile => write_variants(alloc, out, claim, &claims.profile),
+        Claim::Picture => write_variants(alloc, out, claim, &claims.picture),
+        Claim::Website => write_variants(alloc, out, claim, &claims.website),
+        Claim::Email => write_text(alloc, out, claim, &claims.email),
         Claim::EmailVerified => write_flag(alloc, out, claim, claims.email_verified),
-        Claim::Gender => write_gender(alloc, out, claim, claims.gender.as_ref()),
-        Claim::Birthday => write_text(alloc, out, claim, claims.birthday.as_ref()),
-        Claim::Birthdate => write_text(alloc, out, claim, claims.birthdate.as_ref()),
-        Claim::Zoneinfo => write_text(alloc, out, claim, claims.zoneinfo.as_ref()),
-        Claim::Locale => write_text(alloc, out, claim, claims.locale.as_ref()),
-        Claim::PhoneNumber => write_text(alloc, out, claim, claims.phone_number.as_ref()),
+        Claim::Gender => write_gender(alloc, out, claim, &claims.gender),
+        Claim::Birthday => write_text(alloc, out, claim, &claims.birthday),
+        Claim::Birthdate => write_text(alloc, out, claim, &claims.birthdate),
+        Claim::Zoneinfo => write_text(alloc, out, claim, &claims.zoneinfo),
+        Claim::Locale => write_text(alloc, out, claim, &claims.locale),
+        Claim::PhoneNumber => write_text(alloc, out, claim, &claims.phone_number),
         Claim::PhoneNumberVerified => write_flag(alloc, out, claim, claims.phone_number_verified),
-        Claim::Address => write_address(alloc, out, claim, claims.address.as_ref()),
+        Claim::Address => write_address(alloc, out, claim, &claims.address),
         Claim::UpdatedAt => write_moment(alloc, out, claim, claims.updated_at),
     }
 }
@@ -96,15 +93,15 @@ fn write_text<M: Marker>(
     alloc: Global,
     out: &mut Vec<OutMember>,
     claim: Claim,
-    text: Option<&Text<M>>,
+    text: &Option<Text<M>>,
 ) -> Result<(), AllocError>
     ensures members { OnOk result (out.new.items
-        ≡ out.old.items ++ plain_member claim (option_map string (option_copied text.entry))) }
+        ≡ out.old.items ++ plain_member claim (option_map string text.now)) }
     ensures texts { OnOk result (KeepsUtf8 out.old.items out.new.items) }
 {
     match text {
         None => Ok(()),
-        Some(text) => push(alloc, out, claim, text_value(alloc, text.as_str())?),
+        Some(text) => put_text(alloc, out, claim.name(), text.as_str()),
     }
 }
 
@@ -112,10 +109,10 @@ fn write_variants<M: Marker>(
     alloc: Global,
     out: &mut Vec<OutMember>,
     claim: Claim,
-    variants: Option<&LocalizedClaim<Text<M>>>,
+    variants: &Option<LocalizedClaim<Text<M>>>,
 ) -> Result<(), AllocError>
     ensures members { OnOk result (out.new.items
-        ≡ out.old.items ++ variant_members claim (option_copied variants.entry)) }
+        ≡ out.old.items ++ variant_members claim variants.now) }
     ensures texts { OnOk result (KeepsUtf8 out.old.items out.new.items) }
 {
     match variants {
@@ -141,7 +138,7 @@ fn write_variant<M: Marker>(
     ensures texts { OnOk result (KeepsUtf8 out.old.items out.new.items) }
 {
     let name = tagged_name(alloc, claim, tag)?;
-    push_member(out, name, text_value(alloc, text.as_str())?)
+    put_text(alloc, out, name.as_str(), text.as_str())
 }
 
 fn write_flag(
@@ -156,7 +153,7 @@ fn write_flag(
 {
     match flag {
         None => Ok(()),
-        Some(flag) => push(alloc, out, claim, Value::Bool(flag)),
+        Some(flag) => put(alloc, out, claim.name(), Value::Bool(flag)),
     }
 }
 
@@ -164,15 +161,15 @@ fn write_gender<GC: GenderClaim>(
     alloc: Global,
     out: &mut Vec<OutMember>,
     claim: Claim,
-    gender: Option<&GC>,
+    gender: &Option<GC>,
 ) -> Result<(), AllocError>
-    ensures members { OnOk result (let gender = option_copied gender.entry in
-        out.new.items ≡ out.old.items ++ plain_member claim (option_map GC.write_of gender)) }
+    ensures members { OnOk result (out.new.items
+        ≡ out.old.items ++ plain_member claim (option_map GC.write_of gender.now)) }
     ensures texts { OnOk result (KeepsUtf8 out.old.items out.new.items) }
 {
     match gender {
         None => Ok(()),
-        Some(gender) => push(alloc, out, claim, gender.write(alloc)?),
+        Some(gender) => put(alloc, out, claim.name(), gender.write(alloc)?),
     }
 }
 
@@ -180,15 +177,15 @@ fn write_address(
     alloc: Global,
     out: &mut Vec<OutMember>,
     claim: Claim,
-    address: Option<&AddressClaim>,
+    address: &Option<AddressClaim>,
 ) -> Result<(), AllocError>
-    ensures members { OnOk result (let address = option_copied address.entry in
-        out.new.items ≡ out.old.items ++ plain_member claim (option_map address_data address)) }
+    ensures members { OnOk result (out.new.items
+        ≡ out.old.items ++ plain_member claim (option_map address_data address.now)) }
     ensures texts { OnOk result (KeepsUtf8 out.old.items out.new.items) }
 {
     match address {
         None => Ok(()),
-        Some(address) => push(alloc, out, claim, address_value(alloc, address)?),
+        Some(address) => put(alloc, out, claim.name(), address_value(alloc, address)?),
     }
 }
 
@@ -205,42 +202,11 @@ fn write_moment(
 {
     match moment {
         None => Ok(()),
-        Some(moment) => push(alloc, out, claim, seconds_value(moment)),
+        Some(moment) => put(alloc, out, claim.name(), seconds_value(moment)),
     }
 }
 
 // ---- names and values
-
-// Appends a member without a tag.
-fn push(
-    alloc: Global,
-    out: &mut Vec<OutMember>,
-    claim: Claim,
-    value: Value,
-) -> Result<(), AllocError>
-    ensures members { OnOk result (out.new.items
-        ≡ out.old.items ++ plain_member claim (Some (view value))) }
-    ensures texts { OnOk result (KeepsUtf8 out.old.items out.new.items) }
-{
-    let name = tagged_name(alloc, claim, None)?;
-    push_member(out, name, value)
-}
-
-// Appends a member. It is UTF-8, as a `String` and the texts of a `Value` are.
-pub(crate) fn push_member(
-    out: &mut Vec<OutMember>,
-    name: String,
-    value: Value,
-) -> Result<(), AllocError>
-    ensures members { OnOk result (
-        let member : OutSeen = record { name = string_bytes name; value = view value } in
-        out.new.items ≡ out.old.items ++ member ∷ []) }
-    ensures texts { OnOk result (KeepsUtf8 out.old.items out.new.items) }
-{
-    let name = FieldName::new(name);
-    out.push(OutMember { name, value })?;
-    Ok(())
-}
 
 // A claim's name, with its tag behind a `#`.
 fn tagged_name(alloc: Global, claim: Claim, tag: Option<&LanguageTag>) -> Result<String, AllocError>

@@ -34,13 +34,16 @@ some_taken found x e = subst IsSome (sym e) (search rules)
 same_some : {A : Type 0} (x y : A) → Some x ≡ Some y → x ≡ y
 same_some x y e = ap (λ o. unwrap_or o x) e
 
-pub one_url : (text : List ℕ) (made meant : TextAndUrl) → url_of_text text ≡ Some made → url_of_text text ≡ Some meant → made ≡ meant
-one_url text made meant is taken = same_some made meant (sym is ∙ taken)
-
 pub url_taken : {E : Type 0} (r : Result TextAndUrl E) (text : List ℕ) (u : TextAndUrl) → url_of_text text ≡ Some u
     → IfOk r (λ url. url_of_text text ≡ Some url) → IfOk r (λ url. url ≡ u)
 url_taken (Ok url) text u is made = same_some url u (sym made ∙ is)
 url_taken (Err e) text u is made = tt
+
+-- the URL that was made of a text, as it came
+pub came_as : {E : Type 0} (r : Result TextAndUrl E) (text : List ℕ) (made u : TextAndUrl) → r ≡ Ok made → url_of_text text ≡ Some u
+    → IfOk r (λ url. url_of_text text ≡ Some url) → made ≡ u
+came_as r text made u came is ensured =
+    same_some made u (sym (subst (λ x. IfOk x (λ url. url_of_text text ≡ Some url)) came ensured) ∙ is)
 
 -- ---- a number in 42 digits, as it is laid out
 

@@ -5,14 +5,14 @@ use Rattle.std.specs.FinMap as finite
 use Rattle.oidc_oauth2.specs.Messages.{SeenRequest, SeenAnswer}
 use Rattle.oidc_keys.specs.CoreJwk.{SymmetricKey}
 use Rattle.oidc_login.specs.Logins.{Pending, SeenLogin}
-use Rattle.oidc_login.specs.Rows.{Attempt, Run, Meant, SeenOpened, SeenAsked, asked_run, info_run, token_run, opened_run, outcome, opening, after_token, asking, rest_of}
-use Rattle.oidc_oauth2.specs.Transport.{first_of}
-use Rattle.oidc_login.specs.Errors.{Error, reply_of}
+use Rattle.oidc_login.specs.Rows.{Attempt, LoginRun, Meant, SeenOpened, SeenAsked, asked_run, info_run, token_run, opened_run, outcome, opening, after_token, asking, rest_of}
+use Rattle.oidc_oauth2.specs.Transport.{first_answer}
+use Rattle.oidc_login.specs.Errors.{Error, seen_reply}
 use Rattle.oidc_login.specs.Events as runs
 use Rattle.oidc_login.specs.declared.demand.UserInfoDemand.{UserInfoDemand}
 use Rattle.oidc_login.specs.declared.errors.LoginError.{LoginError}
 use Rattle.oidc_login.specs.declared.errors.LoginError.TheVariants as login
-use Rattle.oidc_cli.specs.Types.{types, SeenClient, SeenSignedIn}
+use Rattle.oidc_cli.specs.Types.{types, SeenScriptClient, SeenSignedIn}
 use Rattle.oidc_cli.specs.Report.{call_of_line}
 use Rattle.oidc_cli.specs.Drill.{Step, plus, no_counts, tally_of, added_by, event_of_turn, steps_of_turns, store_after_turns, numbers, begin_turns, callback_turns, drill_client, drill_tally, drill_store, one_if, is_begun, is_signed_in, is_refused_as_state, is_state, IsWithin, callback_line, answer}
 use Rattle.oidc_cli.specs.declared.drill.Turn.{Turn}
@@ -46,7 +46,7 @@ nothing_plus a = same_tally _ _ (added_to_nothing a.begun) (added_to_nothing a.s
 
 -- ---- turns after others
 
-module _ (client : SeenClient) where
+module _ (client : SeenScriptClient) where
   pub store_append : (pending : Pending) (a b : List Turn) → store_after_turns client pending (a ++ b) ≡ store_after_turns client (store_after_turns client pending a) b
   store_append pending [] b = refl
   store_append pending (turn ∷ a) b = store_append (runs.step types client pending (event_of_turn turn)).pending a b
@@ -81,11 +81,11 @@ numbers_end i count = ap (numbers i) (none_left count)
 
 -- ---- what a callback counts as
 
-pub signed_as : {E : Type 0} (reply : Result SeenSignedIn (LoginError E)) → is_ok reply ≡ is_signed_in (runs.called (reply_of reply))
+pub signed_as : {E : Type 0} (reply : Result SeenSignedIn (LoginError E)) → is_ok reply ≡ is_signed_in (runs.called (seen_reply reply))
 signed_as (Ok user) = refl
 signed_as (Err e) = refl
 
-pub repeated_as : {E : Type 0} (reply : Result SeenSignedIn (LoginError E)) → is_state reply ≡ is_refused_as_state (runs.called (reply_of reply))
+pub repeated_as : {E : Type 0} (reply : Result SeenSignedIn (LoginError E)) → is_state reply ≡ is_refused_as_state (runs.called (seen_reply reply))
 repeated_as (Ok user) = refl
 repeated_as (Err (login.TooLong at)) = refl
 repeated_as (Err login.State) = refl
@@ -101,18 +101,18 @@ repeated_as (Err (login.Memory spent)) = refl
 
 -- ---- how much a turn adds
 
-abbrev asked_few : Run SeenSignedIn → ℕ → Type 0
+abbrev asked_few : LoginRun SeenSignedIn → ℕ → Type 0
 asked_few run most = length run.sent ≤ most
 
 few_asked : (user : SeenSignedIn) (answers : List SeenAnswer) (asked : Meant (SeenAsked SymmetricKey)) → asked_few (asked_run types user answers asked) 1
 few_asked user answers (Err e) = omega arith
 few_asked user answers (Ok asked) = omega arith
 
-few_info : (client : SeenClient) (demand : Option UserInfoDemand) (user : SeenSignedIn) (answers : List SeenAnswer) → asked_few (info_run types client demand user answers) 1
+few_info : (client : SeenScriptClient) (demand : Option UserInfoDemand) (user : SeenSignedIn) (answers : List SeenAnswer) → asked_few (info_run types client demand user answers) 1
 few_info client None user answers = omega arith
 few_info client (Some demand) user answers = few_asked user answers (asking client demand user)
 
-few_behind : (client : SeenClient) (l : SeenLogin) (answers : List SeenAnswer) (reply : Meant SeenSignedIn) → asked_few (token_run types client l answers reply) 1
+few_behind : (client : SeenScriptClient) (l : SeenLogin) (answers : List SeenAnswer) (reply : Meant SeenSignedIn) → asked_few (token_run types client l answers reply) 1
 few_behind client l answers (Err e) = omega arith
 few_behind client l answers (Ok user) = few_info client l.user_info user answers
 
@@ -122,7 +122,7 @@ one_more n few = omega arith
 few_opened : (a : Attempt SymmetricKey) (answers : List SeenAnswer) (opened : Meant SeenOpened) → asked_few (opened_run types a.client a.now answers opened) 2
 few_opened a answers (Err e) = omega arith
 few_opened a answers (Ok opened) =
-    one_more _ (few_behind a.client opened.login (rest_of answers) (after_token types a.client a.now opened.login (first_of answers)))
+    one_more _ (few_behind a.client opened.login (rest_of answers) (after_token types a.client a.now opened.login (first_answer answers)))
 
 -- a callback sends at most two requests
 pub few_sent : (a : Attempt SymmetricKey) (answers : List SeenAnswer) → length (outcome types a answers).sent ≤ 2
@@ -135,7 +135,7 @@ at_most_one false = omega arith
 none_at_most : 0 ≤ 2
 none_at_most = omega arith
 
-pub few_added : (client : SeenClient) (pending : Pending) (turn : Turn) → IsWithin 2 (added_by turn (runs.step types client pending (event_of_turn turn)))
+pub few_added : (client : SeenScriptClient) (pending : Pending) (turn : Turn) → IsWithin 2 (added_by turn (runs.step types client pending (event_of_turn turn)))
 few_added client pending (Begin i) =
     (at_most_one (is_begun (runs.step types client pending (event_of_turn (Begin i))).reply), none_at_most, none_at_most, none_at_most)
 few_added client pending (First i) = (

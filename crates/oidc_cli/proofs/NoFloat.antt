@@ -2,16 +2,15 @@
 use Rattle.std.proofs.Common.{◌≡◌, ℕ, List, [], ◌∷◌, map, Bool, true, false, cond, ◌||◌, Option, None, Some, Result, Ok, Err, IfOk, refl, sym, ap, ◌∙◌, filter}
 use Rattle.std.specs.Prelude.{not, IfSome, ◌==◌, codes}
 use Rattle.std.specs.List.{list_any, list_all}
-use Rattle.std.specs.Prelude.{option_and_then}
 use Rattle.std.specs.Str.{is_utf8}
 use Rattle.std.proofs.lemmas.Bool.{true≢false, and_from}
 use Rattle.serde_json.specs.Written.{has_float}
 use Rattle.oidc_members.specs.Seen.{SeenMember}
-use Rattle.oidc_members.specs.Objects.{without_floats, loose_members_of, members_of, members_or_refusal, split_of}
+use Rattle.oidc_members.specs.Objects.{split_of}
 use Rattle.oidc_members.specs.Write.{any_float}
 use Rattle.oidc_members.specs.declared.refusal.Refusal.{Refusal}
 use Rattle.oidc_readers.specs.Kinds.{text_kind}
-use Rattle.oidc_readers.specs.Records.{◌>>=◌, faultless}
+use Rattle.oidc_readers.specs.Records.{faultless}
 use Rattle.oidc_claims.specs.Additional.{out_of, are_additional}
 use Rattle.oidc_claims.specs.Home.{is_additional, is_additional_home, home_of, user_info_fields}
 use Rattle.oidc_claims.specs.Standard.{faultless_claims}
@@ -23,31 +22,24 @@ use Rattle.oidc_keys.specs.CoreJwk.{SymmetricKey}
 use Rattle.oidc_keys.specs.contracts.core_jwk.CoreJsonWebKeyJsonWebKey.TheImpl.{ghosts as of_keys}
 use Rattle.oidc_keys.specs.contracts.core_jwk.CoreJsonWebKeyUseJsonWebKeyUse.TheImpl.{ghosts as of_uses}
 use Rattle.oidc_oauth2.specs.Messages.{SeenResponse, SeenAnswer}
-use Rattle.oidc_oauth2.specs.TokenAnswers as answered
-use Rattle.oidc_oauth2.specs.TokenAnswers.{◌>>◌, ◌when◌, ◌or_as◌, is_over_long}
+use Rattle.oidc_oauth2.specs.Replies.{◌>>=◌, ◌>>◌, ◌when◌, ◌or_as◌}
+use Rattle.oidc_oauth2.specs.TokenAnswers.{is_over_long}
 use Rattle.oidc_oauth2.specs.HttpUtils.{may_be}
-use Rattle.oidc_jwt.specs.Tokens.{SeenToken, parts_of, bytes_of, header_in, payload_in, contents_of, token_of}
+use Rattle.oidc_jwt.specs.Tokens.{SeenToken}
+use Rattle.oidc_jwt.proofs.Theorems.{after, same_ok, split_free, payload_said}
 use Rattle.oidc_id_token_claims.specs.IdTokenClaims.{additional_among}
 use Rattle.oidc_user_info.specs.UserInfoClaims.{user_info_rule, user_info_claims_of, parts_in}
 use Rattle.oidc_user_info.specs.InfoAnswers.{Demand, claims_in, from_json, of_object, token_in, of_token, by_media_type, info_answer}
 use Rattle.oidc_user_info.specs.InfoErrors.{InfoRefusal}
 use Rattle.oidc_login.specs.Rows.{Attempt}
 use Rattle.oidc_login.specs.Causes.{IsSignedIn, HasInfo}
-use Rattle.oidc_login.specs.Errors.{reply_of}
+use Rattle.oidc_login.specs.Errors.{seen_reply}
 use Rattle.oidc_login.specs.declared.errors.LoginError.{LoginError}
 use Rattle.oidc_login.proofs.Theorems.{signed_free, info_answered}
 use Rattle.oidc_cli.specs.Types.{types, SeenSignedIn, SeenUserInfo}
 use Rattle.oidc_cli.specs.ReportLines.{HasNoFloats}
 
 -- ---- a step that gave a value stands on one
-
--- what follows from two steps that gave a value, by the value between them
-after : {A B Goal : Type 0} (o : Result A Refusal) (f : A → Result B Refusal) (y : B) → (o >>= f) ≡ Ok y → ((x : A) → o ≡ Ok x → f x ≡ Ok y → Goal) → Goal
-after (Ok x) f y h next = next x refl h
-after (Err refusal) f y h next = absurd cc
-
-same_ok : {A F : Type 0} (x y : A) → ◌≡◌ {A = Result A F} (Ok x) (Ok y) → x ≡ y
-same_ok x y h = cc
 
 when_ok : {A F : Type 0} (e : F) (b : Bool) (next : Result A F) (x : A) → ((e when b) >> next) ≡ Ok x → next ≡ Ok x
 when_ok e true next x h = absurd cc
@@ -61,37 +53,14 @@ later_ok : {A F : Type 0} (o : Result (Unit {0}) F) (next : Result A F) (x : A) 
 later_ok (Ok u) next x h = h
 later_ok (Err e) next x h = absurd cc
 
-then_ok : {A B F : Type 0} (o : Result A F) (f : A → Result B F) (y : B) → answered.◌>>=◌ o f ≡ Ok y → (x : A) × (o ≡ Ok x) × (f x ≡ Ok y)
+then_ok : {A B F : Type 0} (o : Result A F) (f : A → Result B F) (y : B) → (o >>= f) ≡ Ok y → (x : A) × (o ≡ Ok x) × (f x ≡ Ok y)
 then_ok (Ok x) f y h = (x, refl, h)
 then_ok (Err refusal) f y h = absurd cc
 
--- ---- an object that was split
+-- ---- some members of an object without floats
 
 abbrev IsFree : List SeenMember → Type 0
 IsFree members = list_any (λ m. has_float m.value) members ≡ false
-
-free_by : (members : List SeenMember) (has : Bool) (given : List SeenMember) → list_any (λ m. has_float m.value) members ≡ has → (cond has None (Some members)) ≡ Some given → IsFree given
-free_by members true given is h = absurd cc
-free_by members false given is h = let same : members ≡ given = cc h in ap (list_any (λ (m : SeenMember). has_float m.value)) (sym same) ∙ is
-
-loose_free : (loose : Option (List SeenMember)) (given : List SeenMember) → option_and_then without_floats loose ≡ Some given → IsFree given
-loose_free None given h = absurd cc
-loose_free (Some members) given h = free_by members (list_any (λ m. has_float m.value) members) given refl h
-
-members_free : (text : List ℕ) (given : List SeenMember) → members_of text ≡ Some given → IsFree given
-unfolding members_of
-members_free text given h = loose_free (loose_members_of text) given h
-
-split_by : (members loose : Option (List SeenMember)) (given : List SeenMember) → members_or_refusal members loose ≡ Ok given → members ≡ Some given
-split_by (Some members) loose given h = cc
-split_by None (Some loose) given h = absurd cc
-split_by None None given h = absurd cc
-
-split_free : (text : List ℕ) (given : List SeenMember) → split_of text ≡ Ok given → IsFree given
-unfolding split_of
-split_free text given h = members_free text given (split_by (members_of text) (loose_members_of text) given h)
-
--- ---- some of its members
 
 nor_parts : (a b : Bool) → (a || b) ≡ false → (a ≡ false) × (b ≡ false)
 nor_parts false b h = (refl, h)
@@ -141,17 +110,8 @@ object_free body found h =
 -- those of a token
 token_free : (text : List ℕ) (token : SeenToken CoreJweContentEncryptionAlgorithm CoreJwsSigningAlgorithm SeenUserInfo) → token_in types text ≡ Ok token
     → any_float (list_of token.payload.additional_claims) ≡ false
-unfolding token_of contents_of payload_in
 token_free text token h =
-    after (parts_of text) _ token h λ parts _ said_by.
-    after (contents_of types.encrypts types.signs reads_claims parts) _ token said_by λ said contents made.
-    after (bytes_of parts) _ said contents λ bytes _ second.
-    after (header_in types.encrypts types.signs bytes.header) _ said second λ _ _ third.
-    after (payload_in reads_claims bytes.payload) _ said third λ payload read last.
-    after (split_of bytes.payload) reads_claims payload read λ members split claims.
-    let own : payload ≡ token.payload = ap (λ s. s.payload) (same_ok _ said last) ∙ ap (λ t. t.payload) (same_ok _ token made) in
-    ap (λ (p : SeenUserInfo). any_float (list_of p.additional_claims)) (sym own)
-    ∙ claims_free members payload claims (split_free bytes.payload members split)
+    let said = payload_said types.encryption_named types.signing_named reads_claims text token h in claims_free said.0 token.payload said.2 said.1
 
 -- ---- an answer
 
@@ -196,6 +156,6 @@ module _ (a : Attempt SymmetricKey) (answers : List SeenAnswer) where
   given_free signed held None is = tt
   given_free signed held (Some found) is = info_free is.ask.demand is.response found (info_answered types a answers held found is)
 
-  pub no_floats : {E : Type 0} (result : Result SeenSignedIn (LoginError E)) → IfOk result (IsSignedIn types a answers) → HasNoFloats (reply_of result)
+  pub no_floats : {E : Type 0} (result : Result SeenSignedIn (LoginError E)) → IfOk result (IsSignedIn types a answers) → HasNoFloats (seen_reply result)
   no_floats (Err e) is = tt
   no_floats (Ok signed) is = (signed_free text_kind of_keys of_uses a answers signed is, given_free signed is.held signed.user_info is.info)

@@ -7,7 +7,7 @@ use Rattle.std.proofs.lemmas.Bool.Decides.{nat_tests}
 use Rattle.std.proofs.lemmas.Grind.{common_steps}
 use Rattle.oidc_login.specs.Logins.{Pending}
 use Rattle.oidc_login.specs.Events as runs
-use Rattle.oidc_cli.specs.Types.{types, SeenClient}
+use Rattle.oidc_cli.specs.Types.{types, SeenScriptClient}
 use Rattle.oidc_cli.specs.Events.{SeenClientLine}
 use Rattle.oidc_cli.specs.Script.{limit, lines, event_of, is_client, is_step, fault_from, fault_in, fault_of}
 use Rattle.oidc_cli.specs.ReportLines.{step_lines, pending_line, fault_line}
@@ -50,12 +50,12 @@ lines_before-here n all = let e : n - n ≡ 0 = omega arith in ap (λ k. take k 
 -- ---- steps
 
 -- the rest of a report from the events that are left, and the fault behind them
-abbrev rest_from : SeenClient → Pending → Option ℕ → List runs.Event → List ℕ
+abbrev rest_from : SeenScriptClient → Pending → Option ℕ → List runs.Event → List ℕ
 rest_from client pending fault events =
     steps_lines (runs.steps_from types client pending events) ++ last_line fault (runs.store_from types client pending events)
 
 -- the lines of the first event come first
-rest_before : (client : SeenClient) (pending : Pending) (fault : Option ℕ) (event : Option runs.Event) (later : List runs.Event)
+rest_before : (client : SeenScriptClient) (pending : Pending) (fault : Option ℕ) (event : Option runs.Event) (later : List runs.Event)
     → rest_from client pending fault (before event later)
     ≡ lines_of_event client pending event ++ rest_from client (store_after_event client pending event) fault later
 rest_before client pending fault None later = refl
@@ -63,7 +63,7 @@ rest_before client pending fault (Some event) later =
     let next = runs.step types client pending event in
     append_assoc (step_lines next) (steps_lines (runs.steps_from types client next.pending later)) (last_line fault (runs.store_from types client next.pending later))
 
-pub first_step : (client : SeenClient) (pending : Pending) (n : ℕ) (event : Option Event) (all : List (List ℕ)) (line : List ℕ) (later : List (List ℕ))
+pub first_step : (client : SeenScriptClient) (pending : Pending) (n : ℕ) (event : Option Event) (all : List (List ℕ)) (line : List ℕ) (later : List (List ℕ))
     → all ≡ line ∷ later → event ≡ event_of line → is_step event ≡ true
     → (fault : Option ℕ) → fault_from n all ≡ fault
     → rest_of_report client pending n all fault
@@ -89,14 +89,14 @@ fault_here n event all line later cut read fault =
     ap (fault_from n) cut ∙ ap (λ t. if t then fault_from (n + 1) later else Some n) (ap is_step (sym read) ∙ fault)
 
 -- what is no step has no lines
-no_lines : (client : SeenClient) (pending : Pending) (event : Option Event) → is_step event ≡ false → event_lines client pending event ≡ []
+no_lines : (client : SeenScriptClient) (pending : Pending) (event : Option Event) → is_step event ≡ false → event_lines client pending event ≡ []
 no_lines client pending None other = refl
 no_lines client pending (Some (Client line)) other = refl
 no_lines client pending (Some (Begin line)) other = absurd (false≢true (sym other))
 no_lines client pending (Some (Callback line)) other = absurd (false≢true (sym other))
 
 -- at a fault the rest of a report is its line
-pub rest_at_fault : (client : SeenClient) (pending : Pending) (n : ℕ) (event : Option Event) (all : List (List ℕ)) → is_step event ≡ false
+pub rest_at_fault : (client : SeenScriptClient) (pending : Pending) (n : ℕ) (event : Option Event) (all : List (List ℕ)) → is_step event ≡ false
     → (fault : Option ℕ) → fault ≡ Some n → rest_of_report client pending n all fault ≡ event_lines client pending event ++ fault_line n
 rest_at_fault client pending n event all other fault here =
     ap (rest_of_report client pending n all) here
@@ -104,7 +104,7 @@ rest_at_fault client pending n event all other fault here =
     ∙ ap (λ l. l ++ fault_line n) (sym (no_lines client pending event other))
 
 -- whatever the next event is, its lines come first
-by_step : (client : SeenClient) (pending : Pending) (n : ℕ) (event : Option Event) (all : List (List ℕ)) (line : List ℕ) (later : List (List ℕ))
+by_step : (client : SeenScriptClient) (pending : Pending) (n : ℕ) (event : Option Event) (all : List (List ℕ)) (line : List ℕ) (later : List (List ℕ))
     → all ≡ line ∷ later → event ≡ event_of line → (fault : Option ℕ) → fault_from n all ≡ fault
     → (step : Bool) → is_step event ≡ step
     → (behind : List ℕ) × (rest_of_report client pending n all fault ≡ event_lines client pending event ++ behind)
@@ -113,19 +113,19 @@ by_step client pending n event all line later cut read fault first true step =
 by_step client pending n event all line later cut read fault first false other =
     (rest_of_report client pending n all fault, ap (λ l. l ++ rest_of_report client pending n all fault) (sym (no_lines client pending event other)))
 
-pub step_first : (client : SeenClient) (pending : Pending) (n : ℕ) (event : Option Event) (all : List (List ℕ)) (line : List ℕ) (later : List (List ℕ))
+pub step_first : (client : SeenScriptClient) (pending : Pending) (n : ℕ) (event : Option Event) (all : List (List ℕ)) (line : List ℕ) (later : List (List ℕ))
     → all ≡ line ∷ later → event ≡ event_of line → (fault : Option ℕ) → fault_from n all ≡ fault
     → (behind : List ℕ) × (rest_of_report client pending n all fault ≡ event_lines client pending event ++ behind)
 step_first client pending n event all line later cut read fault first =
     by_step client pending n event all line later cut read fault first (is_step event) refl
 
-pub same_rest : (client client' : SeenClient) (pending pending' : Pending) (n : ℕ) (all : List (List ℕ)) (fault : Option ℕ)
+pub same_rest : (client client' : SeenScriptClient) (pending pending' : Pending) (n : ℕ) (all : List (List ℕ)) (fault : Option ℕ)
     → client' ≡ client → pending' ≡ pending → rest_of_report client pending n all fault ≡ rest_of_report client' pending' n all fault
 same_rest client client' pending pending' n all fault same left =
     ap (λ c. rest_of_report c pending n all fault) (sym same) ∙ ap (λ p. rest_of_report client' p n all fault) (sym left)
 
 -- without a line left there is no fault, and the rest is the line of the pending logins
-pub rest_at_end : (client : SeenClient) (pending : Pending) (n : ℕ) (all : List (List ℕ)) → all ≡ []
+pub rest_at_end : (client : SeenScriptClient) (pending : Pending) (n : ℕ) (all : List (List ℕ)) → all ≡ []
     → (fault : Option ℕ) → fault_from n all ≡ fault → (fault ≡ None) × (rest_of_report client pending n all fault ≡ pending_line pending)
 rest_at_end client pending n all none fault first =
     let known : fault ≡ None = sym first ∙ ap (fault_from n) none in

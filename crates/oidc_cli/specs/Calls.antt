@@ -1,15 +1,17 @@
 -- The calls of an object outside the program: which fail, and how they are counted.
-use Rattle.std.specs.Prelude.{◌≡◌, ℕ, ◌==◌, ◌+◌, ◌-◌, ◌^◌, ◌<◌, ◌⊎◌, min, Bool, List, refl}
+use Rattle.std.specs.Prelude.{ℕ, ◌==◌, ◌+◌, ◌-◌, ◌^◌, min, Bool, List, refl}
 use Rattle.std.specs.List.{list_any}
+pub use Rattle.oidc_oauth2.specs.Transport.{HasRisen}
 use Rattle.std.specs.Coded.{Coded, code_by, coded_ℕ, coded_list, coded×}
-
--- a count of faults has risen in a call, or stands at its last value
-abbrev pub HasRisen : ℕ → ℕ → Type 0
-HasRisen before after = (before < after) ⊎ (after ≡ 2 ^ 64 - 1)
 
 -- a count after one more; it stops at its last value
 abbrev pub risen : ℕ → ℕ
 risen count = min (count + 1) (2 ^ 64 - 1)
+
+-- an object of std, and how many of its calls failed
+pub record SeenCounted (T : Type 0) : Type 0 where
+  pub inner : T
+  pub faults : ℕ
 
 -- ---- objects in memory
 

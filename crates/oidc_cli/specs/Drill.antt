@@ -16,22 +16,23 @@ use Rattle.oidc_keys.specs.CoreJwk.{hash_function, symmetric_signature}
 use Rattle.oidc_oauth2.specs.Messages.{SeenResponse, SeenAnswer}
 use Rattle.oidc_oauth2.specs.TokenResponse.{SeenTokens, written_tokens}
 use Rattle.oidc_oauth2.specs.Words.{token_type_text}
-use Rattle.oidc_oauth2.specs.declared.extra.EmptyExtraTokenFields.{EmptyExtraTokenFields}
+use Rattle.oidc_oauth2.specs.declared.extra_fields.EmptyExtraTokenFields.{EmptyExtraTokenFields}
 use Rattle.oidc_oauth2.specs.declared.token_type.CoreTokenType.{CoreTokenType}
 use Rattle.oidc_oauth2.specs.declared.token_type.CoreTokenType.TheVariants.{Bearer}
 use Rattle.oidc_jwt.specs.Issuing.{issued}
 use Rattle.oidc_id_token_claims.specs.IdTokenClaims.{SeenIdTokenClaims, id_token_members}
 use Rattle.oidc_tokens.specs.Hashes.{hashing, with_hashes}
 use Rattle.oidc_tokens.specs.IdTokenFields.{SeenIdTokenFields, response_fields_out}
-use Rattle.oidc_tokens.specs.Steps.{◌>>=◌}
+use Rattle.oidc_oauth2.specs.Replies.{◌>>=◌}
 use Rattle.oidc_login.specs.IdTokens.{SeenIdToken}
 use Rattle.oidc_login.specs.Logins.{Pending}
 use Rattle.oidc_login.specs.Events as runs
 use Rattle.oidc_login.specs.declared.errors.LoginError.{LoginError}
 use Rattle.oidc_login.specs.declared.errors.LoginError.TheVariants.{State}
-use Rattle.oidc_cli.specs.Types.{types, SeenClient}
-use Rattle.oidc_cli.specs.Events.{SeenClientLine, SeenBeginLine, SeenCallbackLine}
+use Rattle.oidc_cli.specs.Types.{types, SeenScriptClient}
+use Rattle.oidc_cli.specs.Events.{SeenClientLine, SeenCallbackLine}
 use Rattle.oidc_cli.specs.Report.{client_of, begin_of_line, call_of_line}
+use Rattle.oidc_cli.specs.declared.events.BeginLine.{BeginLine}
 use Rattle.oidc_cli.specs.declared.drill.Turn.{Turn}
 use Rattle.oidc_cli.specs.declared.drill.Turn.TheVariants.{Begin, First, Again}
 use Rattle.oidc_cli.specs.declared.drill.Tally.{Tally}
@@ -71,7 +72,7 @@ client_line = record {
   algorithms = HmacSha256 ∷ [];
 }
 
-abbrev pub drill_client : SeenClient
+abbrev pub drill_client : SeenScriptClient
 drill_client = client_of client_line
 
 -- ---- the login with number i
@@ -84,7 +85,7 @@ numbered letter i = letter ++ decimal i
 abbrev pub verifier : ℕ → List ℕ
 verifier i = codes "v" ++ replicate (42 - length (decimal i)) 48 ++ decimal i
 
-abbrev pub begin_line : ℕ → SeenBeginLine
+abbrev pub begin_line : ℕ → BeginLine
 begin_line i = record {
   state = numbered (codes "s") i;
   nonce = numbered (codes "n") i;
@@ -195,10 +196,10 @@ abbrev pub Step : Type 0
 Step = runs.Step Others (List ℕ)
 
 -- the steps of turns over a store, each beside its turn, and the store behind them
-abbrev pub steps_of_turns : SeenClient → Pending → List Turn → List (Turn × Step)
+abbrev pub steps_of_turns : SeenScriptClient → Pending → List Turn → List (Turn × Step)
 steps_of_turns client pending turns = zip turns (runs.steps_from types client pending (map event_of_turn turns))
 
-abbrev pub store_after_turns : SeenClient → Pending → List Turn → Pending
+abbrev pub store_after_turns : SeenScriptClient → Pending → List Turn → Pending
 store_after_turns client pending turns = runs.store_from types client pending (map event_of_turn turns)
 
 abbrev pub one_if : Bool → ℕ

@@ -3,7 +3,6 @@ use Rattle.std.specs.Prelude.{ℕ, ℤ, List, Option}
 use Rattle.oidc_oauth2.specs.Messages.{SeenAnswer}
 use Rattle.oidc_types.specs.{TextAndUrl}
 use Rattle.oidc_types.specs.declared.core_algorithms.CoreJwsSigningAlgorithm.{CoreJwsSigningAlgorithm}
-use Rattle.oidc_login.specs.declared.demand.UserInfoDemand.{UserInfoDemand}
 
 -- what a client line says of the client's provider: its issuer and its endpoints, of which that for user info may
 -- be missing
@@ -21,15 +20,6 @@ pub record SeenClientLine : Type 0 where
   pub provider : SeenProviderUrls
   pub redirect : Option TextAndUrl
   pub algorithms : List CoreJwsSigningAlgorithm
-
--- a begin line: the state and the nonce of the request, its redirect where it has one of its own, the verifier,
--- and what is demanded of user info, where it is asked for
-pub record SeenBeginLine : Type 0 where
-  pub state : List ℕ
-  pub nonce : List ℕ
-  pub redirect : Option TextAndUrl
-  pub verifier : List ℕ
-  pub user_info : Option UserInfoDemand
 
 -- a callback line: the moment in nanoseconds since the Unix epoch, the query, and what the provider answers
 pub record SeenCallbackLine : Type 0 where

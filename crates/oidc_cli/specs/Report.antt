@@ -8,10 +8,11 @@ use Rattle.oidc_client.specs.Authorization.{new_request, Code}
 use Rattle.oidc_login.specs.Logins.{Pending}
 use Rattle.oidc_login.specs.Begins.{LoginRequest, Begin as BeginOf, begin_of}
 use Rattle.oidc_login.specs.Events as runs
-use Rattle.oidc_cli.specs.Types.{types, SeenClient}
-use Rattle.oidc_cli.specs.Events.{SeenClientLine, SeenBeginLine, SeenCallbackLine}
+use Rattle.oidc_cli.specs.Types.{types, SeenScriptClient}
+use Rattle.oidc_cli.specs.Events.{SeenClientLine, SeenCallbackLine}
 use Rattle.oidc_cli.specs.Script.{lines, event_of, fault_of}
 use Rattle.oidc_cli.specs.ReportLines.{Step, step_lines, pending_line, fault_line}
+use Rattle.oidc_cli.specs.declared.events.BeginLine.{BeginLine}
 use Rattle.oidc_cli.specs.declared.events.Event.{Event}
 use Rattle.oidc_cli.specs.declared.events.Event.TheVariants.{Client, Begin, Callback}
 use Rattle.oidc_cli.specs.declared.report.Ending.{Ending}
@@ -20,7 +21,7 @@ use Rattle.oidc_cli.specs.declared.report.Ending.TheVariants as ending
 -- ---- the logins that a script is about
 
 -- the client of a client line; nothing is known of its provider's keys
-abbrev pub client_of : SeenClientLine → SeenClient
+abbrev pub client_of : SeenClientLine → SeenScriptClient
 client_of line = record (new_client line.id line.provider.issuer []) {
   client_secret = line.secret;
   redirect_uri = line.redirect;
@@ -31,27 +32,27 @@ client_of line = record (new_client line.id line.provider.issuer []) {
 }
 
 -- the authorization endpoint: the issuer would stand for none, but each client of a script has one (`client_of`)
-abbrev pub endpoint_of : SeenClient → TextAndUrl
+abbrev pub endpoint_of : SeenScriptClient → TextAndUrl
 endpoint_of client = unwrap_or client.auth_uri client.issuer
 
 -- a client's request for a code, with this state and nonce
-abbrev pub code_request : SeenClient → List ℕ → List ℕ → LoginRequest
-code_request client state nonce = new_request client (endpoint_of client) Code state nonce
+abbrev pub request_for_code : SeenScriptClient → List ℕ → List ℕ → LoginRequest
+request_for_code client state nonce = new_request client (endpoint_of client) Code state nonce
 
 -- the request of a begin line: its redirect is the line's, or else the client's
-abbrev pub request_of : SeenClient → SeenBeginLine → LoginRequest
-request_of client line = record (code_request client line.state line.nonce) {
+abbrev pub request_of : SeenScriptClient → BeginLine → LoginRequest
+request_of client line = record (request_for_code client line.state line.nonce) {
   redirect_uri = option_or line.redirect client.redirect_uri;
 }
 
-abbrev pub begin_of_line : SeenClient → SeenBeginLine → BeginOf
+abbrev pub begin_of_line : SeenScriptClient → BeginLine → BeginOf
 begin_of_line client line = begin_of (request_of client line) line.verifier line.user_info
 
 abbrev pub call_of_line : SeenCallbackLine → runs.Call
 call_of_line line = record { query = line.query; now = line.now; answers = line.answers }
 
 -- what a line is among the events of logins: a begin, a callback, or nothing
-abbrev pub login_event : SeenClient → Option Event → Option runs.Event
+abbrev pub login_event : SeenScriptClient → Option Event → Option runs.Event
 login_event client (Some (Begin line)) = Some (runs.begins (begin_of_line client line))
 login_event client (Some (Callback line)) = Some (runs.calls (call_of_line line))
 login_event client (Some (Client line)) = None
@@ -63,7 +64,7 @@ before None later = later
 before (Some event) later = event ∷ later
 
 -- the begins and callbacks of lines, in their order
-abbrev pub login_events : SeenClient → List (Option Event) → List runs.Event
+abbrev pub login_events : SeenScriptClient → List (Option Event) → List runs.Event
 login_events client [] = []
 login_events client (event ∷ later) = before (login_event client event) (login_events client later)
 
@@ -110,22 +111,22 @@ report script =
 -- ---- the same, event by event, for the contracts of private functions
 
 -- the lines of what one line says, over a store, and the store after it
-abbrev pub lines_of_event : SeenClient → Pending → Option runs.Event → List ℕ
+abbrev pub lines_of_event : SeenScriptClient → Pending → Option runs.Event → List ℕ
 lines_of_event client pending None = []
 lines_of_event client pending (Some event) = step_lines (runs.step types client pending event)
 
-abbrev pub store_after_event : SeenClient → Pending → Option runs.Event → Pending
+abbrev pub store_after_event : SeenScriptClient → Pending → Option runs.Event → Pending
 store_after_event client pending None = pending
 store_after_event client pending (Some event) = (runs.step types client pending event).pending
 
-abbrev pub event_lines : SeenClient → Pending → Option Event → List ℕ
+abbrev pub event_lines : SeenScriptClient → Pending → Option Event → List ℕ
 event_lines client pending event = lines_of_event client pending (login_event client event)
 
-abbrev pub store_after : SeenClient → Pending → Option Event → Pending
+abbrev pub store_after : SeenScriptClient → Pending → Option Event → Pending
 store_after client pending event = store_after_event client pending (login_event client event)
 
 -- the rest of a report, from the begin or callback line with number n on
-abbrev pub rest_of_report : SeenClient → Pending → ℕ → List (List ℕ) → Option ℕ → List ℕ
+abbrev pub rest_of_report : SeenScriptClient → Pending → ℕ → List (List ℕ) → Option ℕ → List ℕ
 rest_of_report client pending n all fault =
     let events = login_events client (map event_of (lines_before n fault all)) in
     steps_lines (runs.steps_from types client pending events)

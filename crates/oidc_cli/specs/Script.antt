@@ -5,7 +5,8 @@ use Rattle.std.specs.List.{slice_split, list_all, list_any}
 use Rattle.oidc_pairs.specs.Pairs.{pairs}
 use Rattle.oidc_oauth2.specs.Messages.{SeenResponse, SeenAnswer}
 use Rattle.oidc_cli.specs.Values.{◌>>=◌, url_of_text, pair_text, pair_value, lacks, optional_value, algorithms_of, demand_of, moment_of_text, status_code_of, content_type_of}
-use Rattle.oidc_cli.specs.Events.{SeenProviderUrls, SeenClientLine, SeenBeginLine, SeenCallbackLine}
+use Rattle.oidc_cli.specs.Events.{SeenProviderUrls, SeenClientLine, SeenCallbackLine}
+use Rattle.oidc_cli.specs.declared.events.BeginLine.{BeginLine}
 use Rattle.oidc_cli.specs.declared.events.AnswerTo.{AnswerTo}
 use Rattle.oidc_cli.specs.declared.events.AnswerTo.TheVariants as answer_to
 use Rattle.oidc_cli.specs.declared.events.Event.{Event}
@@ -51,7 +52,7 @@ client_values line = do
   provider ← provider_urls line
   Some (record { id = id; secret = secret; provider = provider; redirect = redirect; algorithms = algorithms })
 
-abbrev pub begin_values : List (List ℕ × List ℕ) → Option SeenBeginLine
+abbrev pub begin_values : List (List ℕ × List ℕ) → Option BeginLine
 begin_values line = do
   state ← pair_text line (codes "state")
   nonce ← pair_text line (codes "nonce")
@@ -76,7 +77,7 @@ begin_pairs line = 4 + one_if_there line (codes "redirect") + one_if_there line 
 unfoldable pub client_event_of : List (List ℕ × List ℕ) → Option SeenClientLine
 client_event_of line = if length line == client_pairs line then client_values line else None
 
-unfoldable pub begin_event_of : List (List ℕ × List ℕ) → Option SeenBeginLine
+unfoldable pub begin_event_of : List (List ℕ × List ℕ) → Option BeginLine
 begin_event_of line = if length line == begin_pairs line then begin_values line else None
 
 -- ---- answers

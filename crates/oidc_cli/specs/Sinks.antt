@@ -15,11 +15,6 @@ PutsPrefix before after piece = (n : ℕ) × Puts before after (take n piece)
 
 -- ---- over a writer
 
--- the writer, and how many calls failed
-pub record SeenWriteSink (W : Type 0) : Type 0 where
-  pub writer : W
-  pub faults : ℕ
-
 -- what a writer is known to hold grew by some of the piece's first bytes, or none, or all
 abbrev pub AppendsPrefix : Option (List ℕ) → Option (List ℕ) → List ℕ → Type 0
 AppendsPrefix before after piece = (n : ℕ) × Appends before after (take n piece)

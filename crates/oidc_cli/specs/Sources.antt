@@ -1,4 +1,4 @@
--- Sources: what a call takes, and what contracts see of those in memory and over a reader.
+-- Sources: what a call takes, and what contracts see of those in memory.
 use Rattle.std.specs.Prelude.{◌≡◌, ℕ, List, ◌++◌, drop, Option, refl}
 use Rattle.std.specs.Option.{option_map}
 use Rattle.std.specs.Coded.{Coded, code_by, coded_ℕ, coded_list, coded×}
@@ -8,15 +8,6 @@ use Rattle.oidc_cli.specs.Calls.{SeenCalls, calls_code, after_success, after_fau
 -- isn't known after, and what is known stays known.
 abbrev pub Takes : Option (List ℕ) → Option (List ℕ) → List ℕ → Type 0
 Takes before after bytes = before ≡ option_map (λ left. bytes ++ left) after
-
--- ---- over a reader
-
--- the reader, and how many of its calls failed
-pub record SeenReadSource (R : Type 0) : Type 0 where
-  pub reader : R
-  pub faults : ℕ
-
--- ---- in memory
 
 -- the bytes that are left, and the calls
 pub record SeenSource : Type 0 where

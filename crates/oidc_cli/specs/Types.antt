@@ -18,8 +18,8 @@ use Rattle.oidc_login.specs.SignedIn as users
 abbrev pub types : SiteTypes Others (List ℕ) SymmetricKey CoreJsonWebKeyUse
 types = site_types read_others text_kind of_keys of_uses
 
-abbrev pub SeenClient : Type 0
-SeenClient = logins.SeenClient SymmetricKey
+abbrev pub SeenScriptClient : Type 0
+SeenScriptClient = logins.SeenLoginClient SymmetricKey
 
 abbrev pub SeenSignedIn : Type 0
 SeenSignedIn = users.SeenSignedIn Others (List ℕ)

@@ -62,6 +62,33 @@ impl Faults {
     }
 }
 
+/// An object of std, and how often it has failed.
+#[derive(Drop)]
+pub struct Counted<T> {
+    pub(crate) inner: T,
+    pub(crate) faults: Faults,
+}
+
+impl<T> Model for Counted<T> {
+    ghost use Rattle.oidc_cli.specs.Calls.{SeenCounted};
+
+    ghost Value = { SeenCounted T };
+
+    ghost view = { λ c. record { inner = c.inner; faults = c.faults } };
+}
+
+impl<T> Counted<T> {
+    /// This object, without a fault yet.
+    pub fn new(inner: T) -> Self
+        ensures { result ≡ record { inner = inner; faults = 0 } }
+    {
+        Counted {
+            inner,
+            faults: Faults::new(),
+        }
+    }
+}
+
 /// Which calls fail, how many were made, and how many of them failed. Both counts stop at `u64::MAX`.
 #[derive(Drop)]
 pub struct Calls {

@@ -12,6 +12,7 @@ ghost use Rattle.oidc_cli.specs.Drill.{drill_client, issuer as drill_issuer, eve
 mod provider;
 
 use crate::Sink;
+use crate::beside::beside;
 use crate::drill::provider::{again_line, begin_line, client, first_line, issuer};
 use crate::report::{Halt, Replied, begin, call_back, put_line};
 use crate::user::PendingLogins;
@@ -266,11 +267,38 @@ fn drill(alloc: Global, count: u16) -> Result<Drilled, AllocError>
     ensures pending { IfOk result (λ drilled. drilled.pending ≡ finite.len (drill_store count)) }
 {
     let issuer = issuer(alloc)?;
-    let client = client(alloc)?;
-    run_on(alloc, &client, &issuer, count)
+    let both = beside(issuer, client(alloc))?;
+    let (issuer, client) = both;
+    let drilled = run_on(alloc, &client, &issuer, count);
+    drop(client);
+    drop(issuer);
+    drilled
 }
 
-// The same, over its client and the issuer of its tokens.
+// Its turns, over a store that is empty.
+fn run_over<'c>(
+    alloc: Global,
+    client: &'c LoginClient,
+    issuer: &IssuerUrl,
+    logins: &mut PendingLogins<'c>,
+    count: u16,
+) -> Result<Drilled, AllocError>
+    requires same { logins.old.client ≡ client.now }
+    requires own { client.now ≡ drill_client }
+    requires issuer { issuer.now ≡ drill_issuer }
+    requires empty { logins.old.pending ≡ finite.empty }
+    ensures tally { IfOk result (λ drilled. drilled.tally ≡ drill_tally count) }
+    ensures pending { IfOk result (λ drilled. drilled.pending ≡ finite.len (drill_store count)) }
+{
+    let begun = begin_all(alloc, client, issuer, logins, count)?;
+    let called = call_all(alloc, client, issuer, logins, count)?;
+    Ok(Drilled {
+        tally: added(begun, called),
+        pending: logins.pending(),
+    })
+}
+
+// The drill over its client and the issuer of its tokens.
 fn run_on(
     alloc: Global,
     client: &LoginClient,
@@ -285,12 +313,9 @@ fn run_on(
     let Ok(mut logins) = Logins::new(alloc, client) else {
         unreachable!()
     };
-    let begun = begin_all(alloc, client, issuer, &mut logins, count)?;
-    let called = call_all(alloc, client, issuer, &mut logins, count)?;
-    Ok(Drilled {
-        tally: added(begun, called),
-        pending: logins.pending(),
-    })
+    let drilled = run_over(alloc, client, issuer, &mut logins, count);
+    drop(logins);
+    drilled
 }
 
 // ---- the line

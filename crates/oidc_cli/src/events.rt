@@ -67,20 +67,6 @@ pub struct BeginLine {
     pub user_info: Option<UserInfoDemand>,
 }
 
-impl Model for BeginLine {
-    ghost use Rattle.oidc_cli.specs.Events.{SeenBeginLine};
-
-    ghost Value = { SeenBeginLine };
-
-    ghost view = { λ b. record {
-      state = b.state;
-      nonce = b.nonce;
-      redirect = b.redirect;
-      verifier = b.verifier;
-      user_info = b.user_info;
-    } };
-}
-
 /// What a callback line says: the moment, the query, and what the provider answers.
 #[derive(Drop)]
 pub struct CallbackLine {

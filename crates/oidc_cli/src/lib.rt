@@ -3,16 +3,17 @@
 //!
 //! - [`run`] is the whole program but for its words and its adapters. On [`Command::Replay`] it reads a
 //!   script of a [`Source`], runs its events through a store of pending logins of `oidc_login`, and puts
-//!   the report into a [`Sink`]; on [`Command::Drill`] it makes that number of logins itself, reads
-//!   nothing, and puts a line of counts. Its contract says that 2 comes exactly for wrong words, that on
+//!   the report into a [`Sink`]; on [`Command::Drill`] it leaves the source as it is, makes that number of logins
+//!   itself, and puts a line of counts. Its contract says that 2 comes exactly for wrong words, that on
 //!   1 and 4 the count of faults of sink and source rose, or stands at its last value, and, where the
 //!   source's bytes are known, that on 0 of `replay` the script has no fault and on 3 it has one. 5 is
 //!   free. Where the bytes of both are known, what it wrote is the report of the script, or the drill's
 //!   line, or begins it.
 //! - [`Source`] gives the bytes of a script and [`Sink`] takes those of a report. The bytes of each
 //!   are known, or are not, and each counts its faults. [`MemorySource`] and [`MemorySink`] are in
-//!   memory and fail at the calls that they are given; [`ReadSource`] and [`WriteSink`] are over a
+//!   memory and fail at the calls that they are given; [`ReadSource`] and [`WriteSink`] are [`Counted`], over a
 //!   reader and a writer of std.
+//! - [`verdict_line`] is the line of a report for what a callback answered about a [`User`].
 //!
 //! # Scripts
 //!
@@ -38,6 +39,7 @@
 //! event in its place.
 #![tactic(auto)]
 
+mod beside;
 mod calls;
 mod commands;
 mod drill;
@@ -51,10 +53,12 @@ mod sinks;
 mod sources;
 mod user;
 
-pub use crate::calls::Failed;
+pub use crate::calls::{Counted, Failed};
 pub use crate::commands::Command;
 pub use crate::program::{
     DONE, NO_MEMORY, SCRIPT_FAULT, SINK_FAULT, SOURCE_FAULT, WRONG_WORDS, run,
 };
+pub use crate::report_lines::verdict_line;
 pub use crate::sinks::{MemorySink, Sink, WriteSink};
 pub use crate::sources::{MemorySource, ReadSource, Source};
+pub use crate::user::User;

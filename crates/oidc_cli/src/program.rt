@@ -33,8 +33,8 @@ pub const SOURCE_FAULT: u8 = 4;
 pub const NO_MEMORY: u8 = 5;
 
 /// Runs the program. On the one word `replay` it reads a script of the source, runs it through a store of
-/// pending logins, and writes the report to the sink. On `drill` and a number it reads nothing, makes that
-/// number of logins itself, runs them from end to end, and writes one line of counts. The result is the
+/// pending logins, and writes the report to the sink. On `drill` and a number it leaves the source as it is, makes
+/// that number of logins itself, runs them from end to end, and writes one line of counts. The result is the
 /// exit status.
 ///
 /// On `replay` the body reads first, to the end of the source or one byte past 67,108,864, and then writes, a line of
@@ -44,7 +44,7 @@ pub const NO_MEMORY: u8 = 5;
 pub fn run<S: Source, O: Sink>(alloc: Global, words: &[String], source: &mut S, sink: &mut O) -> u8
     ensures status { result ≤ 5 }
 
-    // 2 exactly where the words are wrong. Nothing is read then, and nothing written.
+    // 2 exactly where the words are wrong. Source and sink are as they were then.
     ensures words { (result ≡ 2) ↔ (command_of (map string_bytes words.now) ≡ None) }
     ensures asked { result ≢ 2 → (command : Command) × Asks words.now command }
     ensures unread { result ≡ 2 → source.new ≡ source.old }
@@ -88,7 +88,7 @@ pub fn run<S: Source, O: Sink>(alloc: Global, words: &[String], source: &mut S, 
         → ¬ (HasRisen (O.faults sink.old) (O.faults sink.new))
         → (result ≡ 0) ⊎ (result ≡ 5) }
 
-    // On a drill nothing is read. On 0 its line stands behind what the sink held, on 1 and 5 a beginning
+    // On a drill the source is as it was. On 0 its line stands behind what the sink held, on 1 and 5 a beginning
     // of it. It comes to its end, where the sink doesn't fail and there is memory.
     ensures drill_unread { (count : ℕ) → Asks words.now (Command.Drill count)
         → source.new ≡ source.old }

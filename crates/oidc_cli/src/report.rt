@@ -1,10 +1,10 @@
 //! A script's events, one after another, and their report.
-ghost use Rattle.std.specs.Prelude.{◌≡◌, ◌++◌, ◌+◌, ◌≤◌, ◌<◌, ◌^◌, [], IfOk, IfErr, OnOk, OnErr, IsErrOf, IfSome, IsSome, IsNone, Some, None, false};
+ghost use Rattle.std.specs.Prelude.{◌≡◌, ◌++◌, ◌+◌, ◌≤◌, ◌<◌, ◌^◌, [], codes, IfOk, IfErr, OnOk, OnErr, IsErrOf, IfSome, IsSome, IsNone, Some, None, false};
 ghost use Rattle.std.specs.FinMap as finite;
 ghost use Rattle.std.specs.Option.{option_or};
 ghost use Rattle.std.specs.String.{string_bytes};
 ghost use Rattle.oidc_login.specs.Begins.{begin_reply};
-ghost use Rattle.oidc_login.specs.Errors.{memory_of, reply_of};
+ghost use Rattle.oidc_login.specs.Errors.{seen_reply, wants_memory};
 ghost use Rattle.oidc_login.specs.Events.{called_with};
 ghost use Rattle.oidc_login.specs.Rows.{callback_store, outcome};
 ghost use Rattle.oidc_cli.specs.Calls.{HasRisen};
@@ -12,7 +12,7 @@ ghost use Rattle.oidc_cli.specs.Sinks.{Puts, PutsPrefix};
 ghost use Rattle.oidc_cli.specs.Types.{types};
 ghost use Rattle.oidc_cli.specs.Script.{lines, is_client, is_step, fault_from, fault_of};
 ghost use Rattle.oidc_cli.specs.ReportLines.{HasNoFloats, request_lines, verdict_line as line_of_verdict, fault_line as line_of_fault, pending_line as line_of_pending};
-ghost use Rattle.oidc_cli.specs.Report.{client_of as client_seen, code_request as request_for_code, begin_of_line, call_of_line, event_lines, store_after, rest_of_report, report, ending_of};
+ghost use Rattle.oidc_cli.specs.Report.{client_of as client_seen, request_for_code, begin_of_line, call_of_line, event_lines, store_after, rest_of_report, report, ending_of};
 
 use crate::events::{BeginLine, CallbackLine, ClientLine, Event, ProviderUrls};
 use crate::reading::LIMIT;
@@ -75,8 +75,14 @@ fn client_line_of(event: Option<Event>) -> Option<ClientLine>
 {
     match event {
         Some(Event::Client(line)) => Some(line),
-        Some(Event::Begin(_)) => None,
-        Some(Event::Callback(_)) => None,
+        Some(Event::Begin(line)) => {
+            drop(line);
+            None
+        }
+        Some(Event::Callback(line)) => {
+            drop(line);
+            None
+        }
         None => None,
     }
 }
@@ -129,7 +135,7 @@ pub(crate) fn client_of(alloc: Global, line: ClientLine) -> LoginClient
 // ---- begins
 
 // A client's request for a code.
-fn code_request<'c>(
+fn authorization_request<'c>(
     alloc: Global,
     client: &'c LoginClient,
     state: CsrfToken,
@@ -153,7 +159,7 @@ fn request_with<'c>(
       redirect_uri = option_or redirect client.now.redirect_uri;
     }) }
 {
-    let request = code_request(alloc, client, state, nonce)?;
+    let request = authorization_request(alloc, client, state, nonce)?;
     match redirect {
         None => Ok(request),
         Some(redirect) => Ok(request.set_redirect_uri(redirect)),
@@ -190,6 +196,35 @@ pub(crate) fn begin<'c>(
     }
 }
 
+// The line of what a begin line gets, unless there is no memory.
+fn begun_line<'c>(
+    alloc: Global,
+    client: &'c LoginClient,
+    logins: &mut PendingLogins<'c>,
+    line: BeginLine,
+) -> Result<String, AllocError>
+    requires same { logins.old.client ≡ client.now }
+    ensures text { let event = Some (Event.Begin line) in IfOk result (λ text.
+        string_bytes text ≡ event_lines logins.old.client logins.old.pending event) }
+    ensures client { logins.new.client ≡ logins.old.client }
+    ensures store { OnOk result
+        (logins.new.pending
+        ≡ store_after logins.old.client logins.old.pending (Some (Event.Begin line))) }
+{
+    let reply = begin(alloc, client, logins, line)?;
+    // The URL is let go by a call on each way out.
+    match begin_line(alloc, &reply) {
+        Ok(text) => {
+            drop(reply);
+            Ok(text)
+        }
+        Err(refused) => {
+            drop(reply);
+            Err(refused)
+        }
+    }
+}
+
 // Runs a begin line and puts its line.
 #[tactic(auto, using(crate::proofs::Passing::prefix_none))]
 fn put_begin<'c, O: Sink>(
@@ -213,8 +248,7 @@ fn put_begin<'c, O: Sink>(
     ensures blamed { IsErrOf result Halt.Sink → HasRisen (O.faults sink.old) (O.faults sink.new) }
     ensures counts { O.faults sink.old ≤ O.faults sink.new }
 {
-    let reply = begin(alloc, client, logins, line)?;
-    let text = begin_line(alloc, &reply)?;
+    let text = begun_line(alloc, client, logins, line)?;
     sink.put(text.as_str().as_bytes())?;
     Ok(())
 }
@@ -236,7 +270,7 @@ fn replied_with(
 ) -> Result<Replied, AllocError>
     ensures reply { IfOk result (λ replied. replied.reply ≡ reply) }
     ensures http { IfOk result (λ replied. replied.http ≡ http) }
-    ensures memory { OnOk result (IfErr reply (λ e. memory_of e ≡ None)) }
+    ensures memory { OnOk result (IfErr reply (λ e. wants_memory e ≡ false)) }
 {
     match reply {
         Ok(user) => Ok(Replied {
@@ -244,7 +278,10 @@ fn replied_with(
             http,
         }),
         Err(refusal) => match refusal {
-            LoginError::Memory { .. } => Err(AllocError),
+            LoginError::Memory { .. } => {
+                drop(http);
+                Err(AllocError)
+            }
             _ => Ok(Replied {
                 reply: Err(refusal),
                 http,
@@ -260,10 +297,10 @@ pub(crate) fn call_back(
     line: CallbackLine,
 ) -> Result<Replied, AllocError>
     ensures reply { let a = called_with logins.old.client logins.old.pending (call_of_line line) in
-        IfOk result (λ replied. reply_of replied.reply ≡ (outcome types a line.answers).reply) }
+        IfOk result (λ replied. seen_reply replied.reply ≡ (outcome types a line.answers).reply) }
     ensures sent { let a = called_with logins.old.client logins.old.pending (call_of_line line) in
         IfOk result (λ replied. replied.http.requests ≡ (outcome types a line.answers).sent) }
-    ensures no_floats { IfOk result (λ replied. HasNoFloats (reply_of replied.reply)) }
+    ensures no_floats { IfOk result (λ replied. HasNoFloats (seen_reply replied.reply)) }
     ensures client { logins.new.client ≡ logins.old.client }
     ensures store { OnOk result
         (logins.new.pending ≡ callback_store logins.old.pending line.query) }
@@ -297,11 +334,11 @@ fn put_requests<O: Sink>(alloc: Global, requests: &[HttpRequest], sink: &mut O) 
 
 // Puts the lines of a callback, whose claims hold no float.
 fn put_replied<O: Sink>(alloc: Global, replied: &Replied, sink: &mut O) -> Result<(), Halt>
-    ensures whole { let reply = reply_of replied.now.reply in
+    ensures whole { let reply = seen_reply replied.now.reply in
         HasNoFloats reply → OnOk result
         (Puts (O.written sink.old) (O.written sink.new)
         (request_lines replied.now.http.requests ++ line_of_verdict reply)) }
-    ensures begun { let reply = reply_of replied.now.reply in
+    ensures begun { let reply = seen_reply replied.now.reply in
         HasNoFloats reply → OnErr result
         (PutsPrefix (O.written sink.old) (O.written sink.new)
         (request_lines replied.now.http.requests ++ line_of_verdict reply)) }
@@ -378,7 +415,10 @@ fn put_step<'c, O: Sink>(
             put_callback(alloc, logins, line, sink)?;
             Ok(true)
         }
-        Some(Event::Client(_)) => Ok(false),
+        Some(Event::Client(line)) => {
+            drop(line);
+            Ok(false)
+        }
         None => Ok(false),
     }
 }
@@ -431,7 +471,42 @@ fn put_pending<O: Sink>(
     Ok(Ending::Pending)
 }
 
-// Puts the report of the lines behind the client line.
+// Puts the report of the lines behind the client line, over the logins of that client.
+fn put_lines<'c, O: Sink>(
+    alloc: Global,
+    client: &'c LoginClient,
+    logins: &mut PendingLogins<'c>,
+    script: &[u8],
+    sink: &mut O,
+) -> Result<Ending, Halt>
+    requires same { logins.old.client ≡ client.now }
+    ensures ending { IfOk result
+        (λ ending. ending ≡ ending_of (fault_from 2 (lines script.now))) }
+    ensures whole { OnOk result
+        (Puts (O.written sink.old) (O.written sink.new)
+        (let all = lines script.now in
+        rest_of_report logins.old.client logins.old.pending 2 all (fault_from 2 all))) }
+    ensures begun { OnErr result
+        (PutsPrefix (O.written sink.old) (O.written sink.new)
+        (let all = lines script.now in
+        rest_of_report logins.old.client logins.old.pending 2 all (fault_from 2 all))) }
+    ensures blamed { IsErrOf result Halt.Sink → HasRisen (O.faults sink.old) (O.faults sink.new) }
+    ensures counts { O.faults sink.old ≤ O.faults sink.new }
+{
+    let mut number = 2usize;
+    let mut left = script;
+    while let Some((line, rest)) = first_line(left) {
+        let event = read_line(alloc, line)?;
+        if !put_step(alloc, client, logins, event, sink)? {
+            return put_fault(alloc, number, sink);
+        }
+        number += 1;
+        left = rest;
+    }
+    put_pending(alloc, logins, sink)
+}
+
+// The same, from no pending logins.
 fn put_steps<O: Sink>(
     alloc: Global,
     client: &LoginClient,
@@ -455,17 +530,34 @@ fn put_steps<O: Sink>(
     let Ok(mut logins) = Logins::new(alloc, client) else {
         unreachable!()
     };
-    let mut number = 2usize;
-    let mut left = script;
-    while let Some((line, rest)) = first_line(left) {
-        let event = read_line(alloc, line)?;
-        if !put_step(alloc, client, &mut logins, event, sink)? {
-            return put_fault(alloc, number, sink);
-        }
-        number += 1;
-        left = rest;
-    }
-    put_pending(alloc, &logins, sink)
+    let put = put_lines(alloc, client, &mut logins, script, sink);
+    drop(logins);
+    put
+}
+
+// Puts the line of a client, and the report of the lines behind it.
+fn put_client<O: Sink>(
+    alloc: Global,
+    client: &LoginClient,
+    script: &[u8],
+    sink: &mut O,
+) -> Result<Ending, Halt>
+    requires endpoint { IsSome client.now.token_uri }
+    ensures ending { IfOk result
+        (λ ending. ending ≡ ending_of (fault_from 2 (lines script.now))) }
+    ensures whole { OnOk result
+        (Puts (O.written sink.old) (O.written sink.new)
+        (let all = lines script.now in
+        codes "client ok\n" ++ rest_of_report client.now finite.empty 2 all (fault_from 2 all))) }
+    ensures begun { OnErr result
+        (PutsPrefix (O.written sink.old) (O.written sink.new)
+        (let all = lines script.now in
+        codes "client ok\n" ++ rest_of_report client.now finite.empty 2 all (fault_from 2 all))) }
+    ensures blamed { IsErrOf result Halt.Sink → HasRisen (O.faults sink.old) (O.faults sink.new) }
+    ensures counts { O.faults sink.old ≤ O.faults sink.new }
+{
+    put_line("client ok\n", sink)?;
+    put_steps(alloc, client, script, sink)
 }
 
 /// Runs a script and puts its report.
@@ -488,6 +580,7 @@ pub fn put_report<O: Sink>(alloc: Global, script: &[u8], sink: &mut O) -> Result
         return put_fault(alloc, 1, sink);
     };
     let client = client_of(alloc, client);
-    put_line("client ok\n", sink)?;
-    put_steps(alloc, &client, rest, sink)
+    let put = put_client(alloc, &client, rest, sink);
+    drop(client);
+    put
 }

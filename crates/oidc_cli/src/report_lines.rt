@@ -9,7 +9,7 @@ ghost use Rattle.oidc_oauth2.specs.TokenAnswers.{seen_refusal};
 ghost use Rattle.oidc_members.specs.Write.{any_float};
 ghost use Rattle.oidc_claims.specs.Others.{list_of};
 ghost use Rattle.oidc_user_info.specs.InfoErrors.{seen_refusal as seen_info};
-ghost use Rattle.oidc_login.specs.Errors.{reply_of};
+ghost use Rattle.oidc_login.specs.Errors.{seen_reply};
 ghost use Rattle.oidc_cli.specs.Types as types;
 ghost use Rattle.oidc_cli.specs.ReportLines as spec;
 ghost use Rattle.oidc_cli.specs.ReportLines.{behind, refresh_pair, user_info_pair, HasNoFloats, header_pair, body_pair, begin_line as line_of_begin, request_line as line_of_request, signature_word as word_of_signature, claims_word as word_of_claims, verdict_line as line_of_verdict, fault_line as line_of_fault};
@@ -143,8 +143,8 @@ pub fn verdict_line(
     alloc: Global,
     reply: &Result<User, LoginError<Fault>>,
 ) -> Result<String, AllocError>
-    ensures { HasNoFloats (reply_of reply.now)
-        → IfOk result (λ text. string_bytes text ≡ line_of_verdict (reply_of reply.now)) }
+    ensures { HasNoFloats (seen_reply reply.now)
+        → IfOk result (λ text. string_bytes text ≡ line_of_verdict (seen_reply reply.now)) }
 {
     match reply {
         Ok(signed) => signed_line(alloc, signed),

@@ -9,6 +9,7 @@ ghost use Rattle.oidc_cli.specs.Script.{lines, kind_of as kind_in, provider_urls
 pub(crate) mod answers;
 pub(crate) mod values;
 
+use crate::beside::beside;
 use crate::events::{BeginLine, CallbackLine, ClientLine, Event, LineError, ProviderUrls};
 use crate::script::answers::read_answers;
 use crate::script::values::{
@@ -116,10 +117,11 @@ fn read_urls(alloc: Global, line: &Pairs) -> Result<ProviderUrls, LineError>
     ensures { Reads (λ read. read) result (provider_urls line.now) }
 {
     let issuer = pair_url(alloc, line, "issuer")?;
-    let jwks_uri = pair_url(alloc, line, "issuer")?;
-    let auth = pair_url(alloc, line, "auth")?;
-    let token = pair_url(alloc, line, "token")?;
-    let user_info = optional_url(alloc, line, "userinfo")?;
+    let issuers = beside(issuer, pair_url(alloc, line, "issuer"))?;
+    let with_auth = beside(issuers, pair_url(alloc, line, "auth"))?;
+    let with_token = beside(with_auth, pair_url(alloc, line, "token"))?;
+    let all = beside(with_token, optional_url(alloc, line, "userinfo"))?;
+    let ((((issuer, jwks_uri), auth), token), user_info) = all;
     Ok(ProviderUrls {
         issuer,
         jwks_uri,
@@ -143,10 +145,11 @@ fn client_values(alloc: Global, line: &Pairs) -> Result<ClientLine, LineError>
     ensures { Reads (λ read. read) result (spec.client_values line.now) }
 {
     let id = pair_text(alloc, line, "id")?;
-    let secret = read_secret(alloc, line)?;
-    let redirect = optional_url(alloc, line, "redirect")?;
-    let algorithms = pair_algorithms(alloc, line, "algs")?;
-    let provider = read_urls(alloc, line)?;
+    let with_secret = beside(id, read_secret(alloc, line))?;
+    let with_redirect = beside(with_secret, optional_url(alloc, line, "redirect"))?;
+    let with_algorithms = beside(with_redirect, pair_algorithms(alloc, line, "algs"))?;
+    let all = beside(with_algorithms, read_urls(alloc, line))?;
+    let ((((id, secret), redirect), algorithms), provider) = all;
     Ok(ClientLine {
         id: ClientId::new(id),
         secret,
@@ -166,8 +169,9 @@ fn read_begin(alloc: Global, line: &Pairs) -> Result<BeginLine, LineError>
     let state = pair_text(alloc, line, "state")?;
     let nonce = pair_text(alloc, line, "nonce")?;
     let redirect = optional_url(alloc, line, "redirect")?;
-    let verifier = pair_text(alloc, line, "verifier")?;
-    let user_info = optional_demand(line, "userinfo")?;
+    let with_verifier = beside(redirect, pair_text(alloc, line, "verifier"))?;
+    let all = beside(with_verifier, optional_demand(line, "userinfo"))?;
+    let ((redirect, verifier), user_info) = all;
     Ok(BeginLine {
         state: CsrfToken::new(state),
         nonce: Nonce::new(nonce),

@@ -4,7 +4,7 @@ ghost use Rattle.oidc_cli.specs.Calls.{HasRisen, no_calls};
 ghost use Rattle.oidc_cli.specs.Sinks.{Puts, PutsPrefix, fails_at, after_putting, after_failing};
 
 use crate::Failed;
-use crate::calls::{Calls, Faults};
+use crate::calls::{Calls, Counted};
 use std::alloc::{AllocError, Global};
 use std::io::Write;
 use std::marker::Model;
@@ -108,33 +108,9 @@ impl Sink for MemorySink {
 
 /// A writer of std. Each error of the writer, and a write of no byte, is a fault. Its bytes are not
 /// known to the program, but where the writer's are, `put` says what was written.
-#[derive(Drop)]
-pub struct WriteSink<W> {
-    writer: W,
-    faults: Faults,
-}
+pub type WriteSink<W> = Counted<W>;
 
-impl<W> Model for WriteSink<W> {
-    ghost use Rattle.oidc_cli.specs.Sinks.{SeenWriteSink};
-
-    ghost Value = { SeenWriteSink W };
-
-    ghost view = { λ s. record { writer = s.writer; faults = s.faults } };
-}
-
-impl<W> WriteSink<W> {
-    /// A sink that writes to the writer.
-    pub fn new(writer: W) -> Self
-        ensures { result ≡ record { writer = writer; faults = 0 } }
-    {
-        WriteSink {
-            writer,
-            faults: Faults::new(),
-        }
-    }
-}
-
-impl<W: Write> Sink for WriteSink<W> {
+impl<W: Write> Sink for Counted<W> {
     ghost use Rattle.std.specs.Prelude.{◌≡◌, ℕ, ◌≤◌, Option, IsOk, OnOk, OnErr, []};
     ghost use Rattle.std.specs.Io.KnownBytes.{Appends};
     ghost use Rattle.oidc_cli.specs.Calls.{HasRisen, risen};
@@ -152,9 +128,9 @@ impl<W: Write> Sink for WriteSink<W> {
 
         // What it says of the writer.
         ensures written { OnOk result
-            (Appends (W.contents self.old.writer) (W.contents self.new.writer) piece.now) }
+            (Appends (W.contents self.old.inner) (W.contents self.new.inner) piece.now) }
         ensures begun { OnErr result
-            (AppendsPrefix (W.contents self.old.writer) (W.contents self.new.writer) piece.now) }
+            (AppendsPrefix (W.contents self.old.inner) (W.contents self.new.inner) piece.now) }
         ensures counted { OnErr result (self.new.faults ≡ risen self.old.faults) }
         ensures uncounted { OnOk result (self.new.faults ≡ self.old.faults) }
 
@@ -163,7 +139,7 @@ impl<W: Write> Sink for WriteSink<W> {
     {
         let mut rest = piece;
         while !rest.is_empty() {
-            let answer = self.writer.write(rest);
+            let answer = self.inner.write(rest);
             let count = self.faults.answered(answer)?;
             if count == 0 {
                 self.faults.count();

@@ -5,7 +5,7 @@ ghost use Rattle.oidc_cli.specs.Calls.{HasRisen, no_calls, fails_next};
 ghost use Rattle.oidc_cli.specs.Sources.{Takes, after_taking, after_failing};
 
 use crate::Failed;
-use crate::calls::{Calls, Faults};
+use crate::calls::{Calls, Counted};
 use std::io::Read;
 use std::marker::Model;
 
@@ -106,33 +106,9 @@ impl Source for MemorySource {
 
 /// A reader of std. Each error of the reader is a fault. Its bytes are not known to the program, but
 /// where the reader's are, `take` says what was read.
-#[derive(Drop)]
-pub struct ReadSource<R> {
-    reader: R,
-    faults: Faults,
-}
+pub type ReadSource<R> = Counted<R>;
 
-impl<R> Model for ReadSource<R> {
-    ghost use Rattle.oidc_cli.specs.Sources.{SeenReadSource};
-
-    ghost Value = { SeenReadSource R };
-
-    ghost view = { λ s. record { reader = s.reader; faults = s.faults } };
-}
-
-impl<R> ReadSource<R> {
-    /// A source of what the reader gives.
-    pub fn new(reader: R) -> Self
-        ensures { result ≡ record { reader = reader; faults = 0 } }
-    {
-        ReadSource {
-            reader,
-            faults: Faults::new(),
-        }
-    }
-}
-
-impl<R: Read> Source for ReadSource<R> {
+impl<R: Read> Source for Counted<R> {
     ghost use Rattle.std.specs.Prelude.{◌≡◌, ℕ, ◌<◌, ◌≤◌, length, take, Option, IfOk, OnOk, OnErr, []};
     ghost use Rattle.std.specs.Io.KnownBytes.{IsAtEnd, ReadConsumes};
     ghost use Rattle.oidc_cli.specs.Calls.{HasRisen, risen};
@@ -152,12 +128,12 @@ impl<R: Read> Source for ReadSource<R> {
         ensures counts { self.old.faults ≤ self.new.faults }
 
         // What it says of the reader.
-        ensures bytes { ReadConsumes (R.remaining self.old.reader) (R.remaining self.new.reader)
+        ensures bytes { ReadConsumes (R.remaining self.old.inner) (R.remaining self.new.inner)
             result buf.new }
         ensures counted { OnErr result (self.new.faults ≡ risen self.old.faults) }
         ensures uncounted { OnOk result (self.new.faults ≡ self.old.faults) }
     {
-        let read = self.reader.read(buf);
+        let read = self.inner.read(buf);
         self.faults.answered(read)
     }
 }

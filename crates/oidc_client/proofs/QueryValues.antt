@@ -11,7 +11,7 @@ use Rattle.oidc_pairs.specs.Pairs.{pairs, text_of, is_named, values_in, IsTextPa
 use Rattle.oidc_pairs.specs.Form.{form}
 use Rattle.oidc_pairs.proofs.Theorems.{pairs-form}
 use Rattle.oidc_oauth2.specs.ClientAuth.{pair_if}
-use Rattle.oidc_user_info.specs.Urls.{joined, given_pairs}
+use Rattle.oidc_user_info.specs.QueryPairs.{joined, given_pairs}
 use Rattle.oidc_client.specs.Authorization.{at_most_one}
 
 -- ---- pieces

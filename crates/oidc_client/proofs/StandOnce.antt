@@ -4,7 +4,7 @@ use Rattle.std.specs.Prelude.{codes, unwrap_or, option_map}
 use Rattle.oidc_pairs.specs.Pairs.{pairs, values, values_in, IsTextPair}
 use Rattle.oidc_pairs.specs.Form.{form}
 use Rattle.oidc_oauth2.specs.ClientAuth.{pair_if}
-use Rattle.oidc_user_info.specs.Urls.{given_pairs, joined, spaced}
+use Rattle.oidc_user_info.specs.QueryPairs.{given_pairs, joined, spaced}
 use Rattle.oidc_client.specs.Authorization.{SeenAuthorization, text_if, managed_names, given_before_extra, given_after_extra, pairs_before_extra, pairs_after_extra, auth_list, auth_url, query_values, at_most_one, HasPair, HasChallenge, IsUnmanagedBeside, StandOnce}
 use Rattle.oidc_client.proofs.QueryValues.{pairs_joined, values_in_append, pass_by, one_here, none_among}
 

@@ -6,7 +6,7 @@ use Rattle.url.specs.Parts.{Parts}
 use Rattle.oidc_pairs.specs.Pairs.{values, values_in}
 use Rattle.oidc_types.specs.{TextAndUrl}
 use Rattle.oidc_oauth2.specs.TokenResponse.{whole_seconds}
-use Rattle.oidc_user_info.specs.Urls.{given_pairs, spaced, spaced_if, extended}
+use Rattle.oidc_user_info.specs.QueryPairs.{given_pairs, spaced, spaced_if, extended}
 use Rattle.oidc_client.specs.Client.{SeenClient}
 use Rattle.oidc_client.specs.declared.authorization.AuthenticationFlow.{AuthenticationFlow}
 use Rattle.oidc_client.specs.declared.authorization.AuthenticationFlow.TheVariants as flow

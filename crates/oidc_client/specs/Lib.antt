@@ -5,6 +5,6 @@ pub mod ProviderMetadata
 pub mod Authorization
 -- lower words that these cite
 pub use Rattle.oidc_types.specs.{TextAndUrl}
-pub use Rattle.oidc_user_info.specs.Urls
+pub use Rattle.oidc_user_info.specs.QueryPairs
 -- what no public clause cites
 pub mod Texts

@@ -1,7 +1,7 @@
 -- The texts that are made for the pairs of an authorization request. No public clause cites this.
 use Rattle.std.specs.Prelude.{ℕ, List, Option, map, option_map, decimal}
 use Rattle.oidc_oauth2.specs.TokenResponse.{whole_seconds}
-use Rattle.oidc_user_info.specs.Urls.{spaced, spaced_if}
+use Rattle.oidc_user_info.specs.QueryPairs.{spaced, spaced_if}
 use Rattle.oidc_client.specs.Authorization.{SeenAuthorization, response_type_of}
 
 pub record MadeTexts : Type 0 where

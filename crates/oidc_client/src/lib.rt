@@ -20,9 +20,9 @@
 //! (sections 3.1.2.1, 3.2.2.1 and 3.3.2.1), OAuth 2.0 Multiple Response Type Encoding Practices.
 #![tactic(auto)]
 
-pub mod authorization;
-pub mod client;
-pub mod provider_metadata;
+mod authorization;
+mod client;
+mod provider_metadata;
 
 pub use crate::authorization::{AuthenticationFlow, AuthorizationRequest, CoreAuthenticationFlow};
 pub use crate::client::{Client, CoreClient};

@@ -26,15 +26,17 @@ use Rattle.oidc_claims.specs.Home.{home_by, is_additional_home, id_token_fields,
 use Rattle.oidc_claims.specs.Standard.{claims_of, faultless_claims}
 use Rattle.oidc_claims.specs.Write.{written, IsWholeSecond}
 use Rattle.oidc_claims.proofs.Theorems.{EachStands, written_stands, split_reads_back, moment_stands, standard_name, is_claim, standard_same, fault_outside, fault_narrowed, claims_by, standard_named}
-use Rattle.oidc_id_token_claims.specs.OwnClaims.{SeenOwnClaims, texts_data, own_rule, own_of, own_members}
+use Rattle.oidc_readers.specs.Writing.{texts_data}
+use Rattle.oidc_id_token_claims.specs.TokenFields.{SeenOwnClaims, own_rule, own_of, own_members}
 use Rattle.oidc_id_token_claims.specs.IdTokenClaims.{SeenIdTokenClaims, is_own_field, is_additional_claim, additional_members, id_token_rule, parts_in, id_token_claims_of, id_token_members}
 use Rattle.oidc_id_token_claims.specs.Homes.{is_field, is_standard}
 use Rattle.oidc_jwt.specs.Issuing.{ComesBack}
-use Rattle.oidc_id_token_claims.specs.RoundTrip.{IsInRange, GivesClaims}
+use Rattle.oidc_id_token_claims.specs.RoundTrip.{IsTokenInRange, GivesTokenClaims}
 use Rattle.oidc_id_token_claims.proofs.Entries.{Entry, out_at, outs, Holds, EachHolds}
-use Rattle.oidc_id_token_claims.proofs.OneHome.{no_claim, own_same}
-use Rattle.oidc_id_token_claims.proofs.OwnBack.{entries, written_as, own_back, own_clean}
-use Rattle.oidc_id_token_claims.proofs.OwnRule.{rule_outside, rule_narrowed}
+use Rattle.oidc_id_token_claims.proofs.OneHome.{own_same}
+use Rattle.oidc_id_token_claims.proofs.PartsKept.{additional_by, fields_kept, standard_kept, additional_kept, standard_clean, standard_there, behind, before, each_stands, outs_back}
+use Rattle.oidc_id_token_claims.proofs.FieldsBack.{entries, written_as, own_back, own_clean}
+use Rattle.oidc_id_token_claims.proofs.FieldsRule.{rule_outside, rule_narrowed}
 use Rattle.oidc_jwt.proofs.Theorems.{may_be_written}
 use Rattle.oidc_id_token_claims.proofs.Passing.{passes_apart, passes_both, no_fault}
 
@@ -45,62 +47,10 @@ not_true false h = refl
 true_not : (b : Bool) → b ≡ false → not b ≡ true
 true_not b h = ap not h
 
-last_false : (a b : Bool) → b ≡ false → (a && b) ≡ false
-last_false true b h = h
-last_false false b h = refl
-
 -- ---- members of one home
 
 abbrev are_fields : List OutSeen → Bool
 are_fields ms = list_all (λ m. is_own_field m.name) ms
-
-abbrev are_neither : List OutSeen → Bool
-are_neither ms = list_all (λ m. not (is_own_field m.name) && not (standard_name m.name)) ms
-
--- the test of a name is passed by the member that is read
-pub all_kept : (test : List ℕ → Bool) (ms : List OutSeen) → list_all (λ m. test m.name) ms ≡ true → filter (λ m. test m.name) (map as_read ms) ≡ map as_read ms
-all_kept test [] h = refl
-all_kept test (m ∷ ms) h =
-    let parts = and_parts (test m.name) (list_all (λ m. test m.name) ms) h in
-    λ i. cond (parts.0 i) (as_read m ∷ all_kept test ms parts.1 i) (filter (λ m. test m.name) (map as_read ms))
-
-pub none_kept : (test : List ℕ → Bool) (ms : List OutSeen) → list_all (λ m. not (test m.name)) ms ≡ true → filter (λ m. test m.name) (map as_read ms) ≡ []
-none_kept test [] h = refl
-none_kept test (m ∷ ms) h =
-    let parts = and_parts (not (test m.name)) (list_all (λ m. not (test m.name)) ms) h in
-    (λ i. cond (not_true (test m.name) parts.0 i) (as_read m ∷ filter (λ m. test m.name) (map as_read ms)) (filter (λ m. test m.name) (map as_read ms)))
-    ∙ none_kept test ms parts.1
-
-pub weaker : (p q : OutSeen → Bool) → ((m : OutSeen) → p m ≡ true → q m ≡ true) → (ms : List OutSeen) → list_all p ms ≡ true → list_all q ms ≡ true
-weaker p q all [] h = refl
-weaker p q all (m ∷ ms) h =
-    let parts = and_parts (p m) (list_all p ms) h in and_from (q m) (list_all q ms) (all m parts.0) (weaker p q all ms parts.1)
-
--- a name of one home is of no other
-field_not_standard : (name : List ℕ) → is_own_field name ≡ true → not (standard_name name) ≡ true
-field_not_standard name h = ap not (no_claim id_token_fields name refl h)
-
-standard_not_field : (name : List ℕ) (b : Bool) → is_own_field name ≡ b → standard_name name ≡ true → not b ≡ true
-standard_not_field name true is h = absurd (false≢true (sym (no_claim id_token_fields name refl is) ∙ h))
-standard_not_field name false is h = refl
-
-additional_of : (field standard : Bool) → is_additional_home (home_by field standard) ≡ (not field && not standard)
-additional_of true true = refl
-additional_of true false = refl
-additional_of false true = refl
-additional_of false false = refl
-
--- whether a name is additional, by the other two tests
-additional_by : (name : List ℕ) → is_additional_claim name ≡ (not (is_own_field name) && not (standard_name name))
-additional_by name =
-    ap (λ standard. is_additional_home (home_by (is_own_field name) standard)) (is_claim (record { name = name; value = string []; text = [] }))
-    ∙ additional_of (is_own_field name) (standard_name name)
-
-field_not_additional : (name : List ℕ) → is_own_field name ≡ true → not (is_additional_claim name) ≡ true
-field_not_additional name h = ap not (additional_by name ∙ ap (λ b. not b && not (standard_name name)) h)
-
-standard_not_additional : (name : List ℕ) → standard_name name ≡ true → not (is_additional_claim name) ≡ true
-standard_not_additional name h = ap not (additional_by name ∙ last_false (not (is_own_field name)) (not (standard_name name)) (ap not h))
 
 -- ---- the names of what is written
 
@@ -117,42 +67,23 @@ entries_named (e ∷ es) h =
 fields_named : (c : SeenOwnClaims) → are_fields (own_members c) ≡ true
 fields_named c = ap are_fields (written_as c) ∙ entries_named (entries c) refl
 
--- what additional claims are written as is neither
+-- what additional claims are written as is additional
 neither_by : (field standard of_user : Bool) → field ≡ false → is_additional_home (home_by of_user standard) ≡ true → (not field && not standard) ≡ true
 neither_by false false of_user is h = refl
 neither_by false true true is h = absurd (false≢true h)
 neither_by false true false is h = absurd (false≢true h)
 neither_by true standard of_user is h = absurd (true≢false is)
 
-neither_named : (ms : List OutSeen) → list_all (λ m. not (is_own_field m.name)) ms ≡ true → are_written_additional ms ≡ true → are_neither ms ≡ true
-neither_named [] h k = refl
-neither_named (m ∷ ms) h k =
+additional_named : (ms : List OutSeen) → list_all (λ m. not (is_own_field m.name)) ms ≡ true → are_written_additional ms ≡ true → list_all (λ m. is_additional_claim m.name) ms ≡ true
+additional_named [] h k = refl
+additional_named (m ∷ ms) h k =
     let a = and_parts (not (is_own_field m.name)) (list_all (λ m. not (is_own_field m.name)) ms) h in
     let b = and_parts (is_additional_home (home_by (list_any (λ field. bytes_eq field m.name) user_info_fields) (is_some (claim_of (base_of m.name))))) (are_written_additional ms) k in
-    and_from (not (is_own_field m.name) && not (standard_name m.name)) (are_neither ms)
-    (neither_by (is_own_field m.name) (standard_name m.name) (list_any (λ field. bytes_eq field m.name) user_info_fields) (not_true (is_own_field m.name) a.0)
+    and_from (is_additional_claim m.name) (list_all (λ m. is_additional_claim m.name) ms)
+    (additional_by id_token_fields refl m.name
+    ∙ neither_by (is_own_field m.name) (standard_name m.name) (list_any (λ field. bytes_eq field m.name) user_info_fields) (not_true (is_own_field m.name) a.0)
     (ap (λ standard. is_additional_home (home_by (list_any (λ field. bytes_eq field m.name) user_info_fields) standard)) (sym (is_claim (as_read m))) ∙ b.0))
-    (neither_named ms a.1 b.1)
-
-pub same_some : {A : Type 0} (x y : A) → Some x ≡ Some y → x ≡ y
-same_some x y h = cc
-
-module _ (P : OutSeen → Type 0) where
-  pub behind : (xs ys : List OutSeen) → All P (xs ++ ys) → All P ys
-  behind [] ys h = h
-  behind (x ∷ xs) ys h = behind xs ys (λ k d within. h (suc k) d (omega arith))
-
-  pub before : (xs ys : List OutSeen) → All P (xs ++ ys) → All P xs
-  before [] ys h = All-nil P
-  before (x ∷ xs) ys h = All-cons P x xs (h 0 x (omega arith)) (before xs ys (λ k d within. h (suc k) d (omega arith)))
-
-pub each_stands : (ms : List OutSeen) → EachStands ms → All (λ (m : OutSeen). MayStand m.value) ms
-each_stands [] h = All-nil (λ (m : OutSeen). MayStand m.value)
-each_stands (m ∷ ms) h = All-cons (λ (m : OutSeen). MayStand m.value) m ms h.0 (each_stands ms h.1)
-
-pub outs_back : (ms : List OutSeen) → map out_of (map as_read ms) ≡ ms
-outs_back [] = refl
-outs_back (m ∷ ms) = λ i. m ∷ outs_back ms i
+    (additional_named ms a.1 b.1)
 
 -- ---- values of the own fields
 
@@ -225,7 +156,7 @@ module _
     (gender_back : GenderReadsBack gender_read gender_data)
     (gender_there : GenderIsValue gender_data)
     (c : SeenIdTokenClaims AC GC)
-    (range : IsInRange additional_out c) where
+    (range : IsTokenInRange additional_out c) where
   abbrev first_part : List OutSeen
   first_part = own_members c.own
 
@@ -238,50 +169,18 @@ module _
   abbrev all : List SeenMember
   all = map as_read (id_token_members additional_out gender_data c)
 
-  cut : all ≡ map as_read first_part ++ (map as_read second_part ++ map as_read third_part)
-  cut =
-      map-append as_read (first_part ++ second_part) third_part ∙ ap (λ l. l ++ map as_read third_part) (map-append as_read first_part second_part)
-      ∙ append_assoc (map as_read first_part) (map as_read second_part) (map as_read third_part)
+  seconds : list_all (λ m. standard_name m.name) second_part ≡ true
+  seconds = standard_named gender_data c.standard_claims
 
-  kept_in : (test : List ℕ → Bool) → filter (λ m. test m.name) all
-      ≡ filter (λ m. test m.name) (map as_read first_part) ++ (filter (λ m. test m.name) (map as_read second_part) ++ filter (λ m. test m.name) (map as_read third_part))
-  kept_in test =
-      ap (filter (λ m. test m.name)) cut
-      ∙ filter-append (λ m. test m.name) (map as_read first_part) (map as_read second_part ++ map as_read third_part)
-      ∙ ap (λ l. filter (λ m. test m.name) (map as_read first_part) ++ l) (filter-append (λ m. test m.name) (map as_read second_part) (map as_read third_part))
-
-  thirds : are_neither third_part ≡ true
+  thirds : list_all (λ m. is_additional_claim m.name) third_part ≡ true
   thirds =
-      neither_named third_part
+      additional_named third_part
       (list_all-from_AllPass (λ m. not (is_own_field m.name)) third_part
       (All-weaker (λ m. IsFalse (is_own_field m.name)) (λ m. not (is_own_field m.name) ≡ true) (λ m h. true_not (is_own_field m.name) h) third_part range.names))
       (additional_stay c.additional_claims)
 
-  fields_kept : filter is_field all ≡ map as_read first_part
-  fields_kept =
-      kept_in is_own_field
-      ∙ (λ i. all_kept is_own_field first_part (fields_named c.own) i ++ (
-      none_kept is_own_field second_part (weaker (λ (m : OutSeen). standard_name m.name) (λ (m : OutSeen). not (is_own_field m.name)) (λ m h. standard_not_field m.name (is_own_field m.name) refl h) second_part (standard_named gender_data c.standard_claims)) i
-      ++ none_kept is_own_field third_part (weaker (λ (m : OutSeen). not (is_own_field m.name) && not (standard_name m.name)) (λ (m : OutSeen). not (is_own_field m.name)) (λ m h. (and_parts (not (is_own_field m.name)) (not (standard_name m.name)) h).0) third_part thirds) i
-      ))
-      ∙ append-nil (map as_read first_part)
-
-  standard_kept : filter is_standard all ≡ map as_read second_part
-  standard_kept =
-      kept_in standard_name
-      ∙ (λ i. none_kept standard_name first_part (weaker (λ (m : OutSeen). is_own_field m.name) (λ (m : OutSeen). not (standard_name m.name)) (λ m h. field_not_standard m.name h) first_part (fields_named c.own)) i ++ (
-      all_kept standard_name second_part (standard_named gender_data c.standard_claims) i
-      ++ none_kept standard_name third_part (weaker (λ (m : OutSeen). not (is_own_field m.name) && not (standard_name m.name)) (λ (m : OutSeen). not (standard_name m.name)) (λ m h. (and_parts (not (is_own_field m.name)) (not (standard_name m.name)) h).1) third_part thirds) i
-      ))
-      ∙ append-nil (map as_read second_part)
-
-  additional_kept : additional_members all ≡ map as_read third_part
-  additional_kept =
-      kept_in is_additional_claim
-      ∙ (λ i. none_kept is_additional_claim first_part (weaker (λ (m : OutSeen). is_own_field m.name) (λ (m : OutSeen). not (is_additional_claim m.name)) (λ m h. field_not_additional m.name h) first_part (fields_named c.own)) i ++ (
-      none_kept is_additional_claim second_part (weaker (λ (m : OutSeen). standard_name m.name) (λ (m : OutSeen). not (is_additional_claim m.name)) (λ m h. standard_not_additional m.name h) second_part (standard_named gender_data c.standard_claims)) i
-      ++ all_kept is_additional_claim third_part (weaker (λ (m : OutSeen). not (is_own_field m.name) && not (standard_name m.name)) (λ (m : OutSeen). is_additional_claim m.name) (λ m h. additional_by m.name ∙ h) third_part thirds) i
-      ))
+  own_kept : filter (is_field id_token_fields) all ≡ map as_read first_part
+  own_kept = fields_kept id_token_fields refl first_part second_part third_part (fields_named c.own) seconds thirds
 
   pub values_stand : All (λ (m : OutSeen). MayStand m.value) (id_token_members additional_out gender_data c)
   values_stand =
@@ -291,46 +190,33 @@ module _
 
   own_there : own_of all ≡ Ok c.own
   own_there =
-      sym (own_same all) ∙ ap own_of (fields_kept ∙ ap (map as_read) (written_as c.own))
+      sym (own_same all) ∙ ap own_of (own_kept ∙ ap (map as_read) (written_as c.own))
       ∙ own_back c.own range.issuer range.expiration range.issue_time range.auth_time
 
   clean_own : first_by own_rule [] all ≡ None
   clean_own =
-      passes_apart own_rule is_field rule_outside rule_narrowed all []
-      (ap (first_by own_rule []) (fields_kept ∙ ap (map as_read) (written_as c.own)) ∙ own_clean c.own range.issuer range.expiration range.issue_time range.auth_time)
+      passes_apart own_rule (is_field id_token_fields) rule_outside rule_narrowed all []
+      (ap (first_by own_rule []) (own_kept ∙ ap (map as_read) (written_as c.own)) ∙ own_clean c.own range.issuer range.expiration range.issue_time range.auth_time)
 
   additional_there : additional_read (additional_members all) ≡ Ok c.additional_claims
-  additional_there = ap additional_read additional_kept ∙ additional_back c.additional_claims (map as_read third_part) (outs_back third_part)
+  additional_there = ap additional_read (additional_kept id_token_fields refl first_part second_part third_part (fields_named c.own) seconds thirds) ∙ additional_back c.additional_claims (map as_read third_part) (outs_back third_part)
 
   module _ (texts : All IsUtf8Member (id_token_members additional_out gender_data c)) where
     standard_texts : All IsUtf8Member second_part
     standard_texts = behind IsUtf8Member first_part second_part (before IsUtf8Member (first_part ++ second_part) third_part texts)
 
-    standard_split : members_of (object_text second_part) ≡ Some (map as_read second_part)
-    standard_split =
-        written_split_back second_part
-        (may_be_written second_part (each_stands second_part (written_stands gender_data gender_there c.standard_claims range.standard_claims)) standard_texts)
-
-    standard_read : claims_of gender_read (map as_read second_part) ≡ Ok c.standard_claims
-    standard_read =
-        same_some _ _ (sym (ap (option_map (claims_of gender_read)) standard_split) ∙ split_reads_back gender_read gender_data gender_back gender_there c.standard_claims range.standard_claims standard_texts)
-
-    standard_parts : (first_fault gender_read (map as_read second_part) ≡ None) × (faultless_claims gender_read (map as_read second_part) ≡ Ok c.standard_claims)
-    standard_parts = claims_by gender_read (first_fault gender_read (map as_read second_part)) (map as_read second_part) c.standard_claims standard_read
-
-    clean_standard : first_by (fault_at gender_read) [] all ≡ None
-    clean_standard =
-        passes_apart (fault_at gender_read) is_standard (fault_outside gender_read) (fault_narrowed gender_read) all []
-        (ap (first_by (fault_at gender_read) []) standard_kept ∙ standard_parts.0)
-
-    standard_there : faultless_claims gender_read all ≡ Ok c.standard_claims
-    standard_there = sym (standard_same gender_read all) ∙ ap (faultless_claims gender_read) standard_kept ∙ standard_parts.1
+    read_standard : (first_by (fault_at gender_read) [] all ≡ None) × (faultless_claims gender_read all ≡ Ok c.standard_claims)
+    read_standard =
+        let kept = standard_kept id_token_fields refl first_part second_part third_part (fields_named c.own) seconds thirds in (
+          standard_clean gender_read gender_data gender_back gender_there c.standard_claims range.standard_claims standard_texts all kept,
+          standard_there gender_read gender_data gender_back gender_there c.standard_claims range.standard_claims standard_texts all kept,
+        )
 
     pub read_again : id_token_claims_of additional_read gender_read all ≡ Ok c
     unfolding id_token_claims_of parts_in
-    read_again = rw (no_fault (id_token_rule gender_read) all (passes_both own_rule (fault_at gender_read) all [] clean_own clean_standard), own_there, standard_there, additional_there) refl
+    read_again = rw (no_fault (id_token_rule gender_read) all (passes_both own_rule (fault_at gender_read) all [] clean_own read_standard.0), own_there, read_standard.1, additional_there) refl
 
-    pub gives_claims : GivesClaims additional_read gender_read (id_token_members additional_out gender_data c) c
+    pub gives_claims : GivesTokenClaims additional_read gender_read (id_token_members additional_out gender_data c) c
     gives_claims =
         ap (option_map (id_token_claims_of additional_read gender_read)) (written_split_back (id_token_members additional_out gender_data c) (may_be_written (id_token_members additional_out gender_data c) values_stand texts))
         ∙ ap Some read_again

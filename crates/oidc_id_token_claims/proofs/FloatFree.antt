@@ -11,10 +11,11 @@ use Rattle.oidc_claims.specs.Gender.{GenderIsValue}
 use Rattle.oidc_claims.specs.Write.{written}
 use Rattle.oidc_claims.proofs.Theorems.{written_free}
 use Rattle.oidc_jwt.proofs.Theorems.{free_append}
-use Rattle.oidc_id_token_claims.specs.OwnClaims.{SeenOwnClaims, texts_data, own_members}
+use Rattle.oidc_readers.specs.Writing.{texts_data}
+use Rattle.oidc_id_token_claims.specs.TokenFields.{SeenOwnClaims, own_members}
 use Rattle.oidc_id_token_claims.specs.IdTokenClaims.{SeenIdTokenClaims, id_token_members}
 use Rattle.oidc_id_token_claims.proofs.Entries.{Entry, out_at, outs, Holds, EachHolds}
-use Rattle.oidc_id_token_claims.proofs.OwnBack.{entries, written_as}
+use Rattle.oidc_id_token_claims.proofs.FieldsBack.{entries, written_as}
 
 integer_free : (z : ℤ) → is_float (of_integer z) ≡ false
 integer_free (pos n) = refl

@@ -2,9 +2,10 @@ mod ReadSteps
 mod Homes
 mod OneHome
 mod Passing
+mod PartsKept
 mod Entries
-mod OwnRule
-mod OwnBack
+mod FieldsRule
+mod FieldsBack
 mod ClaimsBack
 mod FloatFree
 pub mod Theorems

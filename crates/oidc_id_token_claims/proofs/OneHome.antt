@@ -12,8 +12,8 @@ use Rattle.oidc_claims.specs.Seen.{SeenClaims}
 use Rattle.oidc_claims.specs.Home.{id_token_fields, home_by, is_additional_home}
 use Rattle.oidc_claims.specs.Standard.{faultless_claims}
 use Rattle.oidc_claims.proofs.Theorems.{standard_name, is_claim, narrowed, standard_same}
-use Rattle.oidc_id_token_claims.specs.OwnClaims.{SeenOwnClaims, own_of, needed_of}
-use Rattle.oidc_id_token_claims.specs.IdTokenClaims.{SeenIdTokenClaims, is_own_field, additional_members, id_token_rule, parts_in, id_token_claims_of}
+use Rattle.oidc_id_token_claims.specs.TokenFields.{SeenOwnClaims, own_of, needed_of}
+use Rattle.oidc_id_token_claims.specs.IdTokenClaims.{SeenIdTokenClaims, additional_members, id_token_rule, parts_in, id_token_claims_of}
 use Rattle.oidc_id_token_claims.specs.Homes.{is_field, is_standard, HasOneHome, AcceptedHaveOneHome}
 
 -- ---- one home
@@ -39,34 +39,42 @@ homes_by true false apart = refl
 homes_by false true apart = refl
 homes_by false false apart = refl
 
-one_home : (m : SeenMember) → HasOneHome m
-one_home m =
-    subst (λ standard. count_by (λ b. b) (is_field m ∷ is_standard m ∷ is_additional_home (home_by (is_field m) standard) ∷ []) ≡ 1) (sym (is_claim m))
-    (homes_by (is_field m) (is_standard m) (λ h. no_claim id_token_fields m.name refl h))
+-- where no field has the name of a claim, as none of an ID token or of user info has
+pub one_home : (fields : List (List ℕ)) → list_all (λ field. not (standard_name field)) fields ≡ true → (m : SeenMember) → HasOneHome fields m
+one_home fields apart m =
+    subst (λ standard. count_by (λ b. b) (is_field fields m ∷ is_standard m ∷ is_additional_home (home_by (is_field fields m) standard) ∷ []) ≡ 1) (sym (is_claim m))
+    (homes_by (is_field fields m) (is_standard m) (λ h. no_claim fields m.name apart h))
 
--- ---- the own fields
+-- ---- the fields
 
-within_fields : (name : List ℕ) → is_own_field name ≡ true → (m : SeenMember) → bytes_eq m.name name ≡ true → is_field m ≡ true
-within_fields name known m h = ap is_own_field ((bytes_eq-Decides m.name name).0 h) ∙ known
+abbrev pub is_field_name : List (List ℕ) → List ℕ → Bool
+is_field_name fields name = list_any (λ field. bytes_eq field name) fields
+
+within_fields : (fields : List (List ℕ)) (name : List ℕ) → is_field_name fields name ≡ true → (m : SeenMember) → bytes_eq m.name name ≡ true → is_field fields m ≡ true
+within_fields fields name known m h = ap (is_field_name fields) ((bytes_eq-Decides m.name name).0 h) ∙ known
+
+-- of the members of one field none is left out
+pub field_same : (fields : List (List ℕ)) (ms : List SeenMember) (name : List ℕ) → is_field_name fields name ≡ true → filter (λ m. bytes_eq m.name name) (filter (is_field fields) ms) ≡ filter (λ m. bytes_eq m.name name) ms
+field_same fields ms name known = narrowed (λ m. bytes_eq m.name name) (is_field fields) (within_fields fields name known) ms
 
 module _ (ms : List SeenMember) where
-  pub field_same : (name : List ℕ) → is_own_field name ≡ true → filter (λ m. bytes_eq m.name name) (filter is_field ms) ≡ filter (λ m. bytes_eq m.name name) ms
-  field_same name known = narrowed (λ m. bytes_eq m.name name) is_field (within_fields name known) ms
+  own_field_same : (name : List ℕ) → is_field_name id_token_fields name ≡ true → filter (λ m. bytes_eq m.name name) (filter (is_field id_token_fields) ms) ≡ filter (λ m. bytes_eq m.name name) ms
+  own_field_same = field_same id_token_fields ms
 
-  pub own_same : own_of (filter is_field ms) ≡ own_of ms
+  pub own_same : own_of (filter (is_field id_token_fields) ms) ≡ own_of ms
   unfolding own_of needed_of
   own_same = rw (
-    field_same (codes "iss") refl,
-    field_same (codes "aud") refl,
-    field_same (codes "exp") refl,
-    field_same (codes "iat") refl,
-    field_same (codes "auth_time") refl,
-    field_same (codes "nonce") refl,
-    field_same (codes "acr") refl,
-    field_same (codes "amr") refl,
-    field_same (codes "azp") refl,
-    field_same (codes "at_hash") refl,
-    field_same (codes "c_hash") refl,
+    own_field_same (codes "iss") refl,
+    own_field_same (codes "aud") refl,
+    own_field_same (codes "exp") refl,
+    own_field_same (codes "iat") refl,
+    own_field_same (codes "auth_time") refl,
+    own_field_same (codes "nonce") refl,
+    own_field_same (codes "acr") refl,
+    own_field_same (codes "amr") refl,
+    own_field_same (codes "azp") refl,
+    own_field_same (codes "at_hash") refl,
+    own_field_same (codes "c_hash") refl,
   ) refl
 
 -- ---- accepted claims
@@ -115,7 +123,7 @@ module _ {AC GC : Type 0} (additional_read : List SeenMember → Result AC Refus
   accepted_homes members claims h =
       let parts = accepted_parts members claims h in
       record {
-        homes = λ k d within. one_home (slice_index_or members k d);
+        homes = λ k d within. one_home id_token_fields refl (slice_index_or members k d);
         own = own_same members ∙ parts.0;
         standard = standard_same gender_read members ∙ parts.1;
         additional = parts.2;

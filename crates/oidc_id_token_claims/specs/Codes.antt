@@ -4,7 +4,7 @@ use Rattle.std.specs.Coded.{Coded, code_by, coded×, coded_option, coded_list, c
 use Rattle.oidc_types.specs.UrlText.{TextAndUrl, text_and_url_code}
 use Rattle.oidc_claims.specs.Seen.{SeenClaims}
 use Rattle.oidc_claims.specs.SeenCode.{seen_claims_code}
-use Rattle.oidc_id_token_claims.specs.OwnClaims.{SeenOwnClaims, Needed}
+use Rattle.oidc_id_token_claims.specs.TokenFields.{SeenOwnClaims, Needed}
 use Rattle.oidc_id_token_claims.specs.IdTokenClaims.{SeenIdTokenClaims}
 
 abbrev text_code : Coded (List ℕ)

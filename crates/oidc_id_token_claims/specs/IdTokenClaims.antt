@@ -11,7 +11,7 @@ use Rattle.oidc_claims.specs.Claims.{fault_at}
 use Rattle.oidc_claims.specs.Standard.{faultless_claims}
 use Rattle.oidc_claims.specs.Home.{home_of, is_additional_home, id_token_fields}
 use Rattle.oidc_claims.specs.Write.{written}
-use Rattle.oidc_id_token_claims.specs.OwnClaims.{SeenOwnClaims, own_rule, own_of, own_members}
+use Rattle.oidc_id_token_claims.specs.TokenFields.{SeenOwnClaims, own_rule, own_of, own_members}
 
 pub record SeenIdTokenClaims (AC GC : Type 0) : Type 0 where
   pub own : SeenOwnClaims

@@ -1,6 +1,6 @@
 -- In reading order: the fields of an ID token that are no standard claims; all its claims, read and written;
 -- which read back; homes of members; what a `&mut` to the additional claims leaves.
-pub mod OwnClaims
+pub mod TokenFields
 pub mod IdTokenClaims
 pub mod RoundTrip
 pub mod Homes
@@ -9,5 +9,5 @@ pub mod Lending
 pub use Rattle.oidc_members.specs.Answers
 pub use Rattle.oidc_members.specs.Seen
 -- what no public clause cites
-pub mod OwnFields
+pub mod FieldSlots
 pub mod Codes

@@ -8,12 +8,12 @@ ghost use Rattle.oidc_members.specs.Write.{any_float};
 ghost use Rattle.oidc_readers.specs.WrittenBack.{IsUtf8Member};
 ghost use Rattle.oidc_claims.specs.Reader.{reader_of};
 ghost use Rattle.oidc_id_token_claims.specs.IdTokenClaims as spec;
-ghost use Rattle.oidc_id_token_claims.specs.OwnFields.{own_fields};
-ghost use Rattle.oidc_id_token_claims.specs.RoundTrip.{IsInRange, GivesClaims};
+ghost use Rattle.oidc_id_token_claims.specs.FieldSlots.{own_fields};
+ghost use Rattle.oidc_id_token_claims.specs.RoundTrip.{IsTokenInRange, GivesTokenClaims};
 
 use crate::additional::read_additional;
-use crate::own::{OwnClaims, OwnFields};
-use crate::written::own_members;
+use crate::token_fields::{OwnClaims, OwnFields};
+use crate::written_fields::own_members;
 use jiff::Timestamp;
 use oidc_claims::{AdditionalClaims, ClaimsReader, GenderClaim, StandardClaims, write_standard};
 use oidc_jwt::Payload;
@@ -400,8 +400,8 @@ impl<AC: AdditionalClaims, GC: GenderClaim> Payload for IdTokenClaims<AC, GC> {
         ensures texts { IfOk result (λ out. All IsUtf8Member out.items) }
         ensures no_float { any_float (AC.write_of self.now.additional_claims) ≡ false
             → IfOk result (λ out. any_float out.items ≡ false) }
-        ensures reads_back { IsInRange AC.write_of self.now
-            → IfOk result (λ out. GivesClaims AC.read_of GC.read_of out.items self.now) }
+        ensures reads_back { IsTokenInRange AC.write_of self.now
+            → IfOk result (λ out. GivesTokenClaims AC.read_of GC.read_of out.items self.now) }
     {
         let out = self.as_members(alloc)?;
         Ok(out)

@@ -13,9 +13,9 @@ pub fn claims_one_home<AC: AdditionalClaims, GC: GenderClaim>()
     ensures { AcceptedHaveOneHome AC.read_of GC.read_of }
 {}
 
-/// Claims of an ID token that are written as an object's text are read back from it as equal claims, where
-/// they are in range and the written texts are UTF-8. That they are is a clause of
-/// [`IdTokenClaims`](crate::IdTokenClaims)'s `write`, which carries the whole round trip too.
+/// Claims of an ID token that are in range, and whose written texts are UTF-8, are read back from the object's
+/// text as equal claims. That the texts are UTF-8 is a clause of [`IdTokenClaims`](crate::IdTokenClaims)'s
+/// `write`, which carries the whole round trip too.
 pub fn written_claims_read_back<AC: AdditionalClaims, GC: GenderClaim>()
     ensures { WrittenReadBack AC.read_of AC.write_of GC.read_of GC.write_of }
 {}

@@ -3,7 +3,7 @@
 //!
 //! - [`IdTokenClaims`] are fields of the token's own, the standard claims, and additional claims of a caller's
 //!   type. They are a [`Payload`](oidc_jwt::Payload) of a JSON Web Token.
-//! - [`members`] has the members that are additional, and the writers of members.
+//! - [`additional_copies`] are the members that are neither a field nor a standard claim.
 //! - [`laws`] says what holds of the claims as a whole.
 //!
 //! What it promises. Claims are read as `id_token_claims_of` says: each member is judged against all that stand
@@ -16,11 +16,11 @@
 #![tactic(auto)]
 
 mod additional;
-pub mod claims;
+mod claims;
 pub mod laws;
-pub mod members;
-mod own;
 mod standard;
-mod written;
+mod token_fields;
+mod written_fields;
 
+pub use crate::additional::additional_copies;
 pub use crate::claims::IdTokenClaims;

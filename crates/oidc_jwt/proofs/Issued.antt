@@ -1,7 +1,6 @@
 -- A token that is issued is read back.
-use Rattle.std.proofs.Common.{◌≡◌, ℕ, ◌==◌, List, [], ◌∷◌, ◌++◌, map, Result, Ok, refl, ap, ◌∙◌, All, append_assoc}
+use Rattle.std.proofs.Common.{◌≡◌, ℕ, ◌==◌, List, [], ◌∷◌, ◌++◌, map, Some, Result, Ok, refl, ap, ◌∙◌, All, append_assoc}
 use Rattle.std.specs.List.{slice_split}
-use Rattle.std.specs.Option.{ok_or}
 use Rattle.std.proofs.lemmas.List.Splits.{slice_split_at, slice_split_none}
 use Rattle.oidc_members.specs.Seen.{SeenMember, OutSeen}
 use Rattle.oidc_members.specs.Objects.{loose_members_of, members_or_refusal, split_of}
@@ -10,7 +9,7 @@ use Rattle.oidc_members.specs.declared.refusal.Refusal.{Refusal}
 use Rattle.oidc_readers.specs.WrittenBack.{MayStand, MayBeWritten, IsUtf8Member, as_read}
 use Rattle.oidc_readers.specs.Records.{◌>>=◌}
 use Rattle.oidc_readers.proofs.Theorems.{written_split_back}
-use Rattle.oidc_jwt.specs.Tokens.{three, no_token, parts_of, bytes_of, payload_in}
+use Rattle.oidc_jwt.specs.Tokens.{three, three_parts, object_read}
 use Rattle.oidc_jwt.specs.Encoded.{Encodes}
 use Rattle.oidc_jwt.specs.Issuing.{ComesBack}
 
@@ -26,13 +25,9 @@ module _ (x y z h p s : List ℕ) (head : Encodes x h) (body : Encodes y p) (las
       ∙ slice_split_at (λ b. b == 46) x 46 (y ++ 46 ∷ z) head.undotted refl
       ∙ ap (λ l. x ∷ l) (slice_split_at (λ b. b == 46) y 46 z body.undotted refl ∙ ap (λ l. y ∷ l) (slice_split_none (λ b. b == 46) z last.undotted))
 
-  pub parts_again : parts_of put_together ≡ Ok (record { header = x; payload = y; signature = z })
-  unfolding parts_of
-  parts_again = ap (λ pieces. ok_or (three pieces) no_token) split
-
-  pub bytes_again : bytes_of (record { header = x; payload = y; signature = z }) ≡ Ok (record { header = h; payload = p; signature = s })
-  unfolding bytes_of
-  bytes_again = rw (head.back, body.back, last.back) refl
+  pub parts_again : three_parts put_together ≡ Some (record { header = x; payload = y; signature = z })
+  unfolding three_parts
+  parts_again = ap three split
 
 -- ---- an object that was written
 
@@ -44,7 +39,6 @@ pub may_be_written : (members : List OutSeen) → All (λ (m : OutSeen). MayStan
 may_be_written members values texts = λ k d within. record { texts = texts k d within; value = values k d within }
 
 module _ {P : Type 0} (payload_read : List SeenMember → Result P Refusal) (payload_out : P → List OutSeen) (payload : P) where
-  pub payload_again : ComesBack payload_read payload_out payload → All IsUtf8Member (payload_out payload) → payload_in payload_read (object_text (payload_out payload)) ≡ Ok payload
-  unfolding payload_in
+  pub payload_again : ComesBack payload_read payload_out payload → All IsUtf8Member (payload_out payload) → object_read payload_read (object_text (payload_out payload)) ≡ Ok payload
   payload_again back texts =
       ap (λ o. o >>= payload_read) (split_again (payload_out payload) (may_be_written (payload_out payload) back.values texts)) ∙ back.same texts

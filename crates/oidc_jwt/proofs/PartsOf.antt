@@ -14,7 +14,9 @@ use Rattle.std.proofs.lemmas.Str.{IsCharBoundary-before_ascii}
 use Rattle.oidc_members.specs.Seen.{SeenMember}
 use Rattle.oidc_members.specs.declared.refusal.Refusal.{Refusal}
 use Rattle.oidc_readers.specs.Records.{◌>>=◌}
-use Rattle.oidc_jwt.specs.Tokens.{Parts, Contents, three, parts_of, no_token, message_in, contents_of, token_of}
+use Rattle.oidc_jwt.specs.declared.header.TokenHeader.{TokenHeader}
+use Rattle.oidc_jwt.specs.Header.{header_of}
+use Rattle.oidc_jwt.specs.Tokens.{Parts, three, three_parts, no_token, decoded, object_read, token_of}
 
 abbrev pub pieces : List ℕ → List (List ℕ)
 pieces text = slice_split (λ b. b == 46) text
@@ -46,22 +48,22 @@ three_back (a ∷ b ∷ c ∷ []) p h = cc
 three_back (a ∷ b ∷ c ∷ d ∷ more) p h = absurd cc
 
 -- a text that has parts is its parts, joined by dots
-pub pieces_of : (text : List ℕ) (p : Parts) → parts_of text ≡ Ok p → pieces text ≡ p.header ∷ p.payload ∷ p.signature ∷ []
-unfolding parts_of
+pub pieces_of : (text : List ℕ) (p : Parts) → ok_or (three_parts text) no_token ≡ Ok p → pieces text ≡ p.header ∷ p.payload ∷ p.signature ∷ []
+unfolding three_parts
 pieces_of text p h = three_back (pieces text) p h
 
-pub joined : (text : List ℕ) (p : Parts) → parts_of text ≡ Ok p → text ≡ (p.header ++ 46 ∷ p.payload) ++ 46 ∷ p.signature
+pub joined : (text : List ℕ) (p : Parts) → ok_or (three_parts text) no_token ≡ Ok p → text ≡ (p.header ++ 46 ∷ p.payload) ++ 46 ∷ p.signature
 joined text p h =
     sym (join_with_byte-slice_split 46 text) ∙ ap (join_with_byte 46) (pieces_of text p h) ∙ sym (append_assoc p.header (46 ∷ p.payload) (46 ∷ p.signature))
 
 -- the message stands before the last dot
-pub message_before : (text : List ℕ) (p : Parts) → parts_of text ≡ Ok p → take (length p.header + 1 + length p.payload) text ≡ message_in p
+pub message_before : (text : List ℕ) (p : Parts) → ok_or (three_parts text) no_token ≡ Ok p → take (length p.header + 1 + length p.payload) text ≡ p.header ++ 46 ∷ [] ++ p.payload
 message_before text p h =
     ap (take (length p.header + 1 + length p.payload)) (joined text p h)
     ∙ take_at (p.header ++ 46 ∷ p.payload) (46 ∷ p.signature) _ (omega (arith, length-append {A = ℕ}))
     ∙ sym (append_assoc p.header (46 ∷ []) p.payload)
 
-pub message_bounded : (text : List ℕ) (p : Parts) → parts_of text ≡ Ok p → IsCharBoundary text (length p.header + 1 + length p.payload)
+pub message_bounded : (text : List ℕ) (p : Parts) → ok_or (three_parts text) no_token ≡ Ok p → IsCharBoundary text (length p.header + 1 + length p.payload)
 message_bounded text p h =
     let j = joined text p h in
     let n : length (p.header ++ 46 ∷ p.payload) ≡ length p.header + 1 + length p.payload = omega (arith, length-append {A = ℕ}) in
@@ -72,12 +74,12 @@ message_bounded text p h =
     ∙ get_or-append_seam (p.header ++ 46 ∷ p.payload) 46 p.signature 0 in
     IsCharBoundary-before_ascii text _ within (omega (arith, dot))
 
-module _ {JE JS P : Type 0} (encrypts : List ℕ → Option JE) (signs : List ℕ → Option JS) (payload_read : List SeenMember → Result P Refusal) where
+module _ {JE JS P : Type 0} (encryption_named : List ℕ → Option JE) (signing_named : List ℕ → Option JS) (payload_read : List SeenMember → Result P Refusal) where
   -- what is read of a text's parts is the token of the text
-  pub token_back : (text given : List ℕ) (n : ℕ) (p : Parts) (x : Contents JE JS P) → given ≡ text → n ≡ length p.header + 1 + length p.payload
-      → parts_of text ≡ Ok p → contents_of encrypts signs payload_read p ≡ Ok x
-      → token_of encrypts signs payload_read text ≡ Ok (record { text = given; header = x.header; payload = x.payload; message = take n given; signature = x.signature })
+  pub token_back : (text given : List ℕ) (n : ℕ) (p : Parts) (first second signature : List ℕ) (header : TokenHeader JE JS) (payload : P) → given ≡ text → n ≡ length p.header + 1 + length p.payload
+      → ok_or (three_parts text) no_token ≡ Ok p → decoded p.header ≡ Ok first → decoded p.payload ≡ Ok second → decoded p.signature ≡ Ok signature
+      → object_read (header_of encryption_named signing_named) first ≡ Ok header → object_read payload_read second ≡ Ok payload
+      → token_of encryption_named signing_named payload_read text ≡ Ok (record { text = given; header = header; payload = payload; message = take n given; signature = signature })
   unfolding token_of
-  token_back text given n p x is len parts said =
-      rw (is, len, message_before text p parts)
-      (rw parts (ap (λ o. o >>= λ x. Ok (record { text = text; header = x.header; payload = x.payload; message = message_in p; signature = x.signature })) said))
+  token_back text given n p first second signature header payload is len parts one two three said read =
+      rw (is, len, message_before text p parts, parts, one, two, three, said, read) refl

@@ -1,15 +1,15 @@
 -- The text of a token that is issued is read as that token.
-use Rattle.std.proofs.Common.{◌≡◌, ℕ, List, [], ◌∷◌, ◌++◌, Option, Result, Ok, codes, refl, ap, ◌∙◌, All, append_assoc}
+use Rattle.std.proofs.Common.{◌≡◌, ℕ, List, [], ◌∷◌, ◌++◌, Option, Some, Result, Ok, codes, refl, ap, ◌∙◌, All, append_assoc}
 use Rattle.oidc_members.specs.Seen.{SeenMember, OutSeen}
 use Rattle.oidc_members.specs.Write.{object_text}
 use Rattle.oidc_members.specs.declared.refusal.Refusal.{Refusal}
 use Rattle.oidc_readers.specs.Records.{◌>>=◌}
 use Rattle.oidc_readers.specs.WrittenBack.{IsUtf8Member}
 use Rattle.oidc_jwt.specs.Header.{written_header}
-use Rattle.oidc_jwt.specs.Tokens.{parts_of, contents_of, token_of}
+use Rattle.oidc_jwt.specs.Tokens.{Parts, three_parts, token_of}
 use Rattle.oidc_jwt.specs.Encoded.{Encodes, IsMessage}
 use Rattle.oidc_jwt.specs.Issuing.{ComesBack, IsNamed, signed_with, message_of}
-use Rattle.oidc_jwt.proofs.Issued.{parts_again, bytes_again, payload_again}
+use Rattle.oidc_jwt.proofs.Issued.{parts_again, payload_again}
 use Rattle.oidc_jwt.proofs.HeaderBack.{header_again}
 
 -- a message is the one of its header and its payload
@@ -18,38 +18,32 @@ message_is message header payload m = m.joined ∙ (λ i. m.head.same i ++ codes
 
 module _
     {JE JS P : Type 0}
-    (encrypts : List ℕ → Option JE)
-    (signs : List ℕ → Option JS)
+    (encryption_named : List ℕ → Option JE)
+    (signing_named : List ℕ → Option JS)
     (payload_read : List SeenMember → Result P Refusal)
     (payload_out : P → List OutSeen)
     (alg_text : JS → List ℕ)
     (alg : JS)
     (id : Option (List ℕ))
     (payload : P)
-    (named : IsNamed alg_text signs alg)
+    (named : IsNamed alg_text signing_named alg)
     (back : ComesBack payload_read payload_out payload)
     (header_texts : All IsUtf8Member (written_header (alg_text alg) id))
     (payload_texts : All IsUtf8Member (payload_out payload)) where
-  contents_again : (x y z h p s : List ℕ) (head : Encodes x h) (body : Encodes y p) (last : Encodes z s) → h ≡ object_text (written_header (alg_text alg) id) → p ≡ object_text (payload_out payload)
-      → contents_of encrypts signs payload_read (record { header = x; payload = y; signature = z }) ≡ Ok (record { header = signed_with alg id; payload = payload; signature = s })
-  unfolding contents_of
-  contents_again x y z h p s head body last is_h is_p =
-      rw (
-        bytes_again x y z h p s head body last,
-        is_h,
-        is_p,
-        header_again encrypts signs (alg_text alg) alg named.signs named.read_back id header_texts,
-        payload_again payload_read payload_out payload back payload_texts,
-      ) refl
-
   pub token_again : (text message z signature : List ℕ) → IsMessage message (object_text (written_header (alg_text alg) id)) (object_text (payload_out payload)) → Encodes z signature
       → text ≡ message ++ codes "." ++ z
-      → token_of encrypts signs payload_read text ≡ Ok (record { text = text; header = signed_with alg id; payload = payload; message = message; signature = signature })
+      → token_of encryption_named signing_named payload_read text ≡ Ok (record { text = text; header = signed_with alg id; payload = payload; message = message; signature = signature })
   unfolding token_of
   token_again text message z signature m last is =
       let whole : message ≡ m.first ++ 46 ∷ m.second = m.joined ∙ append_assoc m.first (46 ∷ []) m.second in
       let joined : text ≡ (m.first ++ 46 ∷ m.second) ++ 46 ∷ z = is ∙ append_assoc message (46 ∷ []) z ∙ ap (λ t. t ++ 46 ∷ z) whole in
-      let parts : parts_of text ≡ Ok (record { header = m.first; payload = m.second; signature = z }) = ap parts_of joined ∙ parts_again m.first m.second z _ _ signature m.head m.body last in
-      rw (m.joined, parts)
-      (ap (λ o. o >>= λ x. Ok (record { text = text; header = x.header; payload = x.payload; message = m.first ++ codes "." ++ m.second; signature = x.signature }))
-      (contents_again m.first m.second z _ _ signature m.head m.body last refl refl))
+      let parts : three_parts text ≡ Some (record { header = m.first; payload = m.second; signature = z }) = ap three_parts joined ∙ parts_again m.first m.second z _ _ signature m.head m.body last in
+      rw (
+        m.joined,
+        parts,
+        m.head.back,
+        m.body.back,
+        last.back,
+        header_again encryption_named signing_named (alg_text alg) alg named.other_than_none named.read_back id header_texts,
+        payload_again payload_read payload_out payload back payload_texts,
+      ) refl

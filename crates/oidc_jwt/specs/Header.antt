@@ -33,12 +33,15 @@ kid = field (codes "kid") (or_null text_kind)
 abbrev pub crit : Field (Option Present)
 crit = field (codes "crit") (or_null (any_kind (record {})))
 
-module _ {JE JS : Type 0} (encrypts : List ℕ → Option JE) (signs : List ℕ → Option JS) where
+module _ {JE JS : Type 0} (encryption_named : List ℕ → Option JE)
+    (signing_named : List ℕ → Option JS) where
   -- the text `none`, else the text of an algorithm that signs, else of one that encrypts content
   abbrev pub algorithm_named : List ℕ → Option (JsonWebTokenAlgorithm JE JS)
   algorithm_named text =
       if bytes_eq text (codes "none") then Some algorithm.None
-      else option_or (option_map algorithm.Signature (signs text)) (option_map algorithm.Encryption (encrypts text))
+      else option_or
+      (option_map algorithm.Signature (signing_named text))
+      (option_map algorithm.Encryption (encryption_named text))
 
   abbrev pub algorithm_kind : Kind (JsonWebTokenAlgorithm JE JS)
   algorithm_kind m = text_kind m >>= λ text. ok_or (algorithm_named text) (of_member Algorithm m)

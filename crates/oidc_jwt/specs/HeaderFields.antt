@@ -7,8 +7,8 @@ use Rattle.oidc_jwt.specs.Header.{alg, typ, cty, kid, crit}
 
 abbrev pub header_fields : {JE JS : Type 0} → (List ℕ → Option JE) → (List ℕ → Option JS)
     → List SeenMember → HeaderFields JE JS
-header_fields encrypts signs members = record {
-  alg = slot (alg encrypts signs) members;
+header_fields encryption_named signing_named members = record {
+  alg = slot (alg encryption_named signing_named) members;
   typ = slot typ members;
   cty = slot cty members;
   kid = slot kid members;

@@ -84,11 +84,11 @@ abbrev pub issue_error : SigningError → JsonWebTokenError
 issue_error signing.Memory = token_error.Memory
 issue_error refusal = token_error.SigningError refusal
 
--- An algorithm whose text is read as it, and isn't `none`.
-pub record IsNamed {JS : Type 0} (text_of : JS → List ℕ) (word_of : List ℕ → Option JS) (alg : JS)
-    : Type 0 where
-  pub read_back : word_of (text_of alg) ≡ Some alg
-  pub signs : text_of alg ≢ codes "none"
+-- An algorithm whose text names it, and isn't `none`.
+pub record IsNamed {JS : Type 0} (text_of : JS → List ℕ) (signing_named : List ℕ → Option JS)
+    (alg : JS) : Type 0 where
+  pub read_back : signing_named (text_of alg) ≡ Some alg
+  pub other_than_none : text_of alg ≢ codes "none"
 
 -- What is written may stand in an object, and reads back where its texts are UTF-8, as a program's are.
 pub record ComesBack {P : Type 0} (payload_read : List SeenMember → Result P Refusal)

@@ -20,16 +20,11 @@ pub record SeenToken (JE JS P : Type 0) : Type 0 where
   pub message : List ℕ
   pub signature : List ℕ
 
--- ---- its three parts
-
+-- the parts of a token, as they stand in its text
 pub record Parts : Type 0 where
   pub header : List ℕ
   pub payload : List ℕ
   pub signature : List ℕ
-
--- a text that is no token, which names no field
-abbrev pub no_token : Refusal
-no_token = of_text Token
 
 -- exactly three
 abbrev pub three : List (List ℕ) → Option Parts
@@ -37,60 +32,37 @@ three (header ∷ payload ∷ signature ∷ []) = Some (record { header = header
 three pieces = None
 
 -- the parts between the dots of a text
-unfoldable pub parts_of : List ℕ → Result Parts Refusal
-parts_of text = ok_or (three (slice_split (λ b. b == 46) text)) no_token
+unfoldable pub three_parts : List ℕ → Option Parts
+three_parts text = three (slice_split (λ b. b == 46) text)
 
--- the bytes of a part: base64url without padding, strictly (RFC 7515 section 2, RFC 4648 sections 3.5 and 5)
+-- a text that is no token, which names no field
+abbrev pub no_token : Refusal
+no_token = of_text Token
+
+-- what a part encodes: base64url without padding, strictly (RFC 7515 section 2, RFC 4648 sections 3.5 and 5)
 abbrev pub decoded : List ℕ → Result (List ℕ) Refusal
 decoded part = ok_or (decoded_of url_safe_no_pad part) no_token
 
-unfoldable pub bytes_of : Parts → Result Parts Refusal
-bytes_of parts = do
-  header ← decoded parts.header
-  payload ← decoded parts.payload
-  signature ← decoded parts.signature
-  Ok (record { header = header; payload = payload; signature = signature })
+-- what is read of an object, given as its text
+abbrev pub object_read : {A : Type 0} → (List SeenMember → Result A Refusal) → List ℕ → Result A Refusal
+object_read reads text = split_of text >>= reads
 
--- the message that is signed: the first two parts as they stand, with the dot between them (section 5.1)
-abbrev pub message_in : Parts → List ℕ
-message_in parts = parts.header ++ codes "." ++ parts.payload
-
--- ---- what they hold
-
--- the header that some bytes are
-unfoldable pub header_in : {JE JS : Type 0} → (List ℕ → Option JE) → (List ℕ → Option JS) → List ℕ
-    → Result (TokenHeader JE JS) Refusal
-header_in encrypts signs bytes = split_of bytes >>= header_of encrypts signs
-
--- the payload that some bytes are
-unfoldable pub payload_in : {P : Type 0} → (List SeenMember → Result P Refusal) → List ℕ → Result P Refusal
-payload_in payload_read bytes = split_of bytes >>= payload_read
-
-pub record Contents (JE JS P : Type 0) : Type 0 where
-  pub header : TokenHeader JE JS
-  pub payload : P
-  pub signature : List ℕ
-
-module _ {JE JS P : Type 0} (encrypts : List ℕ → Option JE) (signs : List ℕ → Option JS)
+module _ {JE JS P : Type 0} (encryption_named : List ℕ → Option JE) (signing_named : List ℕ → Option JS)
     (payload_read : List SeenMember → Result P Refusal) where
-  -- A refusal of the parts' encoding comes first, then one of the header, then one of the payload.
-  unfoldable pub contents_of : Parts → Result (Contents JE JS P) Refusal
-  contents_of parts = do
-    bytes ← bytes_of parts
-    header ← header_in encrypts signs bytes.header
-    payload ← payload_in payload_read bytes.payload
-    Ok (record { header = header; payload = payload; signature = bytes.signature })
-
-  -- ---- the token of a text
-
+  -- Every part is decoded before the header is read, and the header is read before the payload. The message
+  -- that is signed is the first two parts as they stand, with the dot between them (RFC 7515 section 5.1).
   unfoldable pub token_of : List ℕ → Result (SeenToken JE JS P) Refusal
   token_of text = do
-    parts ← parts_of text
-    said ← contents_of parts
+    parts ← ok_or (three_parts text) no_token
+    first ← decoded parts.header
+    second ← decoded parts.payload
+    signature ← decoded parts.signature
+    header ← object_read (header_of encryption_named signing_named) first
+    payload ← object_read payload_read second
     Ok (record {
       text = text;
-      header = said.header;
-      payload = said.payload;
-      message = message_in parts;
-      signature = said.signature;
+      header = header;
+      payload = payload;
+      message = parts.header ++ codes "." ++ parts.payload;
+      signature = signature;
     })

@@ -8,9 +8,10 @@ ghost use Rattle.oidc_readers.specs.WrittenBack.{IsUtf8Member};
 ghost use Rattle.oidc_jwt.specs.Header as spec;
 ghost use Rattle.oidc_jwt.specs.HeaderFields.{header_fields};
 
-use crate::members::push_text;
 use oidc_members::{FieldName, Member, Members, OutMember, ParseError, ParseKind};
-use oidc_readers::{FieldValue, MemberReader, Once, Present, read_fields, refused};
+use oidc_readers::{
+    FieldValue, MemberReader, Once, Present, put_optional_text, put_text, read_fields, refused,
+};
 use oidc_types::{ClosedVocabulary, JsonWebKeyId};
 use std::alloc::{AllocError, Global};
 
@@ -144,8 +145,8 @@ pub(crate) fn header_members(
     ensures texts { IfOk result (λ members. All IsUtf8Member members.items) }
 {
     let mut members = Vec::new(alloc);
-    push_text(alloc, &mut members, "alg", Some(alg))?;
-    push_text(alloc, &mut members, "kid", text_of(key_id))?;
+    put_text(alloc, &mut members, "alg", alg)?;
+    put_optional_text(alloc, &mut members, "kid", text_of(key_id))?;
     Ok(members)
 }
 

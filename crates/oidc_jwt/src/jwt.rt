@@ -12,13 +12,12 @@ ghost use Rattle.oidc_jwt.specs.Issuing as issuing;
 ghost use Rattle.oidc_jwt.specs.Issuing.{Issues, IsRefusedBy, IsNamed, ComesBack};
 
 use crate::header::{JsonWebTokenAlgorithm, TokenHeader, header_members};
-use crate::parts::{Contents, contents_of, parts_of};
+use crate::parts::{decoded, header_in, parts_of, payload_in};
 use crate::payload::Payload;
 use base64::engine::general_purpose::URL_SAFE_NO_PAD;
 use oidc_keys::{JsonWebKey, PrivateSigningKey};
 use oidc_members::{OutMember, ParseError, write_object};
-use oidc_oauth2::Body;
-use oidc_types::{ClosedVocabulary, JsonWebKeyId, JwsSigningAlgorithm, SigningError};
+use oidc_types::{Body, ClosedVocabulary, JsonWebKeyId, JwsSigningAlgorithm, SigningError};
 use std::alloc::{AllocError, Global};
 use std::marker::Model;
 use thiserror::Error;
@@ -149,22 +148,17 @@ impl<JE: ClosedVocabulary, JS: ClosedVocabulary, P: Payload> JsonWebToken<JE, JS
         ensures answer { Answers (token_of JE.from_str JS.from_str P.read_of text.now) result }
     {
         let parts = parts_of(alloc, text)?;
-        let contents = match contents_of::<JE, JS, P>(alloc, &parts) {
-            Ok(contents) => contents,
-            Err(error) => return Err(error),
-        };
+        let first = decoded(alloc, parts.header)?;
+        let second = decoded(alloc, parts.payload)?;
+        let signature = decoded(alloc, parts.signature)?;
         let text = String::from_str(alloc, text)?;
-        let message_len = parts.message_len();
-        let Contents {
-            header,
-            payload,
-            signature,
-        } = contents;
+        let header = header_in(alloc, first.as_slice())?;
+        let payload = payload_in(alloc, second.as_slice())?;
         Ok(JsonWebToken {
             text,
             header,
             payload,
-            message_len,
+            message_len: parts.message_len(),
             signature,
         })
     }
@@ -212,7 +206,8 @@ impl<JE: ClosedVocabulary, JS: JwsSigningAlgorithm, P: Payload> JsonWebToken<JE,
     ///
     /// Where the payload's values hold no float, the whole token or refusal is the one that `issued` says.
     /// Whatever they hold, it is refused as the signer refuses a message with the token's header, or as
-    /// `Memory`.
+    /// `Memory`. Its text is read back as this token where the algorithm is read back from its own text,
+    /// which isn't `none`, and the payload's members are read back as the payload.
     pub fn new<S: PrivateSigningKey>(
         alloc: Global,
         payload: P,
@@ -240,7 +235,7 @@ impl<JE: ClosedVocabulary, JS: JwsSigningAlgorithm, P: Payload> JsonWebToken<JE,
             let header = written_header (JS.as_ref alg.now) key_id in
             IfErr result (IsRefusedBy header (S.signs key.now alg.now)) }
 
-        // What is issued is read back.
+        // What is issued is read back, where its algorithm and its payload are.
         ensures reads_back { IsNamed JS.as_ref JS.from_str alg.now
             → ComesBack P.read_of P.write_of payload
             → IfOk result (λ token.

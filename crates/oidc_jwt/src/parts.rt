@@ -1,31 +1,27 @@
-// The three parts of a token (RFC 7515 section 7.1), taken apart and put together.
+// The three parts of a token's text (RFC 7515 section 7.1), and what they encode.
 
-ghost use Rattle.std.specs.Prelude.{◌≡◌, ◌==◌, ◌+◌, ◌∷◌, [], length, IfOk, IfSome, IsNone, None, Err};
+ghost use Rattle.std.specs.Prelude.{◌≡◌, ◌==◌, ◌+◌, ◌∷◌, [], length, IfSome, IsNone, None};
 ghost use Rattle.std.specs.List.{slice_split};
-ghost use Rattle.std.specs.Option.{option_map_or};
-ghost use Rattle.std.specs.String.{string_bytes};
+ghost use Rattle.std.specs.Option.{ok_or, option_map_or};
 ghost use Rattle.oidc_members.specs.Answers.{Answers};
+ghost use Rattle.oidc_jwt.specs.Header.{header_of};
 ghost use Rattle.oidc_jwt.specs.Tokens as spec;
-ghost use Rattle.oidc_jwt.specs.Tokens.{header_in as header_that_is, payload_in as payload_that_is};
 
 use crate::header::TokenHeader;
 use crate::payload::Payload;
 use base64::DecodeAllocError;
 use base64::engine::general_purpose::URL_SAFE_NO_PAD;
 use oidc_members::{Members, ParseError, ParseKind, Refusal};
-use oidc_oauth2::Body;
-use oidc_types::ClosedVocabulary;
+use oidc_types::{Body, ClosedVocabulary};
 use std::alloc::Global;
 use std::marker::Model;
 
-// ---- the parts as they stand
-
-// The parts of a text.
+// The parts as they stand.
 #[derive(Drop)]
 pub(crate) struct Parts<'a> {
-    header: &'a str,
-    payload: &'a str,
-    signature: &'a str,
+    pub(crate) header: &'a str,
+    pub(crate) payload: &'a str,
+    pub(crate) signature: &'a str,
 }
 
 impl<'a> Model for Parts<'a> {
@@ -93,9 +89,9 @@ fn no_token(alloc: Global) -> ParseError
 }
 
 // The parts of a text, which has to have three.
-#[tactic(auto, unfolding(crate::specs::Tokens::parts_of))]
+#[tactic(auto, unfolding(crate::specs::Tokens::three_parts))]
 pub(crate) fn parts_of(alloc: Global, text: &str) -> Result<Parts<'_>, ParseError>
-    ensures { Answers (spec.parts_of text.now) result }
+    ensures { Answers (ok_or (spec.three_parts text.now) spec.no_token) result }
 {
     match three_parts(text) {
         Some(parts) => Ok(parts),
@@ -103,11 +99,9 @@ pub(crate) fn parts_of(alloc: Global, text: &str) -> Result<Parts<'_>, ParseErro
     }
 }
 
-// ---- their bytes
-
 // The bytes of a part, where it is strict base64url without padding.
 #[tactic(auto, unfolding(base64::specs::GeneralPurpose::decoded_of))]
-fn decoded(alloc: Global, part: &str) -> Result<Body, ParseError>
+pub(crate) fn decoded(alloc: Global, part: &str) -> Result<Body, ParseError>
     ensures { Answers (spec.decoded part.now) result }
 {
     match URL_SAFE_NO_PAD.decode(alloc, part.as_bytes()) {
@@ -117,117 +111,21 @@ fn decoded(alloc: Global, part: &str) -> Result<Body, ParseError>
     }
 }
 
-// What the parts of a text encode.
-#[derive(Drop)]
-struct PartBytes {
-    header: Body,
-    payload: Body,
-    signature: Body,
-}
-
-impl Model for PartBytes {
-    ghost use Rattle.oidc_jwt.specs.Tokens.{Parts};
-
-    ghost Value = { Parts };
-
-    ghost view = { λ b. record {
-      header = b.header;
-      payload = b.payload;
-      signature = b.signature;
-    } };
-}
-
-impl PartBytes {
-    fn header(&self) -> &[u8]
-        ensures { result.now ≡ self.now.header }
-    {
-        self.header.as_slice()
-    }
-
-    fn payload(&self) -> &[u8]
-        ensures { result.now ≡ self.now.payload }
-    {
-        self.payload.as_slice()
-    }
-
-    fn into_signature(self) -> Body
-        ensures { result ≡ self.signature }
-    {
-        self.signature
-    }
-}
-
-// The bytes of each part.
-#[tactic(auto, unfolding(crate::specs::Tokens::bytes_of))]
-fn bytes_of(alloc: Global, parts: &Parts<'_>) -> Result<PartBytes, ParseError>
-    ensures { Answers (spec.bytes_of parts.now) result }
-{
-    let header = decoded(alloc, parts.header)?;
-    let payload = decoded(alloc, parts.payload)?;
-    let signature = decoded(alloc, parts.signature)?;
-    Ok(PartBytes {
-        header,
-        payload,
-        signature,
-    })
-}
-
-// ---- what they hold
-
 // The header that some bytes are.
-#[tactic(auto, unfolding(crate::specs::Tokens::header_in))]
-fn header_in<JE: ClosedVocabulary, JS: ClosedVocabulary>(
+pub(crate) fn header_in<JE: ClosedVocabulary, JS: ClosedVocabulary>(
     alloc: Global,
     bytes: &[u8],
 ) -> Result<TokenHeader<JE, JS>, ParseError>
-    ensures { Answers (header_that_is JE.from_str JS.from_str bytes.now) result }
+    ensures { Answers (spec.object_read (header_of JE.from_str JS.from_str) bytes.now) result }
 {
     let members = Members::split(alloc, bytes)?;
     TokenHeader::read(alloc, &members)
 }
 
 // The payload that some bytes are.
-#[tactic(auto, unfolding(crate::specs::Tokens::payload_in))]
-fn payload_in<P: Payload>(alloc: Global, bytes: &[u8]) -> Result<P, ParseError>
-    ensures { Answers (payload_that_is P.read_of bytes.now) result }
+pub(crate) fn payload_in<P: Payload>(alloc: Global, bytes: &[u8]) -> Result<P, ParseError>
+    ensures { Answers (spec.object_read P.read_of bytes.now) result }
 {
     let members = Members::split(alloc, bytes)?;
     P::read(alloc, &members)
-}
-
-// What the parts of a text say.
-#[derive(Drop)]
-pub(crate) struct Contents<JE, JS, P> {
-    pub(crate) header: TokenHeader<JE, JS>,
-    pub(crate) payload: P,
-    pub(crate) signature: Body,
-}
-
-impl<JE, JS, P> Model for Contents<JE, JS, P> {
-    ghost use Rattle.oidc_jwt.specs.Tokens.{Contents as SeenContents};
-
-    ghost Value = { SeenContents JE JS P };
-
-    ghost view = { λ c. record {
-      header = c.header;
-      payload = c.payload;
-      signature = c.signature;
-    } };
-}
-
-#[tactic(auto, unfolding(crate::specs::Tokens::contents_of))]
-pub(crate) fn contents_of<JE: ClosedVocabulary, JS: ClosedVocabulary, P: Payload>(
-    alloc: Global,
-    parts: &Parts<'_>,
-) -> Result<Contents<JE, JS, P>, ParseError>
-    ensures { Answers (spec.contents_of JE.from_str JS.from_str P.read_of parts.now) result }
-{
-    let bytes = bytes_of(alloc, parts)?;
-    let header = header_in(alloc, bytes.header())?;
-    let payload = payload_in(alloc, bytes.payload())?;
-    Ok(Contents {
-        header,
-        payload,
-        signature: bytes.into_signature(),
-    })
 }

@@ -4,7 +4,8 @@ use Rattle.std.proofs.Common.{◌≡◌, ℕ, List, Bool, true, false, Result, O
 use Rattle.oidc_oauth2.specs.Messages.{SeenResponse}
 use Rattle.oidc_oauth2.specs.ErrorResponse.{SeenError, error_response_of}
 use Rattle.oidc_oauth2.specs.Words.{error_of}
-use Rattle.oidc_oauth2.specs.TokenAnswers.{◌>>◌, ◌when◌, ◌or_as◌, is_over_long, token_answer, Gives as GivesTokens}
+use Rattle.oidc_oauth2.specs.Replies.{◌>>◌, ◌when◌, ◌or_as◌, Gives}
+use Rattle.oidc_oauth2.specs.TokenAnswers.{is_over_long, token_answer, token_errors}
 use Rattle.oidc_oauth2.specs.declared.error_types.CoreErrorResponseType.{CoreErrorResponseType}
 use Rattle.oidc_oauth2.specs.declared.token_answers.RequestTokenError.{RequestTokenError}
 use Rattle.oidc_oauth2.specs.declared.token_answers.RequestTokenError.TheVariants as token
@@ -12,7 +13,7 @@ use Rattle.oidc_oauth2.specs.AnswerCauses.{HoldsTokens, StatusCause}
 use Rattle.oidc_oauth2.proofs.Theorems.{IsJudged, status_worth-judged, StatusRests, status-rests, tokens_worth, refusal_worth}
 use Rattle.oidc_login.specs.SiteTypes.{SiteTypes}
 use Rattle.oidc_login.specs.TokenResponse.{Tokens, TokenError, error_read, tokens_read, tokens_or_refusal}
-use Rattle.oidc_login.specs.Errors.{Gives, faulted, spent_of}
+use Rattle.oidc_login.specs.Errors.{login_errors, faulted, spent_of}
 use Rattle.oidc_login.specs.Steps.{of_token}
 use Rattle.oidc_login.specs.Rows.{Meant, tokens_in}
 use Rattle.oidc_login.specs.declared.errors.TooLong.TheVariants as place
@@ -51,7 +52,7 @@ module _ {T : Type 0} where
 
   module _ {E : Type 0} where
     err_row : (long : Bool) (body : List ℕ) (meant : Result T TokenError) (e : RequestTokenError E CoreError) → IsJudged T CoreError meant
-        → GivesTokens {A = T} (Err e) (sized long body meant) → Gives {A = T} (Err (of_token e)) (row long meant)
+        → Gives token_errors {A = T} (Err e) (sized long body meant) → Gives login_errors {A = T} (Err (of_token e)) (row long meant)
     err_row long body meant (token.ServerResponse error) own is = own_row long body meant _ (λ same. cc) is
     err_row long body meant (token.Request cause) own is = absurd (never_fault long body meant own is)
     err_row long body meant (token.Parse refusal text) own is = own_row long body meant _ (λ same. cc) is
@@ -60,7 +61,7 @@ module _ {T : Type 0} where
     err_row long body meant token.Memory own is = tt
 
     no_fault : (long : Bool) (body : List ℕ) (meant : Result T TokenError) (e : RequestTokenError E CoreError) → IsJudged T CoreError meant
-        → GivesTokens {A = T} (Err e) (sized long body meant) → faulted (of_token e) ≡ false
+        → Gives token_errors {A = T} (Err e) (sized long body meant) → faulted (of_token e) ≡ false
     no_fault long body meant (token.ServerResponse error) own is = refl
     no_fault long body meant (token.Request cause) own is = absurd (never_fault long body meant own is)
     no_fault long body meant (token.Parse refusal text) own is = refl
@@ -103,9 +104,9 @@ module _ {AC GC Key Use : Type 0} (types : SiteTypes AC GC Key Use) (r : SeenRes
 
   module _ {E : Type 0} where
     abbrev Answered : Result (Tokens AC GC) (RequestTokenError E CoreError) → Type 0
-    Answered result = GivesTokens result (token_answer (error_response_of error_of) (tokens_read types) r)
+    Answered result = Gives token_errors result (token_answer (error_response_of error_of) (tokens_read types) r)
 
-    pub refusal_given : (e : RequestTokenError E CoreError) → Answered (Err e) → Gives {A = Tokens AC GC} (Err (of_token e)) (tokens_in types r)
+    pub refusal_given : (e : RequestTokenError E CoreError) → Answered (Err e) → Gives login_errors {A = Tokens AC GC} (Err (of_token e)) (tokens_in types r)
     unfolding token_answer tokens_in tokens_or_refusal
     refusal_given e is = err_row (is_over_long r.body) r.body (tokens_or_refusal types r) e judged is
 

@@ -6,17 +6,17 @@ use Rattle.oidc_types.specs.{TextAndUrl}
 use Rattle.oidc_oauth2.specs.Messages.{SeenRequest}
 use Rattle.oidc_oauth2.specs.HttpUtils.{bearer_of}
 use Rattle.oidc_oauth2.specs.Requests.{is_address}
-use Rattle.oidc_oauth2.specs.TokenAnswers.{◌>>=◌, ◌>>◌, ◌when◌}
+use Rattle.oidc_oauth2.specs.Replies.{◌>>=◌, ◌>>◌, ◌when◌, ◌or◌}
 use Rattle.oidc_user_info.specs.InfoRequests.{SeenInfoRequest, get_with, info_request}
 use Rattle.oidc_user_info.specs.declared.errors.InfoOther.TheVariants as info_other
 use Rattle.oidc_user_info.specs.declared.errors.PrepareInfoError.TheVariants.{Bearer, Uri, Memory}
 use Rattle.oidc_user_info.specs.declared.errors.UserInfoError.TheVariants as info_error
 use Rattle.oidc_client.specs.Client.{info_request_at}
-use Rattle.oidc_login.specs.Client.{SeenClient}
+use Rattle.oidc_login.specs.Client.{SeenLoginClient}
 use Rattle.oidc_login.specs.IdTokens.{subject_of}
 use Rattle.oidc_login.specs.SignedIn.{SeenSignedIn}
 use Rattle.oidc_login.specs.UserInfo.{demanded, info_ask}
-use Rattle.oidc_login.specs.Rows.{Meant, ◌or◌, SeenAsked, prepared, asking}
+use Rattle.oidc_login.specs.Rows.{Meant, SeenAsked, prepared, asking}
 use Rattle.oidc_login.specs.declared.demand.UserInfoDemand.{UserInfoDemand}
 use Rattle.oidc_login.specs.declared.errors.LoginError.TheVariants.{UserInfo}
 
@@ -64,7 +64,7 @@ module _ {Key : Type 0} (ask : SeenInfoRequest Key) where
 
 -- ---- what is asked of a client
 
-module _ {Key : Type 0} (client : SeenClient Key) (demand : UserInfoDemand) (token subject : List ℕ) where
+module _ {Key : Type 0} (client : SeenLoginClient Key) (demand : UserInfoDemand) (token subject : List ℕ) where
   none_by : (endpoint : Option TextAndUrl) → option_map (λ e. demanded demand (info_request_at client token (Some subject) e)) endpoint ≡ None → endpoint ≡ None
   none_by None is = refl
   none_by (Some e) is = cc
@@ -98,7 +98,7 @@ module _ {Key : Type 0} (client : SeenClient Key) (demand : UserInfoDemand) (tok
 
 -- ---- the step before the request
 
-module _ {AC GC Key : Type 0} (client : SeenClient Key) (demand : UserInfoDemand) (user : SeenSignedIn AC GC) where
+module _ {AC GC Key : Type 0} (client : SeenLoginClient Key) (demand : UserInfoDemand) (user : SeenSignedIn AC GC) where
   abbrev uri_missing : Option (SeenInfoRequest Key) → Meant (SeenAsked Key)
   uri_missing o = (o or UserInfo (info_error.Other info_other.Uri)) >>= prepared
 

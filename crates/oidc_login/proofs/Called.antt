@@ -9,6 +9,7 @@ use Rattle.oidc_types.specs.declared.core_algorithms.CoreJwsSigningAlgorithm.{Co
 use Rattle.oidc_types.specs.declared.signing_error.SigningError.{SigningError}
 use Rattle.oidc_types.specs.declared.signing_error.SigningError.TheVariants as signing
 use Rattle.oidc_oauth2.specs.Messages.{SeenAnswer}
+use Rattle.oidc_oauth2.specs.Replies.{Unless, OrMemory, Gives}
 use Rattle.oidc_oauth2.specs.Exchanges.{Known}
 use Rattle.oidc_oauth2.specs.TokenAnswers.{is_over_long}
 use Rattle.oidc_oauth2.specs.ErrorResponse.{SeenError}
@@ -32,9 +33,9 @@ use Rattle.oidc_login.specs.Logins.{SeenLogin}
 use Rattle.oidc_login.specs.IdTokens.{subject_of, verifier_of, IsAcceptedBy}
 use Rattle.oidc_login.specs.TokenHash.{FitsHash, HasOwnHash}
 use Rattle.oidc_login.specs.SignedIn.{SeenSignedIn}
-use Rattle.oidc_login.specs.Errors.{Error, seen, memory_of, is_wanting, hides_memory, Unless, OrMemory, Gives}
+use Rattle.oidc_login.specs.Errors.{Error, seen, wants_memory, is_wanting, hides_memory, login_errors}
 use Rattle.oidc_login.specs.Rows.{Attempt, login_named_by, rest_of}
-use Rattle.oidc_login.specs.Causes.{HasError, LacksCode, HasNoRequest, Held, HoldsInfo, HasInfo, IsSignedIn, InfoCause, Cause}
+use Rattle.oidc_login.specs.Causes.{HasError, LacksCode, HasNoRequest, Held, HoldsInfo, HasInfo, IsSignedIn, UserInfoCause, Cause}
 use Rattle.oidc_login.specs.Runs.{Ran}
 use Rattle.oidc_login.specs.declared.errors.LoginError.{LoginError}
 use Rattle.oidc_login.specs.declared.errors.LoginError.TheVariants as login
@@ -62,14 +63,14 @@ module _ {A : Type 0} where
   same_refusal : (x y : Error) → ◌≡◌ {A = Result A Error} (Err x) (Err y) → x ≡ y
   same_refusal x y e = ap (λ r. elim r as (λ _. Error) [ Ok signed ↦ x | Err z ↦ z ]) e
 
-unless_state : {E : Type 0} (A : Type 0) (memory : Option Bool) (e : LoginError E) → Unless memory (◌≡◌ {A = Result A Error} (Err login.State) (Err (seen e)))
+unless_state : {E : Type 0} (A : Type 0) (memory : Bool) (e : LoginError E) → Unless memory (◌≡◌ {A = Result A Error} (Err login.State) (Err (seen e)))
     → Unless memory (◌≡◌ {A = Result A (LoginError E)} (Err e) (Err login.State))
-unless_state A (Some spent) e is = tt
-unless_state A None e is = ap Err (is_state e (same_refusal {A = A} _ _ is))
+unless_state A true e is = tt
+unless_state A false e is = ap Err (is_state e (same_refusal {A = A} _ _ is))
 
-given_state : {A E : Type 0} (result : Result A (LoginError E)) → Gives result (Err login.State) → OrMemory result (result ≡ Err login.State)
+given_state : {A E : Type 0} (result : Result A (LoginError E)) → Gives login_errors result (Err login.State) → OrMemory login_errors result (result ≡ Err login.State)
 given_state (Ok signed) gives = cc
-given_state {A = A} (Err e) gives = unless_state A (memory_of e) e gives
+given_state {A = A} (Err e) gives = unless_state A (wants_memory e) e gives
 
 -- ---- user info is about the ID token's subject
 
@@ -175,9 +176,9 @@ module _ {AC GC Key Use : Type 0} (types : SiteTypes AC GC Key Use) (a : Attempt
 
   module _ {E : Type 0} (old new : Known) (result : Result (SeenSignedIn AC GC) (LoginError E)) (ran : Ran types a old new result) where
     abbrev HasCause : Result (SeenSignedIn AC GC) (LoginError E) → Type 0
-    HasCause r = IfErr r (λ e. Unless (memory_of e) (Cause types a ran.answers (seen e)))
+    HasCause r = IfErr r (λ e. Unless (wants_memory e) (Cause types a ran.exchanged.answers (seen e)))
 
-    caused : (e : LoginError E) → result ≡ Err e → Unless (memory_of e) (Cause types a ran.answers (seen e))
+    caused : (e : LoginError E) → result ≡ Err e → Unless (wants_memory e) (Cause types a ran.exchanged.answers (seen e))
     caused e is = subst HasCause is ran.cause
 
     pub too_long_of : result ≡ Err (login.TooLong place.Callback) → is_over_long a.query ≡ true
@@ -186,58 +187,58 @@ module _ {AC GC Key Use : Type 0} (types : SiteTypes AC GC Key Use) (a : Attempt
     pub state_of : result ≡ Err login.State → login_named_by a.pending (pairs a.query) ≡ None
     state_of is = (caused login.State is).none_named
 
-    pub no_state_of : is_over_long a.query ≡ false → login_named_by a.pending (pairs a.query) ≡ None → OrMemory result (result ≡ Err login.State)
+    pub no_state_of : is_over_long a.query ≡ false → login_named_by a.pending (pairs a.query) ≡ None → OrMemory login_errors result (result ≡ Err login.State)
     no_state_of short none = given_state result (ran.refused login.State (record { short_query = short; none_named = none }))
 
     pub provider_of : (code : CoreAuthErrorResponseType) → result ≡ Err (login.Provider code) → HasError a code
     provider_of code is = caused (login.Provider code) is
 
-    pub error_given : (code : CoreAuthErrorResponseType) → HasError a code → Gives result (Err (login.Provider code))
+    pub error_given : (code : CoreAuthErrorResponseType) → HasError a code → Gives login_errors result (Err (login.Provider code))
     error_given code cause = ran.refused (login.Provider code) cause
 
     pub callback_of : result ≡ Err login.Callback → LacksCode a
     callback_of is = caused login.Callback is
 
-    pub no_code_given : LacksCode a → Gives result (Err login.Callback)
+    pub no_code_given : LacksCode a → Gives login_errors result (Err login.Callback)
     no_code_given cause = ran.refused login.Callback cause
 
     pub uri_of : result ≡ Err (login.Token (token_error.Other other.Uri)) → HasNoRequest a
     uri_of is = caused (login.Token (token_error.Other other.Uri)) is
 
-    pub no_address_given : HasNoRequest a → Gives result (Err (login.Token (token_error.Other other.Uri)))
+    pub no_address_given : HasNoRequest a → Gives login_errors result (Err (login.Token (token_error.Other other.Uri)))
     no_address_given cause = ran.refused (login.Token (token_error.Other other.Uri)) cause
 
     -- ---- of an Ok
 
-    signs : {P : SeenSignedIn AC GC → Type 0} → ((signed : SeenSignedIn AC GC) → IsSignedIn types a ran.answers signed → P signed)
-        → (r : Result (SeenSignedIn AC GC) (LoginError E)) → IfOk r (IsSignedIn types a ran.answers) → IfOk r P
+    signs : {P : SeenSignedIn AC GC → Type 0} → ((signed : SeenSignedIn AC GC) → IsSignedIn types a ran.exchanged.answers signed → P signed)
+        → (r : Result (SeenSignedIn AC GC) (LoginError E)) → IfOk r (IsSignedIn types a ran.exchanged.answers) → IfOk r P
     signs f (Ok signed) is = f signed is
     signs f (Err e) is = tt
 
-    signs_on : {P : Type 0} → ((signed : SeenSignedIn AC GC) → IsSignedIn types a ran.answers signed → P)
-        → (r : Result (SeenSignedIn AC GC) (LoginError E)) → IfOk r (IsSignedIn types a ran.answers) → OnOk r P
+    signs_on : {P : Type 0} → ((signed : SeenSignedIn AC GC) → IsSignedIn types a ran.exchanged.answers signed → P)
+        → (r : Result (SeenSignedIn AC GC) (LoginError E)) → IfOk r (IsSignedIn types a ran.exchanged.answers) → OnOk r P
     signs_on f (Ok signed) is = f signed is
     signs_on f (Err e) is = tt
 
     pub ok_named : OnOk result (IsSome (login_named_by a.pending (pairs a.query)))
-    ok_named = signs_on (named ran.answers) result ran.signed_in
+    ok_named = signs_on (named ran.exchanged.answers) result ran.signed_in
 
     pub ok_accepted : IfOk result (λ signed. IsSomeAnd (login_named_by a.pending (pairs a.query)) (λ l. IsAcceptedBy types a.client l.nonce a.now signed.id_token))
-    ok_accepted = signs (accepted ran.answers) result ran.signed_in
+    ok_accepted = signs (accepted ran.exchanged.answers) result ran.signed_in
 
     pub ok_hash : IfOk result (λ signed. HasOwnHash types a.client signed.id_token signed.access_token)
-    ok_hash = signs (hash ran.answers) result ran.signed_in
+    ok_hash = signs (hash ran.exchanged.answers) result ran.signed_in
 
     pub ok_user_info : IfOk result (λ signed. IsSomeAnd (login_named_by a.pending (pairs a.query)) (λ l. is_some signed.user_info ≡ is_some l.user_info))
-    ok_user_info = signs (info_there ran.answers) result ran.signed_in
+    ok_user_info = signs (info_there ran.exchanged.answers) result ran.signed_in
 
     pub ok_subject : IfOk result (λ signed. IfSome signed.user_info (λ x. x.standard_claims.subject ≡ subject_of signed.id_token))
-    ok_subject = signs (subject ran.answers) result ran.signed_in
+    ok_subject = signs (subject ran.exchanged.answers) result ran.signed_in
 
     -- ---- no refusal has want of memory inside
 
     module _ (law : NeverWants types) where
-      token_hides : (e : RequestTokenError E (SeenError CoreErrorResponseType)) → Cause types a ran.answers (seen (login.Token e)) → hides_memory (login.Token e) ≡ false
+      token_hides : (e : RequestTokenError E (SeenError CoreErrorResponseType)) → Cause types a ran.exchanged.answers (seen (login.Token e)) → hides_memory (login.Token e) ≡ false
       token_hides (token_error.ServerResponse error) c = refl
       token_hides (token_error.Request cause) c = refl
       token_hides (token_error.Parse refusal body) c = refl
@@ -245,8 +246,8 @@ module _ {AC GC Key Use : Type 0} (types : SiteTypes AC GC Key Use) (a : Attempt
       token_hides (token_error.TooLong body) c = absurd c
       token_hides token_error.Memory c = absurd c
 
-      info_hides : (e : UserInfoError E) → InfoCause types a ran.answers (seen_info e) → hides_memory (login.UserInfo e) ≡ false
-      info_hides (info_error.ClaimsVerification kind) c = caused_wanted c.ask (rest_of ran.answers) kind c.cause
+      info_hides : (e : UserInfoError E) → UserInfoCause types a ran.exchanged.answers (seen_info e) → hides_memory (login.UserInfo e) ≡ false
+      info_hides (info_error.ClaimsVerification kind) c = caused_wanted c.ask (rest_of ran.exchanged.answers) kind c.cause
       info_hides (info_error.Parse refusal) c = refl
       info_hides (info_error.Request cause) c = refl
       info_hides (info_error.Response status body cause) c = refl
@@ -260,7 +261,7 @@ module _ {AC GC Key Use : Type 0} (types : SiteTypes AC GC Key Use) (a : Attempt
       signing_hides (signing.Other name) text is = refl
       signing_hides signing.Memory text is = cc
 
-      hides : (e : LoginError E) → Unless (memory_of e) (Cause types a ran.answers (seen e)) → hides_memory e ≡ false
+      hides : (e : LoginError E) → Unless (wants_memory e) (Cause types a ran.exchanged.answers (seen e)) → hides_memory e ≡ false
       hides (login.TooLong at) c = refl
       hides login.State c = refl
       hides (login.Provider code) c = refl

@@ -6,8 +6,9 @@ use Rattle.oidc_types.specs.{signing_text}
 use Rattle.oidc_types.specs.declared.signing_error.SigningError.TheVariants.{UnsupportedAlg}
 use Rattle.oidc_pairs.specs.Pairs.{pairs}
 use Rattle.oidc_oauth2.specs.Messages.{SeenRequest, SeenResponse, SeenAnswer}
-use Rattle.oidc_oauth2.specs.Transport.{first_of}
-use Rattle.oidc_oauth2.specs.TokenAnswers.{◌>>=◌, ◌>>◌, ◌when◌, ◌or_as◌, is_over_long}
+use Rattle.oidc_oauth2.specs.Transport.{first_answer}
+use Rattle.oidc_oauth2.specs.Replies.{◌>>=◌, ◌>>◌, ◌when◌, ◌for◌, ◌or◌, ◌or_as◌}
+use Rattle.oidc_oauth2.specs.TokenAnswers.{is_over_long}
 use Rattle.oidc_oauth2.specs.declared.token_answers.OtherCause.TheVariants as other
 use Rattle.oidc_oauth2.specs.declared.token_answers.RequestTokenError.TheVariants as token_error
 use Rattle.oidc_tokens.specs.declared.verification.refusals.ClaimsVerificationError.{ClaimsVerificationError}
@@ -26,8 +27,8 @@ use Rattle.oidc_login.specs.IdTokens.{subject_of, verifier_of, failure_for}
 use Rattle.oidc_login.specs.TokenHash.{claimed_hash, hash_beside}
 use Rattle.oidc_login.specs.SignedIn.{SeenSignedIn, signed_by}
 use Rattle.oidc_login.specs.Errors.{Error}
-use Rattle.oidc_login.specs.Rows.{Attempt, Meant, ◌or◌, ◌for◌, SeenOpened, SeenAsked, rest_of, opening_by, opening, tokens_in, hash_rows, accepting, signing_in, after_token, prepared, asking, info_in, after_info, asked_run, info_run, token_run, opened_run, outcome}
-use Rattle.oidc_login.specs.Causes.{Asks, Reads, Held, Holds, Accepted, own_hash, Fits, Demands, AsksInfo, HasInfo, HoldsInfo, IsSignedIn, HasNoTokens, HasNoInfo, HasNoInfoAddress, LacksEndpoint, TooLongCause, TokenCause, InfoCause, Cause}
+use Rattle.oidc_login.specs.Rows.{Attempt, Meant, SeenOpened, SeenAsked, rest_of, opening_by, opening, tokens_in, hash_rows, accepting, signing_in, after_token, prepared, asking, info_in, after_info, asked_run, info_run, token_run, opened_run, outcome}
+use Rattle.oidc_login.specs.Causes.{Asks, Reads, Held, Holds, Accepted, own_hash, Fits, Demands, AsksInfo, HasInfo, HoldsInfo, IsSignedIn, HasNoTokens, HasNoInfo, HasNoInfoAddress, LacksEndpoint, TooLongCause, TokenCause, UserInfoCause, Cause}
 use Rattle.oidc_login.specs.declared.errors.TooLong.{TooLong}
 use Rattle.oidc_login.specs.declared.errors.TooLong.TheVariants as place
 use Rattle.oidc_login.specs.declared.errors.LoginError.TheVariants as login
@@ -59,7 +60,7 @@ module _ {AC GC Key Use : Type 0} (types : SiteTypes AC GC Key Use) (a : Attempt
       read_further h.names.short_query (Ok (record { login = l; request = r })) (rw (h.names.login_named, h.no_error, h.one_code, asked.request_made) refl)
 
   abbrev next : SeenLogin → Meant (SeenSignedIn AC GC)
-  next l = after_token types a.client a.now l (first_of answers)
+  next l = after_token types a.client a.now l (first_answer answers)
 
   -- the reply, once the token request was made
   behind_request : (l : SeenLogin) (r : SeenRequest) → Asks a l r → reply ≡ (token_run types a.client l (rest_of answers) (next l)).reply
@@ -69,7 +70,7 @@ module _ {AC GC Key Use : Type 0} (types : SiteTypes AC GC Key Use) (a : Attempt
   token_refused l r e asked is = behind_request l r asked ∙ ap (λ m. (token_run types a.client l (rest_of answers) m).reply) is
 
   -- by what its response holds
-  next_response : (l : SeenLogin) (response : SeenResponse) (m : Meant (Tokens AC GC)) → first_of answers ≡ Some response → tokens_in types response ≡ m
+  next_response : (l : SeenLogin) (response : SeenResponse) (m : Meant (Tokens AC GC)) → first_answer answers ≡ Some response → tokens_in types response ≡ m
       → next l ≡ (m >>= λ tokens. signing_in types a.client a.now l tokens)
   unfolding after_token
   next_response l response m came is =
@@ -152,14 +153,14 @@ module _ {AC GC Key Use : Type 0} (types : SiteTypes AC GC Key Use) (a : Attempt
       ∙ ap (λ m. asked_reply h ((m or_as (λ e. login.UserInfo (unmade e))) >>= λ request. Ok (record { ask = ask; request = request }))) is
 
   behind_info_request : (h : Held AC GC) (ask : SeenInfoRequest Key) (r : SeenRequest) → AsksInfo types a answers h ask r
-      → reply ≡ after_info types ask.demand (user_of h) (first_of (rest_of answers))
+      → reply ≡ after_info types ask.demand (user_of h) (first_answer (rest_of answers))
   behind_info_request h ask r asked =
       behind_ask h ask asked.demands
       ∙ ap (λ m. asked_reply h ((m or_as (λ e. login.UserInfo (unmade e))) >>= λ request. Ok (record { ask = ask; request = request }))) asked.request_made
 
   -- by what its response holds
   info_reply : (h : Held AC GC) (ask : SeenInfoRequest Key) (r : SeenRequest) (response : SeenResponse) (m : Meant (SeenUserInfoClaims AC GC)) → AsksInfo types a answers h ask r
-      → first_of (rest_of answers) ≡ Some response → info_in types ask.demand response ≡ m → reply ≡ (m >>= λ found. Ok (record (user_of h) { user_info = Some found }))
+      → first_answer (rest_of answers) ≡ Some response → info_in types ask.demand response ≡ m → reply ≡ (m >>= λ found. Ok (record (user_of h) { user_info = Some found }))
   unfolding after_info
   info_reply h ask r response m asked came is =
       behind_info_request h ask r asked
@@ -213,7 +214,7 @@ module _ {AC GC Key Use : Type 0} (types : SiteTypes AC GC Key Use) (a : Attempt
   endpoint_row n =
       behind_demand n.held n.fits n.demand n.demanded ∙ ap (asked_reply n.held) (asking_nowhere a.client n.demand (user_of n.held) n.no_endpoint)
 
-  info_row : (e : InfoRefusal) → InfoCause types a answers e → reply ≡ Err (login.UserInfo e)
+  info_row : (e : InfoRefusal) → UserInfoCause types a answers e → reply ≡ Err (login.UserInfo e)
   unfolding after_info
   info_row (info_error.Other info_other.Bearer) c =
       let d = c.demands in

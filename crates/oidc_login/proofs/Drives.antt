@@ -1,74 +1,53 @@
 -- A callback, return by return: what was handed over, and which reply and requests are meant.
 use Rattle.std.proofs.Common.{◌≡◌, ℕ, ℤ, zero, suc, List, [], ◌∷◌, ◌++◌, length, take, drop, Bool, true, Option, None, Some, Result, Ok, Err, refl, sym, ap, subst, ◌∙◌, ◌≤◌, lit≤, arith, append-nil, append_assoc, inl, inr, ⊎_elim}
 use Rattle.std.specs.Prelude.{◌⊎◌, IfOk, IfErr, IsOk, OnOk}
+use Rattle.oidc_oauth2.specs.Replies.{Unless, OrMemory, Gives}
 use Rattle.oidc_oauth2.specs.Messages.{SeenRequest, SeenAnswer}
-use Rattle.oidc_oauth2.specs.Transport.{Log, log_after, first_of, Plays}
-use Rattle.oidc_oauth2.specs.Exchanges.{Known}
+use Rattle.oidc_oauth2.specs.Transport.{Log, log_after, first_answer, Plays}
+use Rattle.oidc_oauth2.specs.Exchanges.{Known, Exchanged, Follows}
+use Rattle.oidc_oauth2.proofs.Runs.{unless_map, or_map, or_known, settled}
 use Rattle.oidc_user_info.specs.InfoRequests.{SeenInfoRequest}
-use Rattle.oidc_login.specs.Client.{SeenClient}
+use Rattle.oidc_login.specs.Client.{SeenLoginClient}
 use Rattle.oidc_login.specs.SiteTypes.{SiteTypes}
 use Rattle.oidc_login.specs.Logins.{SeenLogin}
 use Rattle.oidc_login.specs.SignedIn.{SeenSignedIn, signed_by}
-use Rattle.oidc_login.specs.Errors.{Error, seen, memory_of, Unless, OrMemory, Gives}
-use Rattle.oidc_login.specs.Rows.{Attempt, Meant, SeenOpened, SeenAsked, Run, rest_of, preceded_by, answered_alone, opening, after_token, asking, after_info, asked_run, info_run, token_run, opened_run, outcome}
+use Rattle.oidc_login.specs.Errors.{Error, seen, wants_memory, login_errors}
+use Rattle.oidc_login.specs.Rows.{Attempt, Meant, SeenOpened, SeenAsked, LoginRun, rest_of, preceded_by, answered_alone, opening, after_token, asking, after_info, asked_run, info_run, token_run, opened_run, outcome}
 use Rattle.oidc_login.specs.Causes.{Asks, AsksNothing, Held, Cause, IsSignedIn}
 use Rattle.oidc_login.specs.Runs.{IsItsRequest, AreBothRequests, AreItsRequests, handed_over, Ran}
-use Rattle.oidc_login.specs.Steps.{Exchanged, Untouched, Follows}
 use Rattle.oidc_login.specs.declared.demand.UserInfoDemand.{UserInfoDemand}
 use Rattle.oidc_login.specs.declared.errors.LoginError.{LoginError}
-use Rattle.oidc_login.specs.declared.errors.LoginError.TheVariants.{Memory}
 use Rattle.oidc_login.proofs.Walks.{Walk}
 use Rattle.oidc_login.proofs.NoMemory.{NeverWants}
 use Rattle.oidc_login.proofs.Rows as rows
 use Rattle.oidc_login.proofs.Causes as causes
 use Rattle.oidc_login.proofs.Valid.{signed_of_valid}
 
--- ---- what is meant, or want of memory: an Ok, a refusal, and Memory, and no other cases
+-- ---- what is meant, or want of memory
 
-pub unless_map : {P R : Type 0} (memory : Option Bool) → (P → R) → Unless memory P → Unless memory R
-unless_map (Some spent) f h = tt
-unless_map None f h = f h
-
-whatever : {P : Type 0} (memory : Option Bool) → P → Unless memory P
-whatever (Some spent) p = tt
-whatever None p = p
-
-pub either : {A E P : Type 0} (result : Result A (LoginError E)) → P → OrMemory result P
-either (Ok x) p = p
-either (Err e) p = whatever (memory_of e) p
-
-or_map : {A E P R : Type 0} (result : Result A (LoginError E)) → (P → R) → OrMemory result P → OrMemory result R
-or_map (Ok x) f h = f h
-or_map (Err e) f h = unless_map (memory_of e) f h
+pub either : {A E P : Type 0} (result : Result A (LoginError E)) → P → OrMemory login_errors result P
+either result p = or_known login_errors result p
 
 -- what a meant result has, a result has
 walked_err : {A E : Type 0} (P : A → Type 0) (Q : Error → Type 0) (result : Result A (LoginError E)) (meant : Meant A)
-    → Walk P Q meant → Gives result meant → IfErr result (λ e. Unless (memory_of e) (Q (seen e)))
+    → Walk P Q meant → Gives login_errors result meant → IfErr result (λ e. Unless (wants_memory e) (Q (seen e)))
 walked_err P Q (Ok x) meant walk gives = tt
-walked_err P Q (Err e) meant walk gives = unless_map (memory_of e) (λ is. subst (Walk P Q) is walk) gives
+walked_err P Q (Err e) meant walk gives = unless_map (wants_memory e) (λ is. subst (Walk P Q) is walk) gives
 
 walked_ok : {A E : Type 0} (P : A → Type 0) (Q : Error → Type 0) (result : Result A (LoginError E)) (meant : Meant A)
-    → Walk P Q meant → Gives result meant → IfOk result P
+    → Walk P Q meant → Gives login_errors result meant → IfOk result P
 walked_ok P Q (Ok x) meant walk gives = subst (Walk P Q) gives walk
 walked_ok P Q (Err e) meant walk gives = tt
 
-meant_ok : {A E : Type 0} (result : Result A (LoginError E)) (x : A) → Gives result (Ok x) → OrMemory result (IsOk result)
+meant_ok : {A E : Type 0} (result : Result A (LoginError E)) (x : A) → Gives login_errors result (Ok x) → OrMemory login_errors result (IsOk result)
 meant_ok (Ok y) x gives = refl
-meant_ok (Err e) x gives = unless_map (memory_of e) (λ is. cc) gives
+meant_ok (Err e) x gives = unless_map (wants_memory e) (λ is. cc) gives
 
 -- ---- what was handed over
-
-log_kept : (log : Option Log) → log_after log [] [] ≡ log
-log_kept None = refl
-log_kept (Some log) = ap Some (λ i. record { requests = append-nil log.requests i; answers = append-nil log.answers i })
 
 log_twice : (log : Option Log) (p q : List SeenRequest) (x y : List SeenAnswer) → log_after (log_after log p x) q y ≡ log_after log (p ++ q) (x ++ y)
 log_twice None p q x y = refl
 log_twice (Some log) p q x y = ap Some (λ i. record { requests = append_assoc log.requests p q i; answers = append_assoc log.answers x y i })
-
-plays_none : (script : Option (List SeenAnswer)) → Plays script [] script
-plays_none None = refl
-plays_none (Some script) = (refl, refl)
 
 drop_more : (n : ℕ) (script : List SeenAnswer) → drop n (drop 1 script) ≡ drop (suc n) script
 drop_more zero [] = refl
@@ -79,7 +58,7 @@ plays_twice : (script mid left : Option (List SeenAnswer)) (x : SeenAnswer) (lat
 plays_twice None mid left x later first second = subst (λ (m : Option (List SeenAnswer)). Plays m later left) first second
 plays_twice (Some script) mid left x later first second =
     let rest = subst (λ (m : Option (List SeenAnswer)). Plays m later left) first.1 second in
-    let same : x ≡ first_of script = ap first_of first.0 in (
+    let same : x ≡ first_answer script = ap first_answer first.0 in (
       (λ i. same i ∷ rest.0 i),
       rest.1 ∙ ap Some (drop_more (length later) script),
     )
@@ -87,38 +66,17 @@ plays_twice (Some script) mid left x later first second =
 -- ---- the steps with a transport
 
 module _ {A E : Type 0} where
-  pub memory_first : (run : List SeenAnswer → Run A) (old new : Known) → Untouched old new → Follows {E = E} run old new (Err (Memory true))
-  memory_first run old new kept = record {
-    answers = [];
-    logged = kept.0 ∙ sym (log_kept old.log);
-    plays = kept.1;
-    answered = omega arith;
-    all_sent = tt;
-    reply = tt;
-  }
-
-  -- nothing is left to be sent
-  pub settled : (run : List SeenAnswer → Run A) (old : Known) (result : Result A (LoginError E)) → OrMemory result ((run []).sent ≡ []) → Gives result (run []).reply → Follows run old old result
-  settled run old result none gives = record {
-    answers = [];
-    logged = sym (log_kept old.log);
-    plays = plays_none old.script;
-    answered = omega arith;
-    all_sent = or_map result (λ (is : (run []).sent ≡ []). sym (ap length is)) none;
-    reply = gives;
-  }
-
   -- a step before any request refused
-  pub refused : {B : Type 0} (run : List SeenAnswer → Meant B → Run A) (old : Known) (e : LoginError E) (m : Meant B) → ((x : Error) → run [] (Err x) ≡ answered_alone (Err x))
-      → Gives {A = B} (Err e) m → Follows (λ answers. run answers m) old old (Err e)
+  pub refused : {B : Type 0} (run : List SeenAnswer → Meant B → LoginRun A) (old : Known) (e : LoginError E) (m : Meant B) → ((x : Error) → run [] (Err x) ≡ answered_alone (Err x))
+      → Gives login_errors {A = B} (Err e) m → Follows login_errors (λ answers. run answers m) old old (Err e)
   refused run old e m alone gives =
-      settled (λ answers. run answers m) old (Err e)
-      (unless_map (memory_of e) (λ is. ap (λ r. (run [] r).sent) is ∙ ap (λ (r : Run A). r.sent) (alone (seen e))) gives)
-      (unless_map (memory_of e) (λ is. ap (λ r. (run [] r).reply) is ∙ ap (λ (r : Run A). r.reply) (alone (seen e))) gives)
+      settled login_errors (λ answers. run answers m) old (Err e)
+      (unless_map (wants_memory e) (λ is. ap (λ r. (run [] r).sent) is ∙ ap (λ (r : LoginRun A). r.sent) (alone (seen e))) gives)
+      (unless_map (wants_memory e) (λ is. ap (λ r. (run [] r).reply) is ∙ ap (λ (r : LoginRun A). r.reply) (alone (seen e))) gives)
 
   -- one request, and what follows it
-  pub continued : (whole : SeenAnswer → List SeenAnswer → Run A) (request : SeenRequest) (old mid new : Known) (x : SeenAnswer) (result : Result A (LoginError E))
-      → Exchanged old mid request x → Follows (whole x) mid new result → Follows (λ answers. preceded_by request (whole (first_of answers) (rest_of answers))) old new result
+  pub continued : (whole : SeenAnswer → List SeenAnswer → LoginRun A) (request : SeenRequest) (old mid new : Known) (x : SeenAnswer) (result : Result A (LoginError E))
+      → Exchanged old mid request x → Follows login_errors (whole x) mid new result → Follows login_errors (λ answers. preceded_by request (whole (first_answer answers) (rest_of answers))) old new result
   continued whole request old mid new x result sent later = record {
     answers = x ∷ later.answers;
     logged = later.logged
@@ -126,67 +84,67 @@ module _ {A E : Type 0} where
         ∙ log_twice old.log (request ∷ []) (take (length later.answers) (whole x later.answers).sent) (x ∷ []) later.answers;
     plays = plays_twice old.script mid.script new.script x later.answers sent.1 later.plays;
     answered = omega (arith, later.answered);
-    all_sent = or_map result (λ is. ap suc is) later.all_sent;
+    all_sent = or_map login_errors result (λ is. ap suc is) later.all_sent;
     reply = later.reply;
   }
 
 -- ---- user info
 
 module _ {AC GC Key Use E : Type 0} (types : SiteTypes AC GC Key Use) (user : SeenSignedIn AC GC) (old new : Known) (result : Result (SeenSignedIn AC GC) (LoginError E)) where
-  one_answered : (asked : SeenAsked Key) (x : SeenAnswer) → Exchanged old new asked.request x → Gives result (after_info types asked.ask.demand user x)
-      → Follows (λ answers. asked_run types user answers (Ok asked)) old new result
+  one_answered : (asked : SeenAsked Key) (x : SeenAnswer) → Exchanged old new asked.request x → Gives login_errors result (after_info types asked.ask.demand user x)
+      → Follows login_errors (λ answers. asked_run types user answers (Ok asked)) old new result
   one_answered asked x sent gives = record {
     answers = x ∷ [];
     logged = sent.0;
     plays = sent.1;
     answered = lit≤ tt;
-    all_sent = either result refl;
+    all_sent = or_known login_errors result refl;
     reply = gives;
   }
 
   -- the answer to the request was judged
   pub info_answered : (asked : SeenAsked Key) (ask : SeenInfoRequest Key) (request : SeenRequest) → record { ask = ask; request = request } ≡ asked → (x : SeenAnswer)
-      → Exchanged old new request x → Gives result (after_info types ask.demand user x) → Follows (λ answers. asked_run types user answers (Ok asked)) old new result
+      → Exchanged old new request x → Gives login_errors result (after_info types ask.demand user x) → Follows login_errors (λ answers. asked_run types user answers (Ok asked)) old new result
   info_answered asked ask request same x sent gives =
-      subst (λ (o : SeenAsked Key). Follows (λ answers. asked_run types user answers (Ok o)) old new result) same (one_answered (record { ask = ask; request = request }) x sent gives)
+      subst (λ (o : SeenAsked Key). Follows login_errors (λ answers. asked_run types user answers (Ok o)) old new result) same (one_answered (record { ask = ask; request = request }) x sent gives)
 
   -- the request was made
-  pub info_asked : (client : SeenClient Key) (demand : UserInfoDemand) (asked : SeenAsked Key) → asking client demand user ≡ Ok asked
-      → Follows (λ answers. asked_run types user answers (Ok asked)) old new result → Follows (info_run types client (Some demand) user) old new result
-  info_asked client demand asked is x = subst (λ (m : Meant (SeenAsked Key)). Follows (λ answers. asked_run types user answers m) old new result) (sym is) x
+  pub info_asked : (client : SeenLoginClient Key) (demand : UserInfoDemand) (asked : SeenAsked Key) → asking client demand user ≡ Ok asked
+      → Follows login_errors (λ answers. asked_run types user answers (Ok asked)) old new result → Follows login_errors (info_run types client (Some demand) user) old new result
+  info_asked client demand asked is x = subst (λ (m : Meant (SeenAsked Key)). Follows login_errors (λ answers. asked_run types user answers m) old new result) (sym is) x
 
-module _ {AC GC Key Use E : Type 0} (types : SiteTypes AC GC Key Use) (client : SeenClient Key) (user : SeenSignedIn AC GC) (old : Known) where
+module _ {AC GC Key Use E : Type 0} (types : SiteTypes AC GC Key Use) (client : SeenLoginClient Key) (user : SeenSignedIn AC GC) (old : Known) where
   -- the request wasn't made
-  pub info_refused : (demand : UserInfoDemand) (e : LoginError E) → Gives {A = SeenAsked Key} (Err e) (asking client demand user)
-      → Follows (info_run types client (Some demand) user) old old (Err e)
+  pub info_refused : (demand : UserInfoDemand) (e : LoginError E) → Gives login_errors {A = SeenAsked Key} (Err e) (asking client demand user)
+      → Follows login_errors (info_run types client (Some demand) user) old old (Err e)
   info_refused demand e gives = refused (λ answers m. asked_run types user answers m) old e (asking client demand user) (λ x. refl) gives
 
   -- no user info is demanded
-  pub info_undemanded : Follows {E = E} (info_run types client None user) old old (Ok user)
-  info_undemanded = settled (info_run types client None user) old (Ok user) refl refl
+  pub info_undemanded : Follows (login_errors {E = E}) (info_run types client None user) old old (Ok user)
+  info_undemanded = settled login_errors (info_run types client None user) old (Ok user) refl refl
 
 -- ---- behind the token request
 
-module _ {AC GC Key Use E : Type 0} (types : SiteTypes AC GC Key Use) (client : SeenClient Key) (login : SeenLogin) (old new : Known) where
+module _ {AC GC Key Use E : Type 0} (types : SiteTypes AC GC Key Use) (client : SeenLoginClient Key) (login : SeenLogin) (old new : Known) where
   -- the ID token was accepted
   pub token_followed : (m : Meant (SeenSignedIn AC GC)) (user : SeenSignedIn AC GC) (demand : Option UserInfoDemand) (result : Result (SeenSignedIn AC GC) (LoginError E))
-      → m ≡ Ok user → demand ≡ login.user_info → Follows (info_run types client demand user) old new result → Follows (λ later. token_run types client login later m) old new result
+      → m ≡ Ok user → demand ≡ login.user_info → Follows login_errors (info_run types client demand user) old new result → Follows login_errors (λ later. token_run types client login later m) old new result
   token_followed m user demand result is own x =
-      subst (λ (n : Meant (SeenSignedIn AC GC)). Follows (λ later. token_run types client login later n) old new result) (sym is)
-      (subst (λ (d : Option UserInfoDemand). Follows (info_run types client d user) old new result) own x)
+      subst (λ (n : Meant (SeenSignedIn AC GC)). Follows login_errors (λ later. token_run types client login later n) old new result) (sym is)
+      (subst (λ (d : Option UserInfoDemand). Follows login_errors (info_run types client d user) old new result) own x)
 
-module _ {AC GC Key Use E : Type 0} (types : SiteTypes AC GC Key Use) (client : SeenClient Key) (login : SeenLogin) (old : Known) where
+module _ {AC GC Key Use E : Type 0} (types : SiteTypes AC GC Key Use) (client : SeenLoginClient Key) (login : SeenLogin) (old : Known) where
   -- the token answer was refused
-  pub token_refused : (m : Meant (SeenSignedIn AC GC)) (e : LoginError E) → Gives {A = SeenSignedIn AC GC} (Err e) m
-      → Follows (λ later. token_run types client login later m) old old (Err e)
+  pub token_refused : (m : Meant (SeenSignedIn AC GC)) (e : LoginError E) → Gives login_errors {A = SeenSignedIn AC GC} (Err e) m
+      → Follows login_errors (λ later. token_run types client login later m) old old (Err e)
   token_refused m e gives = refused (λ later n. token_run types client login later n) old e m (λ x. refl) gives
 
-module _ {AC GC Key Use E : Type 0} (types : SiteTypes AC GC Key Use) (client : SeenClient Key) (now : ℤ) (old mid new : Known) (result : Result (SeenSignedIn AC GC) (LoginError E)) where
+module _ {AC GC Key Use E : Type 0} (types : SiteTypes AC GC Key Use) (client : SeenLoginClient Key) (now : ℤ) (old mid new : Known) (result : Result (SeenSignedIn AC GC) (LoginError E)) where
   -- the token request was sent
   pub opened_followed : (o : SeenOpened) (login : SeenLogin) (request : SeenRequest) → record { login = login; request = request } ≡ o → (x : SeenAnswer) → Exchanged old mid request x
-      → Follows (λ later. token_run types client login later (after_token types client now login x)) mid new result → Follows (λ answers. opened_run types client now answers (Ok o)) old new result
+      → Follows login_errors (λ later. token_run types client login later (after_token types client now login x)) mid new result → Follows login_errors (λ answers. opened_run types client now answers (Ok o)) old new result
   opened_followed o login request same x sent later =
-      subst (λ (p : SeenOpened). Follows (λ answers. opened_run types client now answers (Ok p)) old new result) same
+      subst (λ (p : SeenOpened). Follows login_errors (λ answers. opened_run types client now answers (Ok p)) old new result) same
       (continued (λ y more. token_run types client login more (after_token types client now login y)) request old mid new x result sent later)
 
 -- ---- the whole
@@ -280,7 +238,7 @@ module _ {AC GC Key Use : Type 0} (types : SiteTypes AC GC Key Use) (a : Attempt
 
     -- behind an Ok they were all sent
     own_sent : {E : Type 0} (m : Meant SeenOpened) (result : Result (SeenSignedIn AC GC) (LoginError E)) → Walk (λ o. Asks a o.login o.request) (Cause types a answers) m
-        → Gives result (opened_run types a.client a.now answers m).reply → OrMemory result (length answers ≡ length (opened_run types a.client a.now answers m).sent)
+        → Gives login_errors result (opened_run types a.client a.now answers m).reply → OrMemory login_errors result (length answers ≡ length (opened_run types a.client a.now answers m).sent)
         → OnOk result (AreItsRequests types a answers (take (length answers) (opened_run types a.client a.now answers m).sent))
     own_sent (Err e) (Ok signed) walk gives all = absurd cc
     own_sent (Ok o) (Ok signed) walk gives all =
@@ -291,39 +249,34 @@ module _ {AC GC Key Use : Type 0} (types : SiteTypes AC GC Key Use) (a : Attempt
 
   -- ---- what was handed over and is meant makes the whole
 
-  pub ran : {E : Type 0} → NeverWants types → (old new : Known) (result : Result (SeenSignedIn AC GC) (LoginError E)) → Follows (outcome types a) old new result → Ran types a old new result
+  pub ran : {E : Type 0} → NeverWants types → (old new : Known) (result : Result (SeenSignedIn AC GC) (LoginError E)) → Follows login_errors (outcome types a) old new result → Ran types a old new result
   ran never old new result x =
       let answers = x.answers in
       let walk = rows.outcome-walk types a answers never in
       let only = only_its answers (length answers) (outcome types a answers).sent (sendable answers) in record {
-        answers = answers;
-        logged = x.logged;
-        plays = x.plays;
-        answered = x.answered;
-        all_sent = x.all_sent;
-        reply = x.reply;
+        exchanged = x;
         at_most_two_requests = at_most_two answers (handed_over types a answers) only;
         only_its_requests = only;
         own_requests = own_sent answers opens result (rows.opening-walk types a answers) x.reply x.all_sent;
         cause = walked_err (IsSignedIn types a answers) (Cause types a answers) result (outcome types a answers).reply walk x.reply;
-        refused = λ e cause. subst (Gives result) (causes.refused types a answers e cause) x.reply;
+        refused = λ e cause. subst (Gives login_errors result) (causes.refused types a answers e cause) x.reply;
         signed_in = walked_ok (IsSignedIn types a answers) (Cause types a answers) result (outcome types a answers).reply walk x.reply;
-        signs_in = λ signed is. subst (Gives result) (causes.signs_in types a answers signed is) x.reply;
+        signs_in = λ signed is. subst (Gives login_errors result) (causes.signs_in types a answers signed is) x.reply;
         valid = λ is.
             let v = signed_of_valid types a answers is in
-            meant_ok result v.0 (subst (Gives result) (causes.signs_in types a answers v.0 v.1) x.reply);
+            meant_ok result v.0 (subst (Gives login_errors result) (causes.signs_in types a answers v.0 v.1) x.reply);
       }
 
   -- nothing was sent
-  pub unopened : {E : Type 0} → NeverWants types → (old : Known) (e : LoginError E) → Gives {A = SeenOpened} (Err e) opens → Ran types a old old (Err e)
+  pub unopened : {E : Type 0} → NeverWants types → (old : Known) (e : LoginError E) → Gives login_errors {A = SeenOpened} (Err e) opens → Ran types a old old (Err e)
   unopened never old e gives = ran never old old (Err e) (refused (λ answers m. opened_run types a.client a.now answers m) old e opens (λ x. refl) gives)
 
   -- what was opened was followed
   pub signed : {E : Type 0} → NeverWants types → (o : SeenOpened) → opens ≡ Ok o → (old new : Known) (result : Result (SeenSignedIn AC GC) (LoginError E))
-      → Follows (λ answers. opened_run types a.client a.now answers (Ok o)) old new result → Ran types a old new result
-  signed never o is old new result x = ran never old new result (subst (λ m. Follows (λ answers. opened_run types a.client a.now answers m) old new result) (sym is) x)
+      → Follows login_errors (λ answers. opened_run types a.client a.now answers (Ok o)) old new result → Ran types a old new result
+  signed never o is old new result x = ran never old new result (subst (λ m. Follows login_errors (λ answers. opened_run types a.client a.now answers m) old new result) (sym is) x)
 
   -- and a query that asks for nothing opens nothing
   pub asks_of : {E : Type 0} (o : SeenOpened) → opens ≡ Ok o → (old new : Known) (result : Result (SeenSignedIn AC GC) (LoginError E))
-      → Follows (λ answers. opened_run types a.client a.now answers (Ok o)) old new result → AsksNothing a → ⊥
+      → Follows login_errors (λ answers. opened_run types a.client a.now answers (Ok o)) old new result → AsksNothing a → ⊥
   asks_of o is old new result x nothing = asks o is nothing

@@ -6,25 +6,26 @@ use Rattle.std.specs.Str.{is_utf8}
 use Rattle.oidc_members.specs.declared.refusal.Refusal.{Refusal}
 use Rattle.oidc_keys.specs.declared.refusals.SignatureVerificationError.TheVariants as signature
 use Rattle.oidc_oauth2.specs.Messages.{SeenRequest, SeenResponse, SeenAnswer}
-use Rattle.oidc_oauth2.specs.Transport.{first_of}
+use Rattle.oidc_oauth2.specs.Transport.{first_answer}
 use Rattle.oidc_oauth2.specs.HttpUtils.{may_be}
-use Rattle.oidc_oauth2.specs.TokenAnswers.{◌>>=◌, ◌>>◌, ◌when◌, ◌or_as◌, is_over_long}
+use Rattle.oidc_oauth2.specs.Replies.{◌>>=◌, ◌>>◌, ◌when◌, ◌for◌, ◌or_as◌, Gives}
+use Rattle.oidc_oauth2.specs.TokenAnswers.{is_over_long}
 use Rattle.oidc_tokens.specs.UserInfoVerification.{is_expected_subject}
 use Rattle.oidc_tokens.specs.declared.verification.refusals.ClaimsVerificationError.{ClaimsVerificationError}
 use Rattle.oidc_tokens.specs.declared.verification.refusals.ClaimsVerificationError.TheVariants as check
 use Rattle.oidc_tokens.proofs.Theorems.{about, info_accepts, info_never_memory, info_never_memory_inside}
 use Rattle.oidc_user_info.specs.UserInfoClaims.{SeenUserInfoClaims, parties_of}
-use Rattle.oidc_user_info.specs.InfoErrors.{InfoRefusal, Gives as GivesInfo}
-use Rattle.oidc_user_info.specs.InfoAnswers.{◌for◌, Demand, claims_in, token_in, failure_of, from_json, of_object, of_token, by_media_type, info_answer}
+use Rattle.oidc_user_info.specs.InfoErrors.{InfoRefusal, info_errors}
+use Rattle.oidc_user_info.specs.InfoAnswers.{Demand, claims_in, token_in, failure_of, from_json, of_object, of_token, by_media_type, info_answer}
 use Rattle.oidc_user_info.specs.InfoRequests.{SeenInfoRequest, info_request}
 use Rattle.oidc_user_info.specs.InfoCauses.{IsUserInfo, Cause}
-use Rattle.oidc_user_info.specs.InfoRuns.{reply_of, reply_to, reply}
+use Rattle.oidc_user_info.specs.InfoRuns.{reply_of, run_of, reply}
 use Rattle.oidc_user_info.specs.declared.errors.InfoOther.TheVariants as other
 use Rattle.oidc_user_info.specs.declared.errors.ResponseCause.TheVariants.{Status}
 use Rattle.oidc_user_info.specs.declared.errors.UserInfoError.{UserInfoError}
 use Rattle.oidc_user_info.specs.declared.errors.UserInfoError.TheVariants as info
 use Rattle.oidc_login.specs.SiteTypes.{SiteTypes}
-use Rattle.oidc_login.specs.Errors.{Gives, faulted, spent_of}
+use Rattle.oidc_login.specs.Errors.{login_errors, faulted, spent_of}
 use Rattle.oidc_login.specs.Steps.{of_info}
 use Rattle.oidc_login.specs.Rows.{Meant, info_in}
 use Rattle.oidc_login.specs.declared.errors.TooLong.TheVariants as place
@@ -166,7 +167,7 @@ module _ {A : Type 0} (P : A → Type 0) (Law : Type 0) where
 
   module _ {E : Type 0} where
     err_row : (long : Bool) (body : List ℕ) (short : Result A InfoRefusal) (e : UserInfoError E) → IsOwn P Law short
-        → GivesInfo {A = A} (Err e) (sized long body short) → Gives {A = A} (Err (of_info e)) (row long (sized long body short))
+        → Gives info_errors {A = A} (Err e) (sized long body short) → Gives login_errors {A = A} (Err (of_info e)) (row long (sized long body short))
     err_row long body short (info.ClaimsVerification kind) own is = own_row long body short _ (λ same. cc) is
     err_row long body short (info.Parse refusal) own is = own_row long body short _ (λ same. cc) is
     err_row long body short (info.Request cause) own is = absurd (never_fault long body short own is)
@@ -176,7 +177,7 @@ module _ {A : Type 0} (P : A → Type 0) (Law : Type 0) where
     err_row long body short info.Memory own is = tt
 
     no_fault : (long : Bool) (body : List ℕ) (short : Result A InfoRefusal) (e : UserInfoError E) → IsOwn P Law short
-        → GivesInfo {A = A} (Err e) (sized long body short) → faulted (of_info e) ≡ false
+        → Gives info_errors {A = A} (Err e) (sized long body short) → faulted (of_info e) ≡ false
     no_fault long body short (info.ClaimsVerification kind) own is = refl
     no_fault long body short (info.Parse refusal) own is = refl
     no_fault long body short (info.Request cause) own is = absurd (never_fault long body short own is)
@@ -200,8 +201,8 @@ module _ {AC GC Key Use : Type 0} (types : SiteTypes AC GC Key Use) (demand : De
   unfolding info_answer info_in
   info_given found is = ok_row (IsAbout types demand) (NeverWants types) (is_over_long r.body) r.body (short_worth types demand r) found is
 
-  module _ {E : Type 0} (e : UserInfoError E) (is : GivesInfo {A = SeenUserInfoClaims AC GC} (Err e) (info_answer types demand r)) where
-    pub info_refusal_given : Gives {A = SeenUserInfoClaims AC GC} (Err (of_info e)) (info_in types demand r)
+  module _ {E : Type 0} (e : UserInfoError E) (is : Gives info_errors {A = SeenUserInfoClaims AC GC} (Err e) (info_answer types demand r)) where
+    pub info_refusal_given : Gives login_errors {A = SeenUserInfoClaims AC GC} (Err (of_info e)) (info_in types demand r)
     unfolding info_answer info_in
     info_refusal_given = err_row (IsAbout types demand) (NeverWants types) (is_over_long r.body) r.body (short_worth types demand r) e (short_own types demand r) is
 
@@ -212,9 +213,9 @@ module _ {AC GC Key Use : Type 0} (types : SiteTypes AC GC Key Use) (demand : De
 -- ---- what a response rests on, by the rows on it, and back
 
 module _ {AC GC Key Use : Type 0} (types : SiteTypes AC GC Key Use) (ask : SeenInfoRequest Key) (answers : List SeenAnswer)
-    (request : SeenRequest) (made : info_request ask ≡ Ok request) (r : SeenResponse) (came : first_of answers ≡ Some r) where
+    (request : SeenRequest) (made : info_request ask ≡ Ok request) (r : SeenResponse) (came : first_answer answers ≡ Some r) where
   reply_is : reply types ask answers ≡ info_answer types ask.demand r
-  reply_is = ap (λ m. reply_to types ask.demand m answers) made ∙ ap (reply_of types ask.demand) came
+  reply_is = ap (λ m. (run_of types ask.demand m answers).reply) made ∙ ap (reply_of types ask.demand) came
 
   pub info_rests : NeverWants types → Rests types ask answers (info_answer types ask.demand r)
   info_rests never = subst (Rests types ask answers) reply_is (rests types ask answers never)

@@ -16,7 +16,6 @@ pub mod Valid
 pub mod Drives
 pub mod Signing
 pub mod Called
-pub mod ReadTokens
 pub mod NoFloat
 pub mod Turns
 pub mod Spent

@@ -5,7 +5,7 @@ use Rattle.oidc_keys.specs.declared.refusals.SignatureVerificationError.TheVaria
 use Rattle.oidc_tokens.specs.declared.verification.refusals.ClaimsVerificationError.{ClaimsVerificationError}
 use Rattle.oidc_tokens.specs.declared.verification.refusals.ClaimsVerificationError.TheVariants.{SignatureVerification, Memory}
 use Rattle.oidc_tokens.proofs.Theorems as tokens
-use Rattle.oidc_login.specs.Client.{SeenClient}
+use Rattle.oidc_login.specs.Client.{SeenLoginClient}
 use Rattle.oidc_login.specs.SiteTypes.{SiteTypes}
 use Rattle.oidc_login.specs.IdTokens.{SeenIdToken, verifier_of, is_nonce, failure_for}
 
@@ -17,9 +17,9 @@ module _ {AC GC Key Use : Type 0} (types : SiteTypes AC GC Key Use) where
   abbrev pub NeverWants : Type 0
   NeverWants = (key : Key) (alg : CoreJwsSigningAlgorithm) (message made : List ℕ) → types.keys.keys.verdict key alg message made ≢ Err signature.Memory
 
-  pub never_wanting : NeverWants → (client : SeenClient Key) (sent : List ℕ) (now : ℤ) (token : SeenIdToken AC GC) → failure_for types client sent now token ≢ Some wanting
+  pub never_wanting : NeverWants → (client : SeenLoginClient Key) (sent : List ℕ) (now : ℤ) (token : SeenIdToken AC GC) → failure_for types client sent now token ≢ Some wanting
   never_wanting law client sent now token =
       tokens.never_memory_inside types.keys law (verifier_of types client) (is_nonce sent) now token
 
-  pub never_memory : (client : SeenClient Key) (sent : List ℕ) (now : ℤ) (token : SeenIdToken AC GC) → failure_for types client sent now token ≢ Some Memory
+  pub never_memory : (client : SeenLoginClient Key) (sent : List ℕ) (now : ℤ) (token : SeenIdToken AC GC) → failure_for types client sent now token ≢ Some Memory
   never_memory client sent now token = tokens.never_memory types.keys (verifier_of types client) (is_nonce sent) now token

@@ -8,7 +8,7 @@ use Rattle.oidc_types.specs.{signing_text}
 use Rattle.oidc_types.specs.declared.signing_error.SigningError.TheVariants.{UnsupportedAlg}
 use Rattle.oidc_pairs.specs.Pairs.{pairs, values, first_of as first_value}
 use Rattle.oidc_oauth2.specs.Messages.{SeenRequest, SeenResponse, SeenAnswer}
-use Rattle.oidc_oauth2.specs.Transport.{first_of}
+use Rattle.oidc_oauth2.specs.Transport.{first_answer}
 use Rattle.oidc_oauth2.specs.TokenAnswers.{is_over_long}
 use Rattle.oidc_oauth2.specs.declared.token_answers.OtherCause.TheVariants as other
 use Rattle.oidc_oauth2.specs.declared.token_answers.RequestTokenError.TheVariants as token_error
@@ -36,7 +36,7 @@ use Rattle.oidc_login.specs.SignedIn.{SeenSignedIn, signed_by}
 use Rattle.oidc_login.specs.UserInfo.{info_ask}
 use Rattle.oidc_login.specs.Errors.{Error}
 use Rattle.oidc_login.specs.Rows.{Attempt, Meant, SeenOpened, SeenAsked, error_word, login_named_by, error_in, code_in, rest_of, opening_by, opening, tokens_in, hash_rows, accepting, signing_in, after_token, prepared, asking, info_in, after_info, asked_run, info_run, token_run, opened_run, outcome}
-use Rattle.oidc_login.specs.Causes.{Names, HasCode, Asks, Held, Answered, Reads, Holds, Accepted, own_hash, Fits, Demands, AsksInfo, InfoAnswered, IsSignedIn, TokenCause, InfoCause, Cause}
+use Rattle.oidc_login.specs.Causes.{Names, HasCode, Asks, Held, Answered, Reads, Holds, Accepted, own_hash, Fits, Demands, AsksInfo, InfoAnswered, IsSignedIn, TokenCause, UserInfoCause, Cause}
 use Rattle.oidc_login.specs.declared.demand.UserInfoDemand.{UserInfoDemand}
 use Rattle.oidc_login.specs.declared.errors.LoginError.TheVariants.{UserInfo}
 use Rattle.oidc_login.proofs.Walks.{Walk, at_or, at_meant, at_or_as, at_last, at_when, at_for, at_then, at_end, walked_err, walked_ok}
@@ -95,7 +95,7 @@ module _ {AC GC Key Use : Type 0} (types : SiteTypes AC GC Key Use) (a : Attempt
   abbrev IsHeldBy : SeenResponse → Result (Tokens AC GC) TokenError → Type 0
   IsHeldBy r worth = StatusRests error_read (tokens_read types) r worth
 
-  tokens_in-walk : (l : SeenLogin) (request : SeenRequest) (r : SeenResponse) → Asks a l request → first_of answers ≡ Some r
+  tokens_in-walk : (l : SeenLogin) (request : SeenRequest) (r : SeenResponse) → Asks a l request → first_answer answers ≡ Some r
       → Walk (λ ts. Reads types a answers l ts) Q (tokens_in types r)
   unfolding tokens_in
   tokens_in-walk l request r asked came =
@@ -163,10 +163,10 @@ module _ {AC GC Key Use : Type 0} (types : SiteTypes AC GC Key Use) (a : Attempt
       record { tokens = ts; token = token; fits = fits; own = refl }))
 
   pub after_token-walk : (l : SeenLogin) (request : SeenRequest) → Asks a l request
-      → Walk (IsHeld l) Q (after_token types a.client a.now l (first_of answers))
+      → Walk (IsHeld l) Q (after_token types a.client a.now l (first_answer answers))
   unfolding after_token
   after_token-walk l request asked =
-      at_or _ _ (first_of answers) _ _
+      at_or _ _ (first_answer answers) _ _
       (λ none. record { login = l; request = request; asked = asked; no_response = none }) (λ r came.
       at_meant _ _ (tokens_in types r) _
       (λ e is. walked_err _ _ (tokens_in types r) e (tokens_in-walk l request r asked came) is)
@@ -214,7 +214,7 @@ module _ {AC GC Key Use : Type 0} (types : SiteTypes AC GC Key Use) (a : Attempt
     own_row : (e : InfoRefusal) → info_answer types ask.demand r ≡ Err e → Own e
     own_row e is = subst (IsOwn (IsAbout types ask.demand) (NeverWants types)) is (info_own types ask.demand r answered.not_too_long)
 
-    info_row : (e : InfoRefusal) → info_answer types ask.demand r ≡ Err e → info_causes.Cause ask (rest_of answers) types e → InfoCause types a answers e
+    info_row : (e : InfoRefusal) → info_answer types ask.demand r ≡ Err e → info_causes.Cause ask (rest_of answers) types e → UserInfoCause types a answers e
     info_row (info_error.Request cause) is why = absurd (own_row (info_error.Request cause) is)
     info_row (info_error.Other info_other.Bearer) is why = absurd (own_row (info_error.Other info_other.Bearer) is)
     info_row (info_error.Other info_other.Uri) is why = absurd (own_row (info_error.Other info_other.Uri) is)
@@ -231,7 +231,7 @@ module _ {AC GC Key Use : Type 0} (types : SiteTypes AC GC Key Use) (a : Attempt
     pub answered : InfoAnswered types a answers h ask response
     pub info_held : info_causes.IsUserInfo ask (rest_of answers) types found
 
-  info_in-walk : NeverWants types → (h : Held AC GC) (ask : SeenInfoRequest Key) (request : SeenRequest) (r : SeenResponse) → AsksInfo types a answers h ask request → first_of (rest_of answers) ≡ Some r
+  info_in-walk : NeverWants types → (h : Held AC GC) (ask : SeenInfoRequest Key) (request : SeenRequest) (r : SeenResponse) → AsksInfo types a answers h ask request → first_answer (rest_of answers) ≡ Some r
       → Walk (IsFoundFor h ask) Q (info_in types ask.demand r)
   unfolding info_in
   info_in-walk never h ask request r asked came =
@@ -256,10 +256,10 @@ module _ {AC GC Key Use : Type 0} (types : SiteTypes AC GC Key Use) (a : Attempt
   }
 
   after_info-walk : NeverWants types → (h : Held AC GC) (ask : SeenInfoRequest Key) (request : SeenRequest) → AsksInfo types a answers h ask request
-      → Walk (IsSignedIn types a answers) Q (after_info types ask.demand (signed_by h.token h.tokens) (first_of (rest_of answers)))
+      → Walk (IsSignedIn types a answers) Q (after_info types ask.demand (signed_by h.token h.tokens) (first_answer (rest_of answers)))
   unfolding after_info
   after_info-walk never h ask request asked =
-      at_or _ _ (first_of (rest_of answers)) _ _
+      at_or _ _ (first_answer (rest_of answers)) _ _
       (λ none. record { held = h; ask = ask; request = request; asked = asked; no_response = none }) (λ r came.
       at_meant _ _ (info_in types ask.demand r) _
       (λ e is. walked_err _ _ (info_in types ask.demand r) e (info_in-walk never h ask request r asked came) is)

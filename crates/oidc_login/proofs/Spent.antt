@@ -12,7 +12,7 @@ use Rattle.url.specs.Parts.{Parts}
 use Rattle.oidc_pairs.specs.Pairs.{pairs}
 use Rattle.oidc_oauth2.specs.Messages.{SeenRequest, SeenAnswer}
 use Rattle.oidc_oauth2.specs.TokenAnswers.{is_over_long}
-use Rattle.oidc_login.specs.Client.{SeenClient}
+use Rattle.oidc_login.specs.Client.{SeenLoginClient}
 use Rattle.oidc_login.specs.SiteTypes.{SiteTypes}
 use Rattle.oidc_login.specs.Logins.{SeenLogin, Pending}
 use Rattle.oidc_login.specs.Begins.{Begin, Meant as BeginMeant, begin_reply, begin_store}
@@ -95,7 +95,7 @@ module _ {AC GC Key Use : Type 0} (types : SiteTypes AC GC Key Use) (a : Attempt
 -- ---- how many callbacks of a state send anything, before the next accepted begin of it
 
 module _ {AC GC Key Use : Type 0} (types : SiteTypes AC GC Key Use) where
-  abbrev sending : SeenClient Key → List ℕ → Pending → List Event → ℕ
+  abbrev sending : SeenLoginClient Key → List ℕ → Pending → List Event → ℕ
   sending client state pending [] = 0
   sending client state pending (begins b ∷ later) =
       if is_accepted (begin_reply client pending b) && bytes_eq state b.request.state then 0
@@ -106,7 +106,7 @@ module _ {AC GC Key Use : Type 0} (types : SiteTypes AC GC Key Use) where
 
 -- ---- events
 
-module _ {AC GC Key Use : Type 0} (types : SiteTypes AC GC Key Use) (client : SeenClient Key) (s : List ℕ) where
+module _ {AC GC Key Use : Type 0} (types : SiteTypes AC GC Key Use) (client : SeenLoginClient Key) (s : List ℕ) where
   -- what is counted behind a begin with this reply
   abbrev begun_by : BeginMeant Parts → Pending → Begin → List Event → ℕ
   begun_by reply m b later =
@@ -181,7 +181,7 @@ taken_by x xs n false = refl
 taken_more : {A : Type 0} (p : A → Bool) (x : A) (xs : List A) → take_while p (x ∷ xs) ≡ cond (p x) (x ∷ take_while p xs) []
 taken_more p x xs = taken_by x xs (prefix_len p xs) (p x)
 
-module _ {AC GC Key Use : Type 0} (types : SiteTypes AC GC Key Use) (client : SeenClient Key) where
+module _ {AC GC Key Use : Type 0} (types : SiteTypes AC GC Key Use) (client : SeenLoginClient Key) where
   -- the turns of events from a store on, up to the next accepted begin of a state
   abbrev going_on : List ℕ → List Event → Pending → List (Event × Step AC GC)
   going_on s later m = take_while (goes_on s) (zip later (steps_from types client m later))

@@ -2,8 +2,8 @@
 -- what the answer is worth; and where all additional claims are kept, those of a user who is signed in hold no float.
 use Rattle.std.proofs.Common.{◌≡◌, ℕ, ℤ, zero, suc, List, [], ◌∷◌, Option, None, Some, Ok, Err, length, drop, refl, ap, ◌∙◌, arith}
 use Rattle.oidc_oauth2.specs.Messages.{SeenAnswer}
-use Rattle.oidc_oauth2.specs.Transport.{played, first_of}
-use Rattle.oidc_login.specs.Client.{SeenClient}
+use Rattle.oidc_oauth2.specs.Transport.{played, first_answer}
+use Rattle.oidc_login.specs.Client.{SeenLoginClient}
 use Rattle.oidc_login.specs.SiteTypes.{SiteTypes}
 use Rattle.oidc_login.specs.Logins.{SeenLogin}
 use Rattle.oidc_login.specs.SignedIn.{SeenSignedIn}
@@ -16,9 +16,9 @@ pub use Rattle.oidc_login.proofs.Found.{info_answered}
 abbrev IsPlayed : List SeenAnswer → List SeenAnswer → Type 0
 IsPlayed answers script = answers ≡ played script (length answers)
 
-first_played : (answers script : List SeenAnswer) (n : ℕ) → IsPlayed answers script → length answers ≡ suc n → first_of answers ≡ first_of script
+first_played : (answers script : List SeenAnswer) (n : ℕ) → IsPlayed answers script → length answers ≡ suc n → first_answer answers ≡ first_answer script
 first_played [] script n plays long = absurd (omega arith)
-first_played (x ∷ later) script n plays long = ap first_of plays
+first_played (x ∷ later) script n plays long = ap first_answer plays
 
 rest_dropped : (script : List SeenAnswer) → drop 1 script ≡ rest_of script
 rest_dropped [] = refl
@@ -39,23 +39,23 @@ module _ {AC GC Key Use : Type 0} (types : SiteTypes AC GC Key Use) where
   asked_by user (Ok asked) answers script plays all =
       ap (λ (x : SeenAnswer). asked_run types user (x ∷ []) (Ok asked)) (first_played answers script zero plays all)
 
-  info_by : (client : SeenClient Key) (demand : Option UserInfoDemand) (user : SeenSignedIn AC GC) (answers script : List SeenAnswer) → IsPlayed answers script
+  info_by : (client : SeenLoginClient Key) (demand : Option UserInfoDemand) (user : SeenSignedIn AC GC) (answers script : List SeenAnswer) → IsPlayed answers script
       → length answers ≡ length (info_run types client demand user answers).sent → info_run types client demand user answers ≡ info_run types client demand user script
   info_by client None user answers script plays all = refl
   info_by client (Some demand) user answers script plays all = asked_by user (asking client demand user) answers script plays all
 
-  token_by : (client : SeenClient Key) (login : SeenLogin) (m : Meant (SeenSignedIn AC GC)) (answers script : List SeenAnswer) → IsPlayed answers script
+  token_by : (client : SeenLoginClient Key) (login : SeenLogin) (m : Meant (SeenSignedIn AC GC)) (answers script : List SeenAnswer) → IsPlayed answers script
       → length answers ≡ length (token_run types client login answers m).sent → token_run types client login answers m ≡ token_run types client login script m
   token_by client login (Err e) answers script plays all = refl
   token_by client login (Ok user) answers script plays all = info_by client login.user_info user answers script plays all
 
-  opened_by : (client : SeenClient Key) (now : ℤ) (m : Meant SeenOpened) (answers script : List SeenAnswer) → IsPlayed answers script
+  opened_by : (client : SeenLoginClient Key) (now : ℤ) (m : Meant SeenOpened) (answers script : List SeenAnswer) → IsPlayed answers script
       → length answers ≡ length (opened_run types client now answers m).sent → opened_run types client now answers m ≡ opened_run types client now script m
   opened_by client now (Err e) answers script plays all = refl
   opened_by client now (Ok o) answers script plays all =
-      let later = token_run types client o.login (rest_of answers) (after_token types client now o.login (first_of answers)) in
+      let later = token_run types client o.login (rest_of answers) (after_token types client now o.login (first_answer answers)) in
       ap (preceded_by o.request)
-      (token_by client o.login (after_token types client now o.login (first_of answers)) (rest_of answers) (rest_of script)
+      (token_by client o.login (after_token types client now o.login (first_answer answers)) (rest_of answers) (rest_of script)
       (rest_played answers script (length later.sent) plays all) (one_less answers (length later.sent) all)
       ∙ ap (λ x. token_run types client o.login (rest_of script) (after_token types client now o.login x)) (first_played answers script (length later.sent) plays all))
 

@@ -10,11 +10,10 @@ use Rattle.oidc_types.specs.declared.core_algorithms.CoreJwsSigningAlgorithm.{Co
 use Rattle.oidc_jwt.specs.declared.header.JsonWebTokenAlgorithm.TheVariants as algorithm
 use Rattle.oidc_tokens.specs.Hashes.{hashing, hash_or_refusal}
 use Rattle.oidc_tokens.specs.Signatures.{signing_alg, key_for}
-use Rattle.oidc_tokens.specs.Steps.{◌>>=◌}
 use Rattle.oidc_login.specs.SiteTypes.{SiteTypes}
 use Rattle.oidc_login.specs.IdTokens.{SeenIdToken, KeyVerifier}
 use Rattle.oidc_login.specs.TokenHash.{hash_under, hashing_found, or_no_hash, hash_beside}
-use Rattle.oidc_oauth2.specs.TokenAnswers.{◌when◌}
+use Rattle.oidc_oauth2.specs.Replies.{◌>>=◌, ◌when◌}
 use Rattle.oidc_login.specs.Rows.{Meant, hash_rows}
 use Rattle.oidc_login.specs.declared.errors.LoginError.TheVariants as login
 

@@ -2,14 +2,14 @@
 use Rattle.std.proofs.Common.{◌≡◌, suc, List, [], ◌∷◌, ◌++◌, length, drop, map, refl, ap, ◌∙◌}
 use Rattle.std.specs.FinMap as finite
 use Rattle.std.specs.List.{zip}
-use Rattle.oidc_login.specs.Client.{SeenClient}
+use Rattle.oidc_login.specs.Client.{SeenLoginClient}
 use Rattle.oidc_login.specs.SiteTypes.{SiteTypes}
 use Rattle.oidc_login.specs.Logins.{Pending}
 use Rattle.oidc_login.specs.Events.{Event, calls, called, called_with, step, steps_from, store_from, store_of, ValidSignsIn}
 use Rattle.oidc_login.proofs.Causes.{signs_in}
 use Rattle.oidc_login.proofs.Valid.{signed_of_valid}
 
-module _ {AC GC Key Use : Type 0} (types : SiteTypes AC GC Key Use) (client : SeenClient Key) where
+module _ {AC GC Key Use : Type 0} (types : SiteTypes AC GC Key Use) (client : SeenLoginClient Key) where
   pub turns_dropped : (earlier : List Event) (event : Event) (later : List Event) (m : Pending)
       → drop (suc (length earlier)) (zip (earlier ++ event ∷ later) (steps_from types client m (earlier ++ event ∷ later)))
       ≡ zip later (steps_from types client (store_from types client m (earlier ++ event ∷ [])) later)

@@ -2,7 +2,7 @@
 use Rattle.std.proofs.Common.{◌≡◌, ℕ, List, false, Option, None, Some, refl, sym, ap, ◌∙◌, inl, ⊎_elim}
 use Rattle.std.specs.Prelude.{option_map}
 use Rattle.oidc_oauth2.specs.Messages.{SeenResponse, SeenAnswer}
-use Rattle.oidc_oauth2.specs.Transport.{first_of}
+use Rattle.oidc_oauth2.specs.Transport.{first_answer}
 use Rattle.oidc_oauth2.specs.AnswerCauses.{HoldsTokens}
 use Rattle.oidc_user_info.specs.UserInfoClaims.{SeenUserInfoClaims}
 use Rattle.oidc_user_info.specs.InfoRequests.{SeenInfoRequest}
@@ -29,7 +29,7 @@ module _ {AC GC Key Use : Type 0} (types : SiteTypes AC GC Key Use) where
   same_text x y e = cc
 
   info_held : (ask : SeenInfoRequest Key) (answers : List SeenAnswer) (subject : List ℕ) (found : SeenUserInfoClaims AC GC) (r : SeenResponse)
-      → IsAsked ask → first_of answers ≡ Some r → IsValidInfoAnswer types subject found r → ask.demand.signed ≡ false
+      → IsAsked ask → first_answer answers ≡ Some r → IsValidInfoAnswer types subject found r → ask.demand.signed ≡ false
       → ask.demand.verifier.expected_subject ≡ Some subject → IsUserInfo ask answers types found
   info_held ask answers subject found r asked came x unsigned expected =
       let fits : FitsAnswer ask answers r = record { came = record { asked = asked; response_came = came }; not_too_long = x.not_too_long } in

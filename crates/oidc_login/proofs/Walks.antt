@@ -1,8 +1,8 @@
 -- A walk down the table: one rule for each word of a row.
 use Rattle.std.proofs.Common.{◌≡◌, Bool, true, false, Option, None, Some, Result, Ok, Err, refl, subst}
-use Rattle.oidc_oauth2.specs.TokenAnswers.{◌>>=◌, ◌>>◌, ◌when◌, ◌or_as◌}
+use Rattle.oidc_oauth2.specs.Replies.{◌>>=◌, ◌>>◌, ◌when◌, ◌for◌, ◌or◌, ◌or_as◌}
 use Rattle.oidc_login.specs.Errors.{Error}
-use Rattle.oidc_login.specs.Rows.{Meant, ◌or◌, ◌for◌}
+use Rattle.oidc_login.specs.Rows.{Meant}
 
 -- a value has P, or the refusal has Q
 abbrev pub Walk : {A : Type 0} → (A → Type 0) → (Error → Type 0) → Meant A → Type 0

@@ -9,9 +9,9 @@ use Rattle.oidc_types.specs.declared.core_authorization.CoreAuthDisplay.{CoreAut
 use Rattle.oidc_types.specs.declared.core_authorization.CoreAuthPrompt.{CoreAuthPrompt}
 use Rattle.oidc_types.specs.declared.core_authorization.CoreResponseType.{CoreResponseType}
 use Rattle.oidc_oauth2.specs.Pkce.{is_verifier, s256}
-use Rattle.oidc_oauth2.specs.TokenAnswers.{◌>>=◌, ◌>>◌, ◌when◌}
+use Rattle.oidc_oauth2.specs.Replies.{◌>>=◌, ◌>>◌, ◌when◌}
 use Rattle.oidc_client.specs.Authorization.{SeenAuthorization, Flow, Code, Implicit, Hybrid, auth_url}
-use Rattle.oidc_login.specs.Client.{SeenClient}
+use Rattle.oidc_login.specs.Client.{SeenLoginClient}
 use Rattle.oidc_login.specs.Logins.{Pending}
 use Rattle.oidc_login.specs.declared.demand.UserInfoDemand.{UserInfoDemand}
 use Rattle.oidc_login.specs.declared.errors.BeginError.{BeginError}
@@ -76,7 +76,7 @@ reply_by client_id has_endpoint pending b = do
   url_or_refusal b.request challenge
 
 -- the URL that a begin answers, or its refusal
-abbrev pub begin_reply : {Key : Type 0} → SeenClient Key → Pending → Begin → Meant Parts
+abbrev pub begin_reply : {Key : Type 0} → SeenLoginClient Key → Pending → Begin → Meant Parts
 begin_reply client pending b = reply_by client.client_id (is_some client.user_info_url) pending b
 
 -- a reply is the one that is meant, or want of memory

@@ -8,7 +8,7 @@ use Rattle.oidc_types.specs.declared.signing_error.SigningError.{SigningError}
 use Rattle.oidc_types.specs.declared.signing_error.SigningError.TheVariants.{UnsupportedAlg}
 use Rattle.oidc_oauth2.specs.Messages.{SeenRequest, SeenResponse, SeenAnswer}
 use Rattle.oidc_oauth2.specs.Requests.{is_address}
-use Rattle.oidc_oauth2.specs.Transport.{first_of}
+use Rattle.oidc_oauth2.specs.Transport.{first_answer}
 use Rattle.oidc_oauth2.specs.TokenAnswers.{is_over_long}
 use Rattle.oidc_oauth2.specs.AnswerCauses.{HoldsTokens, StatusCause}
 use Rattle.oidc_oauth2.specs.declared.token_answers.OtherCause.TheVariants as other
@@ -97,7 +97,7 @@ module _ {AC GC Key Use : Type 0} (types : SiteTypes AC GC Key Use) (a : Attempt
   pub record Answered (login : SeenLogin) (response : SeenResponse) : Type 0 where
     pub request : SeenRequest
     pub asked : Asks a login request
-    pub response_came : first_of answers ≡ Some response
+    pub response_came : first_answer answers ≡ Some response
     pub not_too_long : is_over_long response.body ≡ false
 
   -- and holds these tokens
@@ -149,7 +149,7 @@ module _ {AC GC Key Use : Type 0} (types : SiteTypes AC GC Key Use) (a : Attempt
   pub record InfoAnswered (h : Held AC GC) (ask : SeenInfoRequest Key) (response : SeenResponse) : Type 0 where
     pub request : SeenRequest
     pub asked : AsksInfo h ask request
-    pub response_came : first_of (rest_of answers) ≡ Some response
+    pub response_came : first_answer (rest_of answers) ≡ Some response
     pub not_too_long : is_over_long response.body ≡ false
 
   -- and holds this user info
@@ -183,11 +183,11 @@ module _ {AC GC Key Use : Type 0} (types : SiteTypes AC GC Key Use) (a : Attempt
   -- ---- refusals by what came to the token request
 
   -- the transport failed on the token request
-  pub record HasNoResponse : Type 0 where
+  pub record HasNoTokenResponse : Type 0 where
     pub login : SeenLogin
     pub request : SeenRequest
     pub asked : Asks a login request
-    pub no_response : first_of answers ≡ None
+    pub no_response : first_answer answers ≡ None
 
   -- the body of its response is too long
   pub record HasLongResponse : Type 0 where
@@ -195,7 +195,7 @@ module _ {AC GC Key Use : Type 0} (types : SiteTypes AC GC Key Use) (a : Attempt
     pub request : SeenRequest
     pub asked : Asks a login request
     pub response : SeenResponse
-    pub response_came : first_of answers ≡ Some response
+    pub response_came : first_answer answers ≡ Some response
     pub too_long : is_over_long response.body ≡ true
 
   -- its response is refused: by its status, by its media type, as empty, or by what it says
@@ -268,7 +268,7 @@ module _ {AC GC Key Use : Type 0} (types : SiteTypes AC GC Key Use) (a : Attempt
     pub ask : SeenInfoRequest Key
     pub request : SeenRequest
     pub asked : AsksInfo held ask request
-    pub no_response : first_of (rest_of answers) ≡ None
+    pub no_response : first_answer (rest_of answers) ≡ None
 
   -- the body of its response is too long
   pub record HasLongInfo : Type 0 where
@@ -277,7 +277,7 @@ module _ {AC GC Key Use : Type 0} (types : SiteTypes AC GC Key Use) (a : Attempt
     pub request : SeenRequest
     pub asked : AsksInfo held ask request
     pub response : SeenResponse
-    pub response_came : first_of (rest_of answers) ≡ Some response
+    pub response_came : first_answer (rest_of answers) ≡ Some response
     pub too_long : is_over_long response.body ≡ true
 
   -- its response is refused: by its status, by its media type, as unsigned, or by what it says
@@ -297,18 +297,18 @@ module _ {AC GC Key Use : Type 0} (types : SiteTypes AC GC Key Use) (a : Attempt
 
   abbrev pub TokenCause : TokenError → Type 0
   TokenCause (token_error.Other other.Uri) = HasNoRequest a
-  TokenCause (token_error.Request cause) = HasNoResponse
+  TokenCause (token_error.Request cause) = HasNoTokenResponse
   TokenCause (token_error.TooLong body) = ⊥
   TokenCause token_error.Memory = ⊥
   TokenCause e = HasNoTokens e
 
-  abbrev pub InfoCause : InfoRefusal → Type 0
-  InfoCause (info_error.Other info_other.Bearer) = HasNoBearer
-  InfoCause (info_error.Other info_other.Uri) = HasNoInfoAddress ⊎ LacksEndpoint
-  InfoCause (info_error.Request cause) = HasNoInfoResponse
-  InfoCause (info_error.TooLong body) = ⊥
-  InfoCause info_error.Memory = ⊥
-  InfoCause e = HasNoInfo e
+  abbrev pub UserInfoCause : InfoRefusal → Type 0
+  UserInfoCause (info_error.Other info_other.Bearer) = HasNoBearer
+  UserInfoCause (info_error.Other info_other.Uri) = HasNoInfoAddress ⊎ LacksEndpoint
+  UserInfoCause (info_error.Request cause) = HasNoInfoResponse
+  UserInfoCause (info_error.TooLong body) = ⊥
+  UserInfoCause info_error.Memory = ⊥
+  UserInfoCause e = HasNoInfo e
 
   abbrev pub Cause : Error → Type 0
   Cause (login.TooLong at) = TooLongCause at
@@ -320,5 +320,5 @@ module _ {AC GC Key Use : Type 0} (types : SiteTypes AC GC Key Use) (a : Attempt
   Cause (login.Claims kind) = FailsCheck kind
   Cause (login.Signing refusal) = LacksHash refusal
   Cause login.TokenHash = HasOtherHash
-  Cause (login.UserInfo e) = InfoCause e
+  Cause (login.UserInfo e) = UserInfoCause e
   Cause (login.Memory spent) = ⊥

@@ -3,5 +3,5 @@ use Rattle.oidc_types.specs.declared.core_algorithms.CoreJwsSigningAlgorithm.{Co
 use Rattle.oidc_client.specs.Client as clients
 
 -- a client whose provider signs by keys of this type, and by algorithms of the standards
-abbrev pub SeenClient : Type 0 → Type 0
-SeenClient Key = clients.SeenClient Key CoreJwsSigningAlgorithm
+abbrev pub SeenLoginClient : Type 0 → Type 0
+SeenLoginClient Key = clients.SeenClient Key CoreJwsSigningAlgorithm

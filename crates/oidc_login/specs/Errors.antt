@@ -1,8 +1,9 @@
--- Refusals of a callback without what the transport's error carries, and want of memory, once for
--- all.
-use Rattle.std.specs.Prelude.{◌≡◌, Bool, true, false, Option, None, Some, Result, Ok, Err}
+-- Refusals of a callback without what the transport's error carries, and what they mean: want of memory, and a fault of
+-- the transport.
+use Rattle.std.specs.Prelude.{Bool, true, false, Result, Ok, Err}
 use Rattle.oidc_keys.specs.declared.refusals.SignatureVerificationError.TheVariants as signature
 use Rattle.oidc_types.specs.declared.signing_error.SigningError.TheVariants as signing
+use Rattle.oidc_oauth2.specs.Replies.{ErrorMeaning, seen_result}
 use Rattle.oidc_oauth2.specs.TokenAnswers.{seen_refusal}
 use Rattle.oidc_oauth2.specs.declared.token_answers.RequestTokenError.{RequestTokenError}
 use Rattle.oidc_oauth2.specs.declared.token_answers.RequestTokenError.TheVariants as token
@@ -34,10 +35,10 @@ seen (login.Memory spent) = login.Memory spent
 
 -- ---- tests of a refusal
 
--- want of memory, and whether the login was removed
-abbrev pub memory_of : {E : Type 0} → LoginError E → Option Bool
-memory_of (login.Memory spent) = Some spent
-memory_of e = None
+-- want of memory, whether the login was removed or not
+abbrev pub wants_memory : {E : Type 0} → LoginError E → Bool
+wants_memory (login.Memory spent) = true
+wants_memory e = false
 
 -- the login that the query names was removed
 abbrev pub spent_of : {E : Type 0} → LoginError E → Bool
@@ -77,25 +78,16 @@ hides_memory (login.UserInfo (info.TooLong body)) = true
 hides_memory (login.UserInfo (info.ClaimsVerification kind)) = is_wanting kind
 hides_memory e = false
 
--- ---- what is meant, or want of memory
+-- ---- results
 
--- the fact, unless there was no memory
-abbrev pub Unless : Option Bool → Type 0 → Type 0
-Unless (Some spent) Fact = Unit {0}
-Unless None Fact = Fact
+-- what a refusal means
+abbrev pub login_errors : {E : Type 0} → ErrorMeaning (LoginError E) Error
+login_errors = record { seen = seen; wants_memory = wants_memory; is_fault = faulted }
 
-abbrev pub OrMemory : {A E : Type 0} → Result A (LoginError E) → Type 0 → Type 0
-OrMemory (Ok x) Fact = Fact
-OrMemory (Err e) Fact = Unless (memory_of e) Fact
-
-abbrev pub reply_of : {A E : Type 0} → Result A (LoginError E) → Result A Error
-reply_of (Ok x) = Ok x
-reply_of (Err e) = Err (seen e)
+-- a result, whatever the transport's error was
+abbrev pub seen_reply : {A E : Type 0} → Result A (LoginError E) → Result A Error
+seen_reply result = seen_result login_errors result
 
 abbrev pub is_spent_by : {A E : Type 0} → Result A (LoginError E) → Bool
 is_spent_by (Ok x) = true
 is_spent_by (Err e) = spent_of e
-
--- the result is the reply that is meant, or want of memory
-abbrev pub Gives : {A E : Type 0} → Result A (LoginError E) → Result A Error → Type 0
-Gives result meant = OrMemory result (meant ≡ reply_of result)

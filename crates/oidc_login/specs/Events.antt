@@ -6,7 +6,7 @@ use Rattle.std.specs.Str.{bytes_eq}
 use Rattle.url.specs.Parts.{Parts}
 use Rattle.oidc_pairs.specs.Pairs.{pairs}
 use Rattle.oidc_oauth2.specs.Messages.{SeenRequest, SeenAnswer}
-use Rattle.oidc_login.specs.Client.{SeenClient}
+use Rattle.oidc_login.specs.Client.{SeenLoginClient}
 use Rattle.oidc_login.specs.SiteTypes.{SiteTypes}
 use Rattle.oidc_login.specs.Logins.{Pending}
 use Rattle.oidc_login.specs.Begins.{Begin, Meant as BeginMeant, begin_reply, begin_store}
@@ -35,10 +35,10 @@ pub record Step (AC GC : Type 0) : Type 0 where
   pub sent : List SeenRequest
   pub pending : Pending
 
-abbrev pub called_with : {Key : Type 0} → SeenClient Key → Pending → Call → Attempt Key
+abbrev pub called_with : {Key : Type 0} → SeenLoginClient Key → Pending → Call → Attempt Key
 called_with client pending c = start client pending c.query c.now
 
-module _ {AC GC Key Use : Type 0} (types : SiteTypes AC GC Key Use) (client : SeenClient Key) where
+module _ {AC GC Key Use : Type 0} (types : SiteTypes AC GC Key Use) (client : SeenLoginClient Key) where
   abbrev pub begin_step : Pending → Begin → Step AC GC
   begin_step pending b = record {
     reply = begun (begin_reply client pending b);
@@ -106,14 +106,14 @@ module _ {AC GC : Type 0} where
 
 module _ {AC GC Key Use : Type 0} (types : SiteTypes AC GC Key Use) where
   -- the turns of a run: its events, each with its step
-  abbrev pub turns_of : SeenClient Key → List Event → List (Event × Step AC GC)
+  abbrev pub turns_of : SeenLoginClient Key → List Event → List (Event × Step AC GC)
   turns_of client events = zip events (run_of types client events)
 
-  abbrev pub replies_of : SeenClient Key → List Event → List (Reply AC GC)
+  abbrev pub replies_of : SeenLoginClient Key → List Event → List (Reply AC GC)
   replies_of client events = map (λ s. s.reply) (run_of types client events)
 
   -- the turns behind a begin, up to the next accepted begin of its state
-  abbrev pub turns_behind : SeenClient Key → List Event → Begin → List Event → List (Event × Step AC GC)
+  abbrev pub turns_behind : SeenLoginClient Key → List Event → Begin → List Event → List (Event × Step AC GC)
   turns_behind client earlier b later =
       take_while (λ turn. not (begins_again b.request.state turn))
       (drop (suc (length earlier)) (turns_of client (earlier ++ begins b ∷ later)))
@@ -123,14 +123,14 @@ module _ {AC GC Key Use : Type 0} (types : SiteTypes AC GC Key Use) where
   -- Of the callbacks of one begin at most one sends anything, whatever came before and comes between.
   abbrev pub SpentOnce : Type 0
   SpentOnce =
-      (client : SeenClient Key) (earlier later : List Event) (b : Begin)
+      (client : SeenLoginClient Key) (earlier later : List Event) (b : Begin)
       → length (filter (has_sent b.request.state) (turns_behind client earlier b later)) ≤ 1
 
   -- A callback that is a valid login signs in, whatever came before and comes behind: its reply is the first behind
   -- those to the earlier events.
   abbrev pub ValidSignsIn : Type 0
   ValidSignsIn =
-      (client : SeenClient Key) (earlier later : List Event) (c : Call)
+      (client : SeenLoginClient Key) (earlier later : List Event) (c : Call)
       → IsValidLogin types (called_with client (store_of types client earlier) c) c.answers
       → (signed : SeenSignedIn AC GC) × (rest : List (Reply AC GC))
       × (drop (length earlier) (replies_of client (earlier ++ calls c ∷ later)) ≡ called (Ok signed) ∷ rest)

@@ -13,7 +13,7 @@ use Rattle.oidc_tokens.specs.Verification.{Accepts, first_failure}
 use Rattle.oidc_tokens.specs.Causes.{Cause}
 use Rattle.oidc_tokens.specs.declared.verification.refusals.ClaimsVerificationError.{ClaimsVerificationError}
 use Rattle.oidc_client.specs.Client as clients
-use Rattle.oidc_login.specs.Client.{SeenClient}
+use Rattle.oidc_login.specs.Client.{SeenLoginClient}
 use Rattle.oidc_login.specs.SiteTypes.{SiteTypes}
 
 -- an ID token with these additional claims and genders
@@ -34,23 +34,23 @@ KeyVerifier Key = SeenVerifier Key CoreJwsSigningAlgorithm
 module _ {AC GC Key Use : Type 0} (types : SiteTypes AC GC Key Use) where
   -- the ID token that a text is, or why it is none
   abbrev pub id_token_of : List ℕ → Result (SeenIdToken AC GC) Refusal
-  id_token_of = token_of types.encrypts types.signs (id_token_claims_of types.additional types.gender)
+  id_token_of = token_of types.encryption_named types.signing_named (id_token_claims_of types.additional types.gender)
 
   -- what a client expects: a token for itself, by its issuer, signed by an algorithm that it allows under its
   -- own secret or under one of the issuer's keys
-  abbrev pub verifier_of : SeenClient Key → KeyVerifier Key
+  abbrev pub verifier_of : SeenLoginClient Key → KeyVerifier Key
   verifier_of = clients.verifier_of types.keys.keys.symmetric_of
 
   -- a client accepts the token, with the nonce that was sent, at this moment (nanoseconds since the Unix epoch)
-  abbrev pub IsAcceptedBy : SeenClient Key → List ℕ → ℤ → SeenIdToken AC GC → Type 0
+  abbrev pub IsAcceptedBy : SeenLoginClient Key → List ℕ → ℤ → SeenIdToken AC GC → Type 0
   IsAcceptedBy client sent now token = Accepts types.keys (verifier_of client) (is_nonce sent) now token
 
   -- the first check of a token that fails
-  abbrev pub failure_for : SeenClient Key → List ℕ → ℤ → SeenIdToken AC GC → Option ClaimsVerificationError
+  abbrev pub failure_for : SeenLoginClient Key → List ℕ → ℤ → SeenIdToken AC GC → Option ClaimsVerificationError
   failure_for client sent now token =
       first_failure types.keys (verifier_of client) (is_nonce sent) now token
 
   -- why a check of a token fails, said by itself
-  abbrev pub FailsFor : SeenClient Key → List ℕ → ℤ → SeenIdToken AC GC → ClaimsVerificationError → Type 0
+  abbrev pub FailsFor : SeenLoginClient Key → List ℕ → ℤ → SeenIdToken AC GC → ClaimsVerificationError → Type 0
   FailsFor client sent now token kind =
       Cause types.keys (verifier_of client) (is_nonce sent) now token kind

@@ -23,6 +23,8 @@ pub use Rattle.oidc_pairs.specs.Pairs
 pub use Rattle.oidc_pairs.specs.Form
 pub use Rattle.oidc_members.specs.Seen
 pub use Rattle.oidc_types.specs.{TextAndUrl}
+pub use Rattle.oidc_oauth2.specs.Replies
+pub use Rattle.oidc_oauth2.specs.Exchanges
 -- what no public clause cites
 pub mod Steps
 pub mod Store

@@ -10,7 +10,7 @@ use Rattle.oidc_types.specs.UrlText.{text_and_url_code}
 use Rattle.oidc_oauth2.specs.Pkce.{is_verifier}
 use Rattle.oidc_user_info.specs.declared.requests.UserInfoResponseType.{UserInfoResponseType}
 use Rattle.oidc_user_info.specs.declared.requests.UserInfoResponseType.TheVariants.{Json, Jwt}
-use Rattle.oidc_login.specs.Client.{SeenClient}
+use Rattle.oidc_login.specs.Client.{SeenLoginClient}
 use Rattle.oidc_login.specs.declared.demand.UserInfoDemand.{UserInfoDemand}
 
 -- what is kept of a login beside its state
@@ -28,7 +28,7 @@ Pending = finite.FinMap (slice_cmp nat_cmp) SeenLogin
 
 -- a client, and its pending logins
 pub record SeenLogins (Key : Type 0) : Type 0 where
-  pub client : SeenClient Key
+  pub client : SeenLoginClient Key
   pub pending : Pending
 
 -- each pending login has a verifier of 43 to 128 bytes

@@ -9,8 +9,10 @@ use Rattle.oidc_types.specs.declared.core_authorization.CoreAuthErrorResponseTyp
 use Rattle.oidc_types.specs.declared.core_authorization.CoreAuthErrorResponseType.TheVariants.{Extension}
 use Rattle.oidc_types.specs.declared.signing_error.SigningError.{SigningError}
 use Rattle.oidc_oauth2.specs.Messages.{SeenRequest, SeenResponse, SeenAnswer}
-use Rattle.oidc_oauth2.specs.Transport.{first_of}
-use Rattle.oidc_oauth2.specs.TokenAnswers.{◌>>=◌, ◌>>◌, ◌when◌, ◌or_as◌, is_over_long}
+use Rattle.oidc_oauth2.specs.Replies.{◌>>=◌, ◌>>◌, ◌when◌, ◌for◌, ◌or◌, ◌or_as◌}
+use Rattle.oidc_oauth2.specs.Transport.{first_answer}
+use Rattle.oidc_oauth2.specs.Exchanges.{Run}
+use Rattle.oidc_oauth2.specs.TokenAnswers.{is_over_long}
 use Rattle.oidc_oauth2.specs.declared.token_answers.OtherCause.TheVariants as other
 use Rattle.oidc_oauth2.specs.declared.token_answers.RequestTokenError.TheVariants as token_error
 use Rattle.oidc_user_info.specs.UserInfoClaims.{SeenUserInfoClaims}
@@ -19,7 +21,7 @@ use Rattle.oidc_user_info.specs.InfoRequests.{SeenInfoRequest, info_request}
 use Rattle.oidc_user_info.specs.InfoRuns.{unmade}
 use Rattle.oidc_user_info.specs.declared.errors.InfoOther.TheVariants as info_other
 use Rattle.oidc_user_info.specs.declared.errors.UserInfoError.TheVariants as info_error
-use Rattle.oidc_login.specs.Client.{SeenClient}
+use Rattle.oidc_login.specs.Client.{SeenLoginClient}
 use Rattle.oidc_login.specs.SiteTypes.{SiteTypes}
 use Rattle.oidc_login.specs.Logins.{SeenLogin, Pending}
 use Rattle.oidc_login.specs.TokenRequest.{token_request}
@@ -33,29 +35,16 @@ use Rattle.oidc_login.specs.declared.demand.UserInfoDemand.{UserInfoDemand}
 use Rattle.oidc_login.specs.declared.errors.TooLong.TheVariants as place
 use Rattle.oidc_login.specs.declared.errors.LoginError.TheVariants.{TooLong, State, Provider, Callback, Token, NoIdToken, Claims, Signing, TokenHash, UserInfo}
 
--- ---- words for rows: a value, or the refusal of the first row that holds
-
+-- a value, or the refusal of the first row that holds
 abbrev pub Meant : Type 0 → Type 0
 Meant A = Result A Error
-
--- the value, or this refusal
-infixl 12 ◌or◌
-abbrev pub ◌or◌ : {A : Type 0} → Option A → Error → Meant A
-(Some x) or e = Ok x
-None or e = Err e
-
--- the refusal for what was found, where something was
-infixl 12 ◌for◌
-abbrev pub ◌for◌ : {F : Type 0} → (F → Error) → Option F → Meant (Unit {0})
-row for None = Ok tt
-row for (Some x) = Err (row x)
 
 -- ---- what a callback starts from
 
 -- a client's pending logins, and the query of a callback at a moment (nanoseconds since the Unix
 -- epoch)
 pub record Attempt (Key : Type 0) : Type 0 where
-  pub client : SeenClient Key
+  pub client : SeenLoginClient Key
   pub pending : Pending
   pub query : List ℕ
   pub now : ℤ
@@ -87,7 +76,7 @@ pub record SeenOpened : Type 0 where
 
 module _ {Key : Type 0} where
   -- those on the pairs of a query
-  unfoldable pub opening_by : SeenClient Key → Pending → List (List ℕ × List ℕ) → Meant SeenOpened
+  unfoldable pub opening_by : SeenLoginClient Key → Pending → List (List ℕ × List ℕ) → Meant SeenOpened
   opening_by client pending query = do
     login ← login_named_by pending query or State
     Provider for error_in query
@@ -95,7 +84,7 @@ module _ {Key : Type 0} where
     request ← token_request client login code or Token (token_error.Other other.Uri)
     Ok (record { login = login; request = request })
 
-  unfoldable pub opening : SeenClient Key → Pending → List ℕ → Meant SeenOpened
+  unfoldable pub opening : SeenLoginClient Key → Pending → List ℕ → Meant SeenOpened
   opening client pending query = do
     TooLong place.Callback when is_over_long query
     opening_by client pending (pairs query)
@@ -116,19 +105,19 @@ module _ {AC GC Key Use : Type 0} (types : SiteTypes AC GC Key Use) where
     tokens_or_refusal types response or_as Token
 
   -- those on the ID token, which came beside this access token
-  unfoldable pub accepting : SeenClient Key → ℤ → SeenLogin → SeenIdToken AC GC → List ℕ → Meant (Unit {0})
+  unfoldable pub accepting : SeenLoginClient Key → ℤ → SeenLogin → SeenIdToken AC GC → List ℕ → Meant (Unit {0})
   accepting client now login token access_token = do
     Claims for failure_for types client login.nonce now token
     hash_rows (claimed_hash token) (hash_beside types (verifier_of types client) token access_token)
 
   -- those on the tokens
-  unfoldable pub signing_in : SeenClient Key → ℤ → SeenLogin → Tokens AC GC → Meant (SeenSignedIn AC GC)
+  unfoldable pub signing_in : SeenLoginClient Key → ℤ → SeenLogin → Tokens AC GC → Meant (SeenSignedIn AC GC)
   signing_in client now login tokens = do
     token ← tokens.extra_fields.id_token or NoIdToken
     accepting client now login token tokens.access_token
     Ok (signed_by token tokens)
 
-  unfoldable pub after_token : SeenClient Key → ℤ → SeenLogin → SeenAnswer → Meant (SeenSignedIn AC GC)
+  unfoldable pub after_token : SeenLoginClient Key → ℤ → SeenLogin → SeenAnswer → Meant (SeenSignedIn AC GC)
   after_token client now login answer = do
     response ← answer or Token (token_error.Request tt)
     tokens ← tokens_in response
@@ -148,7 +137,7 @@ prepared ask = do
   Ok (record { ask = ask; request = request })
 
 -- those before the user info request
-unfoldable pub asking : {AC GC Key : Type 0} → SeenClient Key → UserInfoDemand → SeenSignedIn AC GC
+unfoldable pub asking : {AC GC Key : Type 0} → SeenLoginClient Key → UserInfoDemand → SeenSignedIn AC GC
     → Meant (SeenAsked Key)
 asking client demand user = do
   ask ← info_ask client demand user.access_token (subject_of user.id_token) or UserInfo (info_error.Other info_other.Uri)
@@ -170,9 +159,8 @@ module _ {AC GC Key Use : Type 0} (types : SiteTypes AC GC Key Use) where
 -- ---- the whole
 
 -- the reply to a callback, and the requests that it sends
-pub record Run (A : Type 0) : Type 0 where
-  pub reply : Meant A
-  pub sent : List SeenRequest
+abbrev pub LoginRun : Type 0 → Type 0
+LoginRun A = Run A Error
 
 -- the answers behind the first
 abbrev pub rest_of : List SeenAnswer → List SeenAnswer
@@ -180,40 +168,40 @@ rest_of [] = []
 rest_of (answer ∷ later) = later
 
 -- one request, and what comes behind it
-abbrev pub preceded_by : {A : Type 0} → SeenRequest → Run A → Run A
+abbrev pub preceded_by : {A : Type 0} → SeenRequest → LoginRun A → LoginRun A
 preceded_by request run = record { reply = run.reply; sent = request ∷ run.sent }
 
-abbrev pub answered_alone : {A : Type 0} → Meant A → Run A
+abbrev pub answered_alone : {A : Type 0} → Meant A → LoginRun A
 answered_alone reply = record { reply = reply; sent = [] }
 
 module _ {AC GC Key Use : Type 0} (types : SiteTypes AC GC Key Use) where
   -- the user info request of a user who is signed in but for that, where it can be made
-  abbrev pub asked_run : SeenSignedIn AC GC → List SeenAnswer → Meant (SeenAsked Key) → Run (SeenSignedIn AC GC)
+  abbrev pub asked_run : SeenSignedIn AC GC → List SeenAnswer → Meant (SeenAsked Key) → LoginRun (SeenSignedIn AC GC)
   asked_run user answers (Err e) = answered_alone (Err e)
   asked_run user answers (Ok asked) =
-      preceded_by asked.request (answered_alone (after_info types asked.ask.demand user (first_of answers)))
+      preceded_by asked.request (answered_alone (after_info types asked.ask.demand user (first_answer answers)))
 
   -- the same, where the login asks for it
-  abbrev pub info_run : SeenClient Key → Option UserInfoDemand → SeenSignedIn AC GC → List SeenAnswer
-      → Run (SeenSignedIn AC GC)
+  abbrev pub info_run : SeenLoginClient Key → Option UserInfoDemand → SeenSignedIn AC GC → List SeenAnswer
+      → LoginRun (SeenSignedIn AC GC)
   info_run client None user answers = answered_alone (Ok user)
   info_run client (Some demand) user answers = asked_run user answers (asking client demand user)
 
   -- what comes behind the token request
-  abbrev pub token_run : SeenClient Key → SeenLogin → List SeenAnswer → Meant (SeenSignedIn AC GC)
-      → Run (SeenSignedIn AC GC)
+  abbrev pub token_run : SeenLoginClient Key → SeenLogin → List SeenAnswer → Meant (SeenSignedIn AC GC)
+      → LoginRun (SeenSignedIn AC GC)
   token_run client login answers (Err e) = answered_alone (Err e)
   token_run client login answers (Ok user) = info_run client login.user_info user answers
 
   -- the token request of a login, where it can be made, and what comes behind it
-  abbrev pub opened_run : SeenClient Key → ℤ → List SeenAnswer → Meant SeenOpened → Run (SeenSignedIn AC GC)
+  abbrev pub opened_run : SeenLoginClient Key → ℤ → List SeenAnswer → Meant SeenOpened → LoginRun (SeenSignedIn AC GC)
   opened_run client now answers (Err e) = answered_alone (Err e)
   opened_run client now answers (Ok opened) =
       preceded_by opened.request
-      (token_run client opened.login (rest_of answers) (after_token types client now opened.login (first_of answers)))
+      (token_run client opened.login (rest_of answers) (after_token types client now opened.login (first_answer answers)))
 
   -- what a callback answers and sends, where it gets these answers; past their end comes a fault
-  abbrev pub outcome : Attempt Key → List SeenAnswer → Run (SeenSignedIn AC GC)
+  abbrev pub outcome : Attempt Key → List SeenAnswer → LoginRun (SeenSignedIn AC GC)
   outcome a answers = opened_run a.client a.now answers (opening a.client a.pending a.query)
 
 -- ---- the store

@@ -1,15 +1,15 @@
 -- What a callback leaves of any transport, and what its reply rests on.
-use Rattle.std.specs.Prelude.{◌≡◌, ◌≤◌, ◌⊎◌, ℕ, ℤ, List, [], ◌∷◌, length, take, true, if◌then◌else◌, Result, Ok, Err, IfOk, IfErr, IsOk, OnOk}
+use Rattle.std.specs.Prelude.{◌≡◌, ◌≤◌, ◌⊎◌, ℕ, ℤ, List, [], ◌∷◌, length, take, if◌then◌else◌, Result, Ok, Err, IfOk, IfErr, IsOk, OnOk}
 use Rattle.oidc_pairs.specs.Pairs.{pairs}
 use Rattle.oidc_oauth2.specs.Messages.{SeenRequest, SeenAnswer}
-use Rattle.oidc_oauth2.specs.Transport.{log_after, Plays, HasRisen}
-use Rattle.oidc_oauth2.specs.Exchanges.{Known}
+use Rattle.oidc_oauth2.specs.Replies.{Unless, OrMemory, Gives}
+use Rattle.oidc_oauth2.specs.Exchanges.{Known, Follows}
 use Rattle.oidc_user_info.specs.InfoRequests.{SeenInfoRequest}
 use Rattle.oidc_login.specs.SiteTypes.{SiteTypes}
 use Rattle.oidc_login.specs.Logins.{SeenLogin, Pending, SeenLogins}
-use Rattle.oidc_login.specs.Client.{SeenClient}
+use Rattle.oidc_login.specs.Client.{SeenLoginClient}
 use Rattle.oidc_login.specs.SignedIn.{SeenSignedIn}
-use Rattle.oidc_login.specs.Errors.{Error, seen, memory_of, faulted, is_spent_by, Unless, OrMemory, Gives}
+use Rattle.oidc_login.specs.Errors.{Error, seen, wants_memory, is_spent_by, login_errors}
 use Rattle.oidc_login.specs.Rows.{Attempt, outcome, without_named}
 use Rattle.oidc_login.specs.Causes.{Asks, Held, AsksInfo, Cause, IsSignedIn}
 use Rattle.oidc_login.specs.ValidLogin.{IsValidLogin}
@@ -45,33 +45,24 @@ module _ {AC GC Key Use : Type 0} (types : SiteTypes AC GC Key Use) where
   -- that of the outcome, or want of memory. Where the transport keeps a log, they are those that came.
   pub record Ran {E : Type 0} (a : Attempt Key) (old new : Known) (result : Result (SeenSignedIn AC GC) (LoginError E))
       : Type 0 where
-    pub answers : List SeenAnswer
-    pub logged : new.log ≡ log_after old.log (handed_over a answers) answers
-    pub plays : Plays old.script answers new.script
-    pub answered : length answers ≤ length (outcome types a answers).sent
-    pub all_sent : OrMemory result (length answers ≡ length (outcome types a answers).sent)
-    pub reply : Gives result (outcome types a answers).reply
+    pub exchanged : Follows login_errors (outcome types a) old new result
     -- at most two requests were handed over: the one that the named login and the query ask for, and where
     -- the login demands user info the one for that. For an Ok they were.
-    pub at_most_two_requests : length (handed_over a answers) ≤ 2
-    pub only_its_requests : (handed_over a answers ≡ []) ⊎ AreItsRequests a answers (handed_over a answers)
-    pub own_requests : OnOk result (AreItsRequests a answers (handed_over a answers))
+    pub at_most_two_requests : length (handed_over a exchanged.answers) ≤ 2
+    pub only_its_requests : (handed_over a exchanged.answers ≡ []) ⊎ AreItsRequests a exchanged.answers (handed_over a exchanged.answers)
+    pub own_requests : OnOk result (AreItsRequests a exchanged.answers (handed_over a exchanged.answers))
     -- each refusal has its cause, and each cause its refusal
-    pub cause : IfErr result (λ e. Unless (memory_of e) (Cause types a answers (seen e)))
-    pub refused : (e : Error) → Cause types a answers e → Gives result (Err e)
+    pub cause : IfErr result (λ e. Unless (wants_memory e) (Cause types a exchanged.answers (seen e)))
+    pub refused : (e : Error) → Cause types a exchanged.answers e → Gives login_errors result (Err e)
     -- an Ok signs in, and what signs in is an Ok
-    pub signed_in : IfOk result (IsSignedIn types a answers)
-    pub signs_in : (signed : SeenSignedIn AC GC) → IsSignedIn types a answers signed → Gives result (Ok signed)
+    pub signed_in : IfOk result (IsSignedIn types a exchanged.answers)
+    pub signs_in : (signed : SeenSignedIn AC GC) → IsSignedIn types a exchanged.answers signed → Gives login_errors result (Ok signed)
     -- a valid login signs in
-    pub valid : IsValidLogin types a answers → OrMemory result (IsOk result)
-
--- a fault of the transport comes only where its count has risen, or stands at its last value
-abbrev pub IsBlamed : {A E : Type 0} → ℕ → ℕ → Result A (LoginError E) → Type 0
-IsBlamed before now result = IfErr result (λ e. faulted e ≡ true → HasRisen before now)
+    pub valid : IsValidLogin types a exchanged.answers → OrMemory login_errors result (IsOk result)
 
 -- ---- where a callback starts, and what it leaves of the store
 
-abbrev pub start : {Key : Type 0} → SeenClient Key → Pending → List ℕ → ℤ → Attempt Key
+abbrev pub start : {Key : Type 0} → SeenLoginClient Key → Pending → List ℕ → ℤ → Attempt Key
 start client pending query now =
     record { client = client; pending = pending; query = query; now = now }
 

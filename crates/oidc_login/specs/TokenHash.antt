@@ -7,10 +7,10 @@ use Rattle.oidc_types.specs.declared.signing_error.SigningError.{SigningError}
 use Rattle.oidc_types.specs.declared.core_algorithms.CoreJwsSigningAlgorithm.{CoreJwsSigningAlgorithm}
 use Rattle.oidc_keys.specs.declared.refusals.SignatureVerificationError.{SignatureVerificationError}
 use Rattle.oidc_jwt.specs.declared.header.JsonWebTokenAlgorithm.TheVariants as algorithm
+use Rattle.oidc_oauth2.specs.Replies.{◌>>=◌}
 use Rattle.oidc_tokens.specs.Hashes.{Hashing, hashing, hash_text, hash_or_refusal}
 use Rattle.oidc_tokens.specs.Signatures.{signing_alg, key_for, checking_key}
-use Rattle.oidc_tokens.specs.Steps.{◌>>=◌}
-use Rattle.oidc_login.specs.Client.{SeenClient}
+use Rattle.oidc_login.specs.Client.{SeenLoginClient}
 use Rattle.oidc_login.specs.SiteTypes.{SiteTypes}
 use Rattle.oidc_login.specs.IdTokens.{SeenIdToken, KeyVerifier, verifier_of}
 
@@ -29,7 +29,7 @@ module _ {AC GC Key Use : Type 0} (types : SiteTypes AC GC Key Use) where
       (claim : List ℕ) → claimed_hash token ≡ Some claim → hash_under key alg access_token ≡ Some claim
 
   -- The same by the algorithm that the token is signed by, under the key that checks it for this client.
-  abbrev pub HasOwnHash : SeenClient Key → SeenIdToken AC GC → List ℕ → Type 0
+  abbrev pub HasOwnHash : SeenLoginClient Key → SeenIdToken AC GC → List ℕ → Type 0
   HasOwnHash client token access_token =
       (alg : CoreJwsSigningAlgorithm) (key : Key) → token.header.alg ≡ algorithm.Signature alg
       → key_for types.keys (verifier_of types client) token.header.kid alg ≡ Ok key

@@ -10,7 +10,7 @@ use Rattle.oidc_oauth2.specs.TokenResponse.{SeenTokens, tokens_of}
 use Rattle.oidc_oauth2.specs.TokenAnswers.{TokenRefusal, status_worth}
 use Rattle.oidc_oauth2.specs.declared.error_types.CoreErrorResponseType.{CoreErrorResponseType}
 use Rattle.oidc_oauth2.specs.declared.token_type.CoreTokenType.{CoreTokenType}
-use Rattle.oidc_oauth2.specs.declared.extra.EmptyExtraTokenFields.{EmptyExtraTokenFields}
+use Rattle.oidc_oauth2.specs.declared.extra_fields.EmptyExtraTokenFields.{EmptyExtraTokenFields}
 use Rattle.oidc_tokens.specs.IdTokenFields.{SeenIdTokenFields, response_fields_of}
 use Rattle.oidc_login.specs.SiteTypes.{SiteTypes}
 use Rattle.oidc_login.specs.IdTokens.{SeenIdToken, id_token_of}

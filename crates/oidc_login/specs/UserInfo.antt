@@ -3,7 +3,7 @@
 use Rattle.std.specs.Prelude.{ℕ, List, Option, Some, option_map}
 use Rattle.oidc_user_info.specs.InfoRequests.{SeenInfoRequest}
 use Rattle.oidc_client.specs.Client.{info_request_at}
-use Rattle.oidc_login.specs.Client.{SeenClient}
+use Rattle.oidc_login.specs.Client.{SeenLoginClient}
 use Rattle.oidc_login.specs.declared.demand.UserInfoDemand.{UserInfoDemand}
 
 module _ {Key : Type 0} where
@@ -22,7 +22,7 @@ module _ {Key : Type 0} where
 
   -- The request to the client's endpoint, with this access token, for what is demanded of user info about this
   -- subject. A client without an endpoint has none, and no login that asks for it: `begin` refuses it.
-  abbrev pub info_ask : SeenClient Key → UserInfoDemand → List ℕ → List ℕ → Option (SeenInfoRequest Key)
+  abbrev pub info_ask : SeenLoginClient Key → UserInfoDemand → List ℕ → List ℕ → Option (SeenInfoRequest Key)
   info_ask client demand access_token subject =
       option_map (λ endpoint. demanded demand (info_request_at client access_token (Some subject) endpoint))
       client.user_info_url

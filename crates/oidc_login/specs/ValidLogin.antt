@@ -5,7 +5,7 @@ use Rattle.http_header.specs.FieldValue.{is_visible_text}
 use Rattle.oidc_pairs.specs.Pairs.{pairs, values, only_of}
 use Rattle.oidc_oauth2.specs.Messages.{SeenRequest, SeenResponse, SeenAnswer}
 use Rattle.oidc_oauth2.specs.Requests.{is_address}
-use Rattle.oidc_oauth2.specs.Transport.{first_of}
+use Rattle.oidc_oauth2.specs.Transport.{first_answer}
 use Rattle.oidc_oauth2.specs.TokenAnswers.{is_over_long, is_empty, may_be_json, record_in}
 use Rattle.oidc_user_info.specs.UserInfoClaims.{SeenUserInfoClaims}
 use Rattle.oidc_user_info.specs.InfoAnswers.{claims_in}
@@ -46,7 +46,7 @@ module _ {AC GC Key Use : Type 0} (types : SiteTypes AC GC Key Use) where
       pub own_endpoint : a.client.user_info_url ≡ Some endpoint
       pub address : is_address endpoint.text ≡ true
       pub response : SeenResponse
-      pub response_came : first_of (rest_of answers) ≡ Some response
+      pub response_came : first_answer (rest_of answers) ≡ Some response
       pub found : SeenUserInfoClaims AC GC
       pub info_answer : IsValidInfoAnswer subject found response
 
@@ -62,7 +62,7 @@ module _ {AC GC Key Use : Type 0} (types : SiteTypes AC GC Key Use) where
       pub request : SeenRequest
       pub request_made : token_request a.client login code ≡ Some request
       pub response : SeenResponse
-      pub response_came : first_of answers ≡ Some response
+      pub response_came : first_answer answers ≡ Some response
       pub tokens : Tokens AC GC
       pub token_answer : IsValidTokenAnswer tokens response
       pub token : SeenIdToken AC GC

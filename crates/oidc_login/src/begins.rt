@@ -167,7 +167,10 @@ fn record(pending: &mut Store, url: Url, state: CsrfToken, login: Login) -> Resu
 {
     match pending.insert(state.into_string(), login) {
         Ok(()) => Ok(url),
-        Err(_) => Err(BeginError::Memory),
+        Err(_) => {
+            drop(url);
+            Err(BeginError::Memory)
+        }
     }
 }
 
@@ -205,7 +208,11 @@ fn finish(
             };
             record(pending, url, state, login)
         }
-        Err(refusal) => Err(refusal),
+        Err(refusal) => {
+            drop(redirect_uri);
+            drop(verifier);
+            Err(refusal)
+        }
     }
 }
 

@@ -111,7 +111,7 @@ pub enum LoginError<E> {
     /// There was no memory.
     #[error("out of memory")]
     Memory {
-        /// Whether the login was removed. Where it wasn't, nothing was sent either.
+        /// Whether the login was removed. Where it wasn't, the transport is as it was too.
         spent: bool,
     },
 }

@@ -1,5 +1,5 @@
-//! Laws of whole runs, each the contract of a function that does nothing; and the law on the claims of ID tokens,
-//! passed on.
+//! Laws of whole runs, each the contract of a function that does nothing; and the laws on the claims of ID tokens and
+//! of user info, passed on.
 
 ghost use Rattle.oidc_login.specs.SiteTypes.{site_types};
 ghost use Rattle.oidc_login.specs.Events.{SpentOnce, ValidSignsIn};
@@ -8,6 +8,7 @@ use oidc_claims::{AdditionalClaims, GenderClaim};
 use oidc_keys::JsonWebKey;
 pub use oidc_tokens::laws::claims_one_home;
 use oidc_types::CoreJwsSigningAlgorithm;
+pub use oidc_user_info::laws::info_claims_one_home;
 
 /// Of the callbacks of one begin, up to the next accepted begin of its state, at most one sends anything: in the run of
 /// every list of begins and callbacks, over every client.

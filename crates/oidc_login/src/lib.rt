@@ -4,10 +4,9 @@
 //! - [`MetadataClient`] is the client of a provider's metadata, of `oidc_client`, whatever the site's types of
 //!   additional claims, genders and keys; [`LoginClient`] is that of the standards' keys which keeps all claims, and
 //!   [`LoginRequest`] its request.
-//! - [`logins::Logins`] is the store. [`logins::Logins::begin`] gives the authorization URL of a
-//!   login and keeps its nonce, its PKCE verifier and what it demands of user info ([`UserInfoDemand`]);
-//!   [`logins::Logins::callback`] takes the login that a callback names, exchanges its code, asks for user info
-//!   where the login demands it, and signs the user in.
+//! - [`Logins`] is the store. [`Logins::begin`] gives the authorization URL of a login and keeps its nonce, its PKCE
+//!   verifier and what it demands of user info ([`UserInfoDemand`]); [`Logins::callback`] takes the login that a
+//!   callback names, exchanges its code, asks for user info where the login demands it, and signs the user in.
 //! - [`laws`] has what holds of whole runs of begins and callbacks.
 //!
 //! The transport is the caller's: anything that implements `oidc_oauth2::SyncHttpClient`, as
@@ -17,15 +16,16 @@
 //! own token request, accepted at the given moment with the named login's nonce, and whose
 //! `at_hash`, where it has one, is the hash of the access token that came beside it. User info is there
 //! exactly where the login demands it, about the ID token's subject. It sends at most two requests, its own:
-//! that for the code, and behind an accepted ID token that for user info. Where it sends any the named login is
-//! gone afterwards. A callback leaves every other login as it was. Every refusal but want of memory has its
-//! cause, and a valid login is signed in, where there is memory. The contracts of `begin` and `callback` say so by
-//! the definitions in `specs/`: the table of a callback in `specs/Rows.antt`, what each reply rests on in `specs/Causes.antt`, a valid
-//! login in `specs/ValidLogin.antt`, and all together as `Ran` in `specs/Runs.antt`; whole runs in `specs/Events.antt`.
+//! that for the code, and behind an accepted ID token that for user info. Unless the named login is gone
+//! afterwards, the transport is as it was. A callback leaves every other login as it was. Every refusal but want of
+//! memory has its cause, and a valid login is signed in, or the answer is want of memory. The contracts of `begin` and
+//! `callback` say so by the definitions in `specs/`: the table of a callback in `specs/Rows.antt`, what each reply
+//! rests on in `specs/Causes.antt`, a valid login in `specs/ValidLogin.antt`, and all together as `Ran` in
+//! `specs/Runs.antt`; whole runs in `specs/Events.antt`.
 //!
 //! `Ran` says all this for some answers. Where the transport keeps a log, they are those that came.
 //! Of one that keeps none, as over a network, a contract can't say what came; `callback` is one
-//! function for every transport, and can't tell the two apart.
+//! function for every transport, and nothing that it may call says which of the two it was handed.
 //!
 //! No contract says in which order things are done. That the login is removed before anything is
 //! sent, the body of `callback` shows: it takes the login out first, and hands the request over
@@ -36,13 +36,12 @@
 #![tactic(auto)]
 
 mod begins;
-pub mod client;
-pub mod demand;
-pub mod errors;
-mod exchanges;
+mod client;
+mod demand;
+mod errors;
 pub mod laws;
-pub mod logins;
-pub mod signed_in;
+mod logins;
+mod signed_in;
 mod steps;
 mod store;
 mod user_info;

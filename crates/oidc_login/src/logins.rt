@@ -5,11 +5,12 @@ ghost use Rattle.std.specs.FinMap as finite;
 ghost use Rattle.url.specs.Parts.{serialize};
 ghost use Rattle.oidc_pairs.specs.Pairs.{pairs};
 ghost use Rattle.oidc_oauth2.specs.Pkce.{is_verifier, s256};
-ghost use Rattle.oidc_oauth2.specs.Exchanges.{known};
+ghost use Rattle.oidc_oauth2.specs.Replies.{Gives, OrMemory};
+ghost use Rattle.oidc_oauth2.specs.Exchanges.{known, IsRequestBlamed};
 ghost use Rattle.oidc_oauth2.specs.TokenAnswers.{is_over_long};
 ghost use Rattle.oidc_client.specs.Authorization.{HasChallenge, IsUnmanagedBeside, StandOnce};
 ghost use Rattle.oidc_types.specs.declared.core_authorization.CoreAuthErrorResponseType.{CoreAuthErrorResponseType};
-ghost use Rattle.oidc_login.specs.Errors.{hides_memory, is_spent_by, Gives, OrMemory};
+ghost use Rattle.oidc_login.specs.Errors.{hides_memory, is_spent_by, login_errors};
 ghost use Rattle.oidc_login.specs.SiteTypes.{site_types};
 ghost use Rattle.oidc_login.specs.IdTokens.{subject_of, IsAcceptedBy};
 ghost use Rattle.oidc_login.specs.TokenHash.{HasOwnHash};
@@ -17,7 +18,7 @@ ghost use Rattle.oidc_login.specs.Logins.{HasVerifiers, HasEndpoints};
 ghost use Rattle.oidc_login.specs.Begins.{begin_of, begin_reply, is_code_flow, url_with, Begins, with_login};
 ghost use Rattle.oidc_login.specs.Rows.{login_named_by, callback_store};
 ghost use Rattle.oidc_login.specs.Causes.{AsksNothing, HasError, LacksCode, HasNoRequest};
-ghost use Rattle.oidc_login.specs.Runs.{Ran, IsBlamed, Leaves, attempt};
+ghost use Rattle.oidc_login.specs.Runs.{Ran, Leaves, attempt};
 ghost use Rattle.oidc_oauth2.specs.declared.token_answers.OtherCause.TheVariants as other;
 ghost use Rattle.oidc_oauth2.specs.declared.token_answers.RequestTokenError.TheVariants as token;
 
@@ -179,10 +180,10 @@ impl<
     /// token in the answer, where it is accepted at `now` with the login's nonce. Where the login demands user
     /// info it asks for that too, about the ID token's subject, once the ID token is accepted.
     ///
-    /// The login is removed before anything is sent. `LoginError::spent` says whether it was. The
-    /// errors are, in this order: `TooLong(Callback)`, where the query has more than 1,048,576 bytes; `State`,
-    /// where it hasn't one `state` of a pending login; `Provider`, where it has an `error`, the first of which is
-    /// carried; `Callback`, where it hasn't one `code`; `Token(Other(Uri))`, where the token endpoint's address
+    /// `LoginError::spent` says whether the login was removed; that this comes before anything is sent the body
+    /// shows, and no clause. The errors are, in this order: `TooLong(Callback)`, where the query has more than
+    /// 1,048,576 bytes; `State`, where it hasn't one `state` of a pending login; `Provider`, where it has an `error`,
+    /// the first of which is carried; `Callback`, where it hasn't one `code`; `Token(Other(Uri))`, where the token endpoint's address
     /// isn't one that is sent to; `Token(Request)`, where the transport fails; `TooLong(TokenAnswer)`, where the
     /// answer has more than 1,048,576 bytes; the other `Token`, where it holds no tokens, or an ID token that
     /// doesn't read; `NoIdToken`, where these have no ID token among them; `Claims`, where a check of it fails;
@@ -234,11 +235,11 @@ impl<
             found.standard_claims.subject ≡ subject_of signed.id_token)) }
 
         // The login that the query names is removed where `spent` says so, and no other. Where none
-        // was removed, or the query asks for no request, the transport isn't touched.
+        // was removed, or the query asks for no request, the transport is as it was.
         ensures store { let a = attempt self.old query.now now.nanosecond in
             Leaves a self.new.pending result }
         ensures left { let meant = callback_store self.old.pending query.now in
-            OrMemory result (self.new.pending ≡ meant) }
+            OrMemory login_errors result (self.new.pending ≡ meant) }
         ensures removed { is_spent_by result ≡ true
             → IsSome (login_named_by self.old.pending (pairs query.now)) }
         ensures unspent { is_spent_by result ≡ false
@@ -258,25 +259,26 @@ impl<
             → login_named_by self.old.pending (pairs query.now) ≡ None }
         ensures no_state { is_over_long query.now ≡ false
             → login_named_by self.old.pending (pairs query.now) ≡ None
-            → OrMemory result (result ≡ Err LoginError.State) }
+            → OrMemory login_errors result (result ≡ Err LoginError.State) }
         ensures provider { let a = attempt self.old query.now now.nanosecond in
             (code : CoreAuthErrorResponseType) → result ≡ Err (LoginError.Provider code)
             → HasError a code }
         ensures error { let a = attempt self.old query.now now.nanosecond in
             (code : CoreAuthErrorResponseType) → HasError a code
-            → Gives result (Err (LoginError.Provider code)) }
+            → Gives login_errors result (Err (LoginError.Provider code)) }
         ensures callback { let a = attempt self.old query.now now.nanosecond in
             result ≡ Err LoginError.Callback → LacksCode a }
         ensures no_code { let a = attempt self.old query.now now.nanosecond in
-            LacksCode a → Gives result (Err LoginError.Callback) }
+            LacksCode a → Gives login_errors result (Err LoginError.Callback) }
         ensures uri { let a = attempt self.old query.now now.nanosecond in
             result ≡ Err (LoginError.Token (token.Other other.Uri)) → HasNoRequest a }
         ensures no_address { let a = attempt self.old query.now now.nanosecond in
-            HasNoRequest a → Gives result (Err (LoginError.Token (token.Other other.Uri))) }
+            HasNoRequest a
+            → Gives login_errors result (Err (LoginError.Token (token.Other other.Uri))) }
 
         // A fault of the transport comes only where its count has risen, or stands at its last
         // value.
-        ensures blamed { IsBlamed (H.faults http.old) (H.faults http.new) result }
+        ensures blamed { IsRequestBlamed login_errors (H.faults http.old) (H.faults http.new) result }
         ensures never_falls { H.faults http.old ≤ H.faults http.new }
 
         // Want of memory is `Memory`, and never stands inside another refusal, nor does a body that is too long.

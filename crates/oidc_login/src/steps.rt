@@ -5,11 +5,12 @@ ghost use Rattle.oidc_pairs.specs.Pairs.{pairs};
 ghost use Rattle.oidc_oauth2.specs.Pkce.{is_verifier};
 ghost use Rattle.oidc_oauth2.specs.Messages.{seen_response};
 ghost use Rattle.oidc_oauth2.specs.TokenAnswers.{is_over_long};
-ghost use Rattle.oidc_oauth2.specs.Requests.{Prepares};
-ghost use Rattle.oidc_oauth2.specs.Exchanges.{known};
+ghost use Rattle.oidc_oauth2.specs.Requests.{code_request, Prepares};
+ghost use Rattle.oidc_oauth2.specs.Replies.{Gives, OrMemory, Unless};
+ghost use Rattle.oidc_oauth2.specs.Exchanges.{answer_of, known, Follows, IsRequestBlamed};
 ghost use Rattle.oidc_types.specs.declared.signing_error.SigningError.TheVariants.{UnsupportedAlg};
 ghost use Rattle.oidc_tokens.specs.Hashes.{GivesHash};
-ghost use Rattle.oidc_login.specs.Errors.{faulted, is_spent_by, memory_of, seen, spent_of, Gives, OrMemory, Unless};
+ghost use Rattle.oidc_login.specs.Errors.{faulted, is_spent_by, login_errors, seen, spent_of, wants_memory};
 ghost use Rattle.oidc_login.specs.Logins.{HasVerifiers};
 ghost use Rattle.oidc_login.specs.SiteTypes.{site_types};
 ghost use Rattle.oidc_login.specs.TokenRequest as request;
@@ -18,12 +19,11 @@ ghost use Rattle.oidc_login.specs.TokenHash.{claimed_hash};
 ghost use Rattle.oidc_login.specs.Rows as rows;
 ghost use Rattle.oidc_login.specs.Rows.{login_named_by, without_named, callback_store, SeenOpened};
 ghost use Rattle.oidc_login.specs.Causes.{AsksNothing};
-ghost use Rattle.oidc_login.specs.Runs.{Ran, IsBlamed, Leaves, start};
-ghost use Rattle.oidc_login.specs.Steps.{answer_of, Faults, Follows, IsPassed};
+ghost use Rattle.oidc_login.specs.Runs.{Ran, Leaves, start};
+ghost use Rattle.oidc_login.specs.Steps.{Faults, IsPassed};
 
 use crate::client::MetadataClient;
 use crate::errors::{LoginError, TooLong};
-use crate::exchanges::exchange;
 use crate::signed_in::{LoginIdToken, SignedIn, TokenResponse};
 use crate::store::{Login, Store};
 use crate::user_info::ask_info;
@@ -34,7 +34,7 @@ use oidc_members::FieldName;
 use oidc_oauth2::{
     ClientAuth, CodeTokenRequest, CoreErrorResponseType, HttpRequest, HttpResponse,
     OAuth2TokenResponse, OtherCause, PrepareError, RequestTokenError, StandardErrorResponse,
-    SyncHttpClient, token_answer,
+    SyncHttpClient, exchange, token_answer,
 };
 use oidc_pairs::Pairs;
 use oidc_tokens::{IdTokenVerifier, from_token};
@@ -45,8 +45,8 @@ use oidc_types::{
 use std::alloc::Global;
 use std::marker::Model;
 
-/// The most bytes that the query of a callback may have.
-pub const MAX_QUERY: usize = 1_048_576;
+// The most bytes that the query of a callback may have.
+const MAX_QUERY: usize = 1_048_576;
 
 // A login that was taken out, and its token request.
 #[derive(Drop)]
@@ -78,6 +78,25 @@ fn take_named(pending: &mut Store, query: &Pairs) -> Option<Login>
     }
 }
 
+// The request of a login for its tokens.
+type CodeRequest<'a, AC, GC> = CodeTokenRequest<
+    'a,
+    StandardErrorResponse<CoreErrorResponseType>,
+    TokenResponse<AC, GC>,
+>;
+
+// What a request hands over, where it can be made. The request is let go.
+fn prepared<AC: AdditionalClaims, GC: GenderClaim>(
+    alloc: Global,
+    request: CodeRequest<'_, AC, GC>,
+) -> Result<HttpRequest, PrepareError>
+    ensures { Prepares result (code_request request.entry) }
+{
+    let made = request.prepare(alloc);
+    drop(request);
+    made
+}
+
 // The request for a code, with the login's verifier and its redirect, to the client's token endpoint.
 #[tactic(auto, unfolding(crate::specs::TokenRequest::token_request))]
 fn token_request<
@@ -102,21 +121,19 @@ fn token_request<
     };
     let code = AuthorizationCode::new(String::from_str(alloc, code)?);
     let verifier = login.verifier.clone_in(alloc)?;
-    let request: CodeTokenRequest<
-        '_,
-        StandardErrorResponse<CoreErrorResponseType>,
-        TokenResponse<AC, GC>,
-    > = CodeTokenRequest::new(alloc, endpoint, auth, code).set_pkce_verifier(verifier);
+    let request: CodeRequest<'_, AC, GC> = CodeTokenRequest::new(
+        alloc, endpoint, auth, code,
+    ).set_pkce_verifier(verifier);
     match &login.redirect_uri {
-        None => request.prepare(alloc),
-        Some(redirect) => request.set_redirect_uri(redirect).prepare(alloc),
+        None => prepared(alloc, request),
+        Some(redirect) => prepared(alloc, request.set_redirect_uri(redirect)),
     }
 }
 
 // The refusal of a query by its first `error`.
 #[tactic(auto, unfolding(crate::specs::Rows::error_word))]
 fn provider_refusal<E>(alloc: Global, text: &str) -> LoginError<E>
-    ensures gives { Gives {A = SeenOpened} (Err result)
+    ensures gives { Gives login_errors {A = SeenOpened} (Err result)
         (Err (LoginError.Provider (rows.error_word text.now))) }
     ensures no_fault { faulted result ≡ false }
     ensures spent { spent_of result ≡ true }
@@ -140,11 +157,11 @@ fn open<
     pending: &mut Store,
     query: &Pairs,
 ) -> Result<Opened, LoginError<E>>
-    ensures gives { Gives result (rows.opening_by client.now pending.old query.now) }
+    ensures gives { Gives login_errors result (rows.opening_by client.now pending.old query.now) }
     ensures no_fault { IfErr result (λ e. faulted e ≡ false) }
     ensures store { pending.new ≡ (if is_spent_by result
         then without_named pending.old query.now else pending.old) }
-    ensures left { OrMemory result (pending.new ≡ without_named pending.old query.now) }
+    ensures left { OrMemory login_errors result (pending.new ≡ without_named pending.old query.now) }
     ensures removed { is_spent_by result ≡ true → IsSome (login_named_by pending.old query.now) }
     ensures verifiers { HasVerifiers pending.old → HasVerifiers pending.new }
 {
@@ -152,15 +169,23 @@ fn open<
         return Err(LoginError::State);
     };
     if let Some(error) = query.first("error") {
+        drop(login);
         return Err(provider_refusal(alloc, error));
     }
     let Some(code) = query.only("code") else {
+        drop(login);
         return Err(LoginError::Callback);
     };
     match token_request(alloc, client, &login, code) {
         Ok(request) => Ok(Opened { login, request }),
-        Err(PrepareError::Uri) => Err(LoginError::Token(RequestTokenError::Other(OtherCause::Uri))),
-        Err(PrepareError::Memory) => Err(LoginError::Memory { spent: true }),
+        Err(PrepareError::Uri) => {
+            drop(login);
+            Err(LoginError::Token(RequestTokenError::Other(OtherCause::Uri)))
+        }
+        Err(PrepareError::Memory) => {
+            drop(login);
+            Err(LoginError::Memory { spent: true })
+        }
     }
 }
 
@@ -184,11 +209,11 @@ pub(crate) fn opening<
     pending: &mut Store,
     query: &[u8],
 ) -> Result<Opened, LoginError<E>>
-    ensures gives { Gives result (rows.opening client.now pending.old query.now) }
+    ensures gives { Gives login_errors result (rows.opening client.now pending.old query.now) }
     ensures no_fault { IfErr result (λ e. faulted e ≡ false) }
     ensures store { pending.new ≡ (if is_spent_by result
         then without_named pending.old (pairs query.now) else pending.old) }
-    ensures left { OrMemory result (pending.new ≡ callback_store pending.old query.now) }
+    ensures left { OrMemory login_errors result (pending.new ≡ callback_store pending.old query.now) }
     ensures removed { is_spent_by result ≡ true
         → IsSome (login_named_by pending.old (pairs query.now)) }
     ensures over_long { is_over_long query.now ≡ true
@@ -214,7 +239,7 @@ fn tokens_in<
 >(alloc: Global, response: HttpResponse) -> Result<TokenResponse<AC, GC>, LoginError<E>>
     ensures gives { let types = site_types AC.read_of GC.read_of
         K.JsonWebKey K.KeyUse.JsonWebKeyUse in
-        Gives result (rows.tokens_in types (seen_response response)) }
+        Gives login_errors result (rows.tokens_in types (seen_response response)) }
     ensures no_fault { IfErr result (λ e. faulted e ≡ false) }
     ensures spent { is_spent_by result ≡ true }
 {
@@ -271,7 +296,7 @@ fn check_hash<
     ensures gives { let types = site_types AC.read_of GC.read_of
         K.JsonWebKey K.KeyUse.JsonWebKeyUse in
         let hash = hashes.hash_beside types verifier.now token.now access_token.now in
-        Gives result (rows.hash_rows (claimed_hash token.now) hash) }
+        Gives login_errors result (rows.hash_rows (claimed_hash token.now) hash) }
     ensures no_fault { IfErr result (λ e. faulted e ≡ false) }
     ensures spent { is_spent_by result ≡ true }
 {
@@ -308,7 +333,7 @@ fn accepting<
     ensures gives { let types = site_types AC.read_of GC.read_of
         K.JsonWebKey K.KeyUse.JsonWebKeyUse in
         let meant = rows.accepting types client.now now.nanosecond login.now in
-        Gives result (meant token.now access_token.now) }
+        Gives login_errors result (meant token.now access_token.now) }
     ensures no_fault { IfErr result (λ e. faulted e ≡ false) }
     ensures spent { is_spent_by result ≡ true }
 {
@@ -341,7 +366,7 @@ fn checking<
     ensures refused { let types = site_types AC.read_of GC.read_of
         K.JsonWebKey K.KeyUse.JsonWebKeyUse in
         let meant = rows.signing_in types client.now now.nanosecond login.now tokens.now in
-        IfErr result (λ e. Unless (memory_of e) (meant ≡ Err (seen e))) }
+        IfErr result (λ e. Unless (wants_memory e) (meant ≡ Err (seen e))) }
     ensures no_fault { IfErr result (λ e. faulted e ≡ false) }
     ensures spent { is_spent_by result ≡ true }
 {
@@ -366,7 +391,8 @@ fn signing_in<
 ) -> Result<SignedIn<AC, GC>, LoginError<E>>
     ensures gives { let types = site_types AC.read_of GC.read_of
         K.JsonWebKey K.KeyUse.JsonWebKeyUse in
-        Gives result (rows.signing_in types client.now now.nanosecond login.now tokens) }
+        let meant = rows.signing_in types client.now now.nanosecond login.now tokens in
+        Gives login_errors result meant }
     ensures no_fault { IfErr result (λ e. faulted e ≡ false) }
     ensures spent { is_spent_by result ≡ true }
 {
@@ -396,7 +422,7 @@ pub(crate) fn after_token<
     ensures gives { let types = site_types AC.read_of GC.read_of
         K.JsonWebKey K.KeyUse.JsonWebKeyUse in
         let meant = rows.after_token types client.now now.nanosecond login.now in
-        Gives result (meant (answer_of answer)) }
+        Gives login_errors result (meant (answer_of answer)) }
     ensures fault { Faults (answer_of answer) result }
     ensures spent { is_spent_by result ≡ true }
 {
@@ -430,9 +456,9 @@ fn sign_in<
         let run = rows.opened_run types client.now now.nanosecond in
         let before = known (H.log http.old) (H.script http.old) in
         let after = known (H.log http.new) (H.script http.new) in
-        Follows (λ answers. run answers (Ok opened)) before after result }
+        Follows login_errors (λ answers. run answers (Ok opened)) before after result }
     ensures spent { is_spent_by result ≡ true }
-    ensures blamed { IsBlamed (H.faults http.old) (H.faults http.new) result }
+    ensures blamed { IsRequestBlamed login_errors (H.faults http.old) (H.faults http.new) result }
     ensures never_falls { H.faults http.old ≤ H.faults http.new }
 {
     let Opened { login, request } = opened;
@@ -440,8 +466,11 @@ fn sign_in<
         drop(login);
         return Err(LoginError::Memory { spent: true });
     };
-    match after_token(alloc, client, now, &login, answer) {
-        Ok(user) => ask_info(alloc, client, http, login.user_info, user),
+    let demand = login.user_info;
+    let checked = after_token(alloc, client, now, &login, answer);
+    drop(login);
+    match checked {
+        Ok(user) => ask_info(alloc, client, http, demand, user),
         Err(error) => Err(error),
     }
 }
@@ -471,7 +500,7 @@ pub(crate) fn drive<
         Ran types a before after result }
     ensures store { let a = start client.now pending.old query.now now.nanosecond in
         Leaves a pending.new result }
-    ensures left { OrMemory result (pending.new ≡ callback_store pending.old query.now) }
+    ensures left { OrMemory login_errors result (pending.new ≡ callback_store pending.old query.now) }
     ensures removed { is_spent_by result ≡ true
         → IsSome (login_named_by pending.old (pairs query.now)) }
     ensures unspent { is_spent_by result ≡ false
@@ -480,7 +509,7 @@ pub(crate) fn drive<
         AsksNothing a → http.new ≡ http.old }
     ensures over_long { is_over_long query.now ≡ true
         → result ≡ Err (LoginError.TooLong TooLong.Callback) }
-    ensures blamed { IsBlamed (H.faults http.old) (H.faults http.new) result }
+    ensures blamed { IsRequestBlamed login_errors (H.faults http.old) (H.faults http.new) result }
     ensures never_falls { H.faults http.old ≤ H.faults http.new }
     ensures verifiers { HasVerifiers pending.old → HasVerifiers pending.new }
 {

@@ -2,22 +2,21 @@
 
 ghost use Rattle.std.specs.Prelude.{◌≡◌, ◌≤◌, Some, IfErr, IfOk, false, true};
 ghost use Rattle.oidc_oauth2.specs.Messages.{seen_response};
-ghost use Rattle.oidc_oauth2.specs.Exchanges.{known};
-ghost use Rattle.oidc_login.specs.Errors.{faulted, is_spent_by, Gives};
+ghost use Rattle.oidc_oauth2.specs.Replies.{Gives};
+ghost use Rattle.oidc_oauth2.specs.Exchanges.{answer_of, known, Follows, IsRequestBlamed};
+ghost use Rattle.oidc_login.specs.Errors.{faulted, is_spent_by, login_errors};
 ghost use Rattle.oidc_login.specs.SiteTypes.{site_types};
 ghost use Rattle.oidc_login.specs.UserInfo as spec;
 ghost use Rattle.oidc_login.specs.Rows as rows;
-ghost use Rattle.oidc_login.specs.Runs.{IsBlamed};
-ghost use Rattle.oidc_login.specs.Steps.{answer_of, Faults, Follows};
+ghost use Rattle.oidc_login.specs.Steps.{Faults};
 
 use crate::client::MetadataClient;
 use crate::demand::UserInfoDemand;
 use crate::errors::LoginError;
-use crate::exchanges::exchange;
 use crate::signed_in::SignedIn;
 use oidc_claims::{AdditionalClaims, GenderClaim};
 use oidc_keys::JsonWebKey;
-use oidc_oauth2::{HttpRequest, HttpResponse, SyncHttpClient};
+use oidc_oauth2::{HttpRequest, HttpResponse, SyncHttpClient, exchange};
 use oidc_types::{
     AccessToken, CoreJweContentEncryptionAlgorithm, CoreJwsSigningAlgorithm, SubjectIdentifier,
 };
@@ -75,19 +74,24 @@ fn prepared<'a, K: JsonWebKey, E>(
     alloc: Global,
     ask: InfoRequest<'a, K>,
 ) -> Result<Asked<'a, K>, LoginError<E>>
-    ensures gives { Gives result (rows.prepared ask.entry) }
+    ensures gives { Gives login_errors result (rows.prepared ask.entry) }
     ensures no_fault { IfErr result (λ e. faulted e ≡ false) }
     ensures spent { is_spent_by result ≡ true }
 {
     match ask.prepare(alloc) {
         Ok(request) => Ok(Asked { ask, request }),
         Err(PrepareInfoError::Bearer) => {
+            drop(ask);
             Err(LoginError::UserInfo(UserInfoError::Other(InfoOther::Bearer)))
         }
         Err(PrepareInfoError::Uri) => {
+            drop(ask);
             Err(LoginError::UserInfo(UserInfoError::Other(InfoOther::Uri)))
         }
-        Err(PrepareInfoError::Memory) => Err(LoginError::Memory { spent: true }),
+        Err(PrepareInfoError::Memory) => {
+            drop(ask);
+            Err(LoginError::Memory { spent: true })
+        }
     }
 }
 
@@ -105,7 +109,7 @@ pub(crate) fn asking<
     demand: UserInfoDemand,
     user: &SignedIn<AC, GC>,
 ) -> Result<Asked<'a, K>, LoginError<E>>
-    ensures gives { Gives result (rows.asking client.now demand user.now) }
+    ensures gives { Gives login_errors result (rows.asking client.now demand user.now) }
     ensures no_fault { IfErr result (λ e. faulted e ≡ false) }
     ensures spent { is_spent_by result ≡ true }
 {
@@ -132,7 +136,7 @@ fn info_in<
 ) -> Result<UserInfoClaims<AC, GC>, LoginError<E>>
     ensures gives { let types = site_types AC.read_of GC.read_of
         K.JsonWebKey K.KeyUse.JsonWebKeyUse in
-        Gives result (rows.info_in types ask.entry.demand (seen_response response)) }
+        Gives login_errors result (rows.info_in types ask.entry.demand (seen_response response)) }
     ensures no_fault { IfErr result (λ e. faulted e ≡ false) }
     ensures spent { is_spent_by result ≡ true }
 {
@@ -157,7 +161,7 @@ pub(crate) fn after_info<
 ) -> Result<SignedIn<AC, GC>, LoginError<E>>
     ensures gives { let types = site_types AC.read_of GC.read_of
         K.JsonWebKey K.KeyUse.JsonWebKeyUse in
-        Gives result (rows.after_info types ask.entry.demand user (answer_of answer)) }
+        Gives login_errors result (rows.after_info types ask.entry.demand user (answer_of answer)) }
     ensures fault { Faults (answer_of answer) result }
     ensures spent { is_spent_by result ≡ true }
 {
@@ -196,10 +200,10 @@ fn exchange_info<
         K.JsonWebKey K.KeyUse.JsonWebKeyUse in
         let before = known (H.log http.old) (H.script http.old) in
         let after = known (H.log http.new) (H.script http.new) in
-        Follows (λ answers. rows.asked_run types user answers (Ok asked.entry))
+        Follows login_errors (λ answers. rows.asked_run types user answers (Ok asked.entry))
         before after result }
     ensures spent { is_spent_by result ≡ true }
-    ensures blamed { IsBlamed (H.faults http.old) (H.faults http.new) result }
+    ensures blamed { IsRequestBlamed login_errors (H.faults http.old) (H.faults http.new) result }
     ensures never_falls { H.faults http.old ≤ H.faults http.new }
 {
     let Asked { ask, request } = asked;
@@ -230,9 +234,9 @@ pub(crate) fn ask_info<
         K.JsonWebKey K.KeyUse.JsonWebKeyUse in
         let before = known (H.log http.old) (H.script http.old) in
         let after = known (H.log http.new) (H.script http.new) in
-        Follows (rows.info_run types client.now demand user) before after result }
+        Follows login_errors (rows.info_run types client.now demand user) before after result }
     ensures spent { is_spent_by result ≡ true }
-    ensures blamed { IsBlamed (H.faults http.old) (H.faults http.new) result }
+    ensures blamed { IsRequestBlamed login_errors (H.faults http.old) (H.faults http.new) result }
     ensures never_falls { H.faults http.old ≤ H.faults http.new }
 {
     match demand {

@@ -3,11 +3,12 @@
 use Rattle.std.specs.Prelude.{◌≡◌, ◌≢◌, ◌⊎◌, ℕ, List, None, Some, true, false, Result, Ok, Err, IfOk, IfErr}
 use Rattle.oidc_members.specs.Seen.{SeenMember}
 use Rattle.oidc_members.specs.declared.refusal.Refusal.{Refusal}
+use Rattle.oidc_oauth2.specs.Replies.{◌or◌, Unless, OrMemory, Gives}
 use Rattle.oidc_oauth2.specs.Messages.{SeenRequest, SeenResponse, SeenAnswer}
-use Rattle.oidc_oauth2.specs.Transport.{first_of}
+use Rattle.oidc_oauth2.specs.Transport.{first_answer}
 use Rattle.oidc_oauth2.specs.Requests.{SeenCodeRequest, is_address, code_request}
-use Rattle.oidc_oauth2.specs.TokenAnswers.{TokenRefusal, is_over_long, is_empty, may_be_json, record_in, token_answer, seen_refusal, Gives}
-use Rattle.oidc_oauth2.specs.Exchanges.{Known, Exchanges, OrMemory}
+use Rattle.oidc_oauth2.specs.TokenAnswers.{TokenRefusal, is_over_long, is_empty, may_be_json, record_in, token_answer, seen_refusal, wants_memory, token_errors}
+use Rattle.oidc_oauth2.specs.Exchanges.{Known, Run, reply_by, one_request, Follows}
 use Rattle.oidc_oauth2.specs.declared.token_answers.OtherCause.TheVariants.{Uri, EmptyBody, MediaType}
 use Rattle.oidc_oauth2.specs.declared.token_answers.RequestTokenError.{RequestTokenError}
 use Rattle.oidc_oauth2.specs.declared.token_answers.RequestTokenError.TheVariants.{ServerResponse, Request, Parse, Other, TooLong, Memory}
@@ -99,8 +100,7 @@ module _ {TE TR : Type 0} (error_of : List SeenMember → Result TE Refusal)
 
   -- The cause of a refusal; want of memory needs none.
   abbrev pub Because : {RE : Type 0} → SeenResponse → RequestTokenError RE TE → Type 0
-  Because r Memory = Unit {0}
-  Because r e = AnswerCause r (seen_refusal e)
+  Because r e = Unless (wants_memory e) (AnswerCause r (seen_refusal e))
 
   -- ---- a whole request
 
@@ -109,7 +109,7 @@ module _ {TE TR : Type 0} (error_of : List SeenMember → Result TE Refusal)
     pub record Came (answer : SeenAnswer) : Type 0 where
       pub request : SeenRequest
       pub request_made : code_request ask ≡ Some request
-      pub answer_came : first_of answers ≡ answer
+      pub answer_came : first_answer answers ≡ answer
 
     -- The response that came is refused with this.
     pub record IsRefused (e : TokenRefusal TE) : Type 0 where
@@ -130,13 +130,21 @@ module _ {TE TR : Type 0} (error_of : List SeenMember → Result TE Refusal)
       pub came : Came (Some response)
       pub tokens_in_response : IsTokenAnswer response tokens
 
+  -- the reply by an answer
+  abbrev pub code_reply : SeenAnswer → Result TR (TokenRefusal TE)
+  code_reply = reply_by (Request tt) (token_answer error_of token_of)
+
+  -- the one request, where its address is one that is sent to, and the reply by the answer to it
+  abbrev pub code_run : SeenCodeRequest → List SeenAnswer → Run TR (TokenRefusal TE)
+  code_run ask = one_request code_reply (code_request ask or Other Uri)
+
   -- What a request leaves of any transport, and what its result rests on.
-  pub record Ran {RE : Type 0} (ask : SeenCodeRequest) (old new : Known)
+  pub record RanTokenRequest {RE : Type 0} (ask : SeenCodeRequest) (old new : Known)
       (result : Result TR (RequestTokenError RE TE)) : Type 0 where
-    pub exchanged : Exchanges (token_answer error_of token_of) (code_request ask) old new result
+    pub exchanged : Follows token_errors (code_run ask) old new result
     -- each refusal has its cause, and each cause its refusal
-    pub cause : IfErr result (λ e. OrMemory result (Cause ask exchanged.answers (seen_refusal e)))
-    pub refused : (e : TokenRefusal TE) → Cause ask exchanged.answers e → Gives result (Err e)
+    pub cause : IfErr result (λ e. OrMemory token_errors result (Cause ask exchanged.answers (seen_refusal e)))
+    pub refused : (e : TokenRefusal TE) → Cause ask exchanged.answers e → Gives token_errors result (Err e)
     -- an Ok has the tokens that the answer holds, and tokens that it holds are an Ok
     pub held : IfOk result (TokensCame ask exchanged.answers)
-    pub holds : (tokens : TR) → TokensCame ask exchanged.answers tokens → Gives result (Ok tokens)
+    pub holds : (tokens : TR) → TokensCame ask exchanged.answers tokens → Gives token_errors result (Ok tokens)

@@ -9,12 +9,12 @@ use Rattle.oidc_oauth2.specs.declared.client_auth.AuthType.TheVariants.{BasicAut
 use Rattle.oidc_oauth2.specs.declared.client_auth.ClientAuth.{ClientAuth}
 
 -- a client: its ID, its secret, where it has one, and how it sends that
-pub record SeenClient : Type 0 where
+pub record SeenClientAuth : Type 0 where
   pub client_id : List ℕ
   pub client_secret : Option (List ℕ)
   pub auth_type : AuthType
 
-abbrev pub seen_client : ClientAuth → SeenClient
+abbrev pub seen_client : ClientAuth → SeenClientAuth
 seen_client auth = record {
   client_id = auth.client_id.now;
   client_secret = option_copied auth.client_secret;
@@ -32,7 +32,7 @@ authorization_with BasicAuth id (Some secret) = Some (basic_credentials id secre
 authorization_with BasicAuth id None = None
 authorization_with RequestBody id secret = None
 
-abbrev pub authorization_of : SeenClient → Option (List ℕ)
+abbrev pub authorization_of : SeenClientAuth → Option (List ℕ)
 authorization_of client = authorization_with client.auth_type client.client_id client.client_secret
 
 abbrev pub pair_if : List ℕ → Option (List ℕ) → List (List ℕ × List ℕ)
@@ -40,13 +40,13 @@ pair_if name None = []
 pair_if name (Some value) = (name, value) ∷ []
 
 -- the pairs of a client whose ID and secret stand in the body
-abbrev pub own_pairs : List ℕ → Option (List ℕ) → List (List ℕ × List ℕ)
-own_pairs id secret = (codes "client_id", id) ∷ pair_if (codes "client_secret") secret
+abbrev pub credential_pairs : List ℕ → Option (List ℕ) → List (List ℕ × List ℕ)
+credential_pairs id secret = (codes "client_id", id) ∷ pair_if (codes "client_secret") secret
 
-abbrev pub pairs_unless_sent : Option (List ℕ) → SeenClient → List (List ℕ × List ℕ)
+abbrev pub pairs_unless_sent : Option (List ℕ) → SeenClientAuth → List (List ℕ × List ℕ)
 pairs_unless_sent (Some credentials) client = []
-pairs_unless_sent None client = own_pairs client.client_id client.client_secret
+pairs_unless_sent None client = credential_pairs client.client_id client.client_secret
 
 -- the pairs that name a client in the body, where no header does
-abbrev pub client_pairs : SeenClient → List (List ℕ × List ℕ)
+abbrev pub client_pairs : SeenClientAuth → List (List ℕ × List ℕ)
 client_pairs client = pairs_unless_sent (authorization_of client) client

@@ -1,12 +1,9 @@
--- What one request leaves of any transport.
-use Rattle.std.specs.Prelude.{◌≡◌, ◌≤◌, ℕ, List, length, take, Option, None, Some, Result, Err}
-use Rattle.std.specs.Option.{option_to_list}
-use Rattle.oidc_oauth2.specs.Messages.{SeenRequest, SeenResponse, SeenAnswer}
-use Rattle.oidc_oauth2.specs.Transport.{Log, log_after, Plays, HasRisen, first_of}
-use Rattle.oidc_oauth2.specs.TokenAnswers.{TokenRefusal, Gives}
-use Rattle.oidc_oauth2.specs.declared.token_answers.OtherCause.TheVariants.{Uri}
-use Rattle.oidc_oauth2.specs.declared.token_answers.RequestTokenError.{RequestTokenError}
-use Rattle.oidc_oauth2.specs.declared.token_answers.RequestTokenError.TheVariants.{Request, Other, Memory}
+-- What requests leave of any transport.
+use Rattle.std.specs.Prelude.{◌≡◌, ◌≤◌, ℕ, List, [], ◌∷◌, length, take, Option, None, Some, Result, Ok, Err, IfErr, true}
+use Rattle.http.specs.declared.response.Response.{Response}
+use Rattle.oidc_oauth2.specs.Replies.{ErrorMeaning, OrMemory, Gives}
+use Rattle.oidc_oauth2.specs.Messages.{SeenRequest, SeenResponse, SeenAnswer, seen_response}
+use Rattle.oidc_oauth2.specs.Transport.{Log, log_after, Plays, HasRisen, first_answer}
 
 -- what is known of a transport at one time: its log, and the script of its answers
 pub record Known : Type 0 where
@@ -16,36 +13,51 @@ pub record Known : Type 0 where
 abbrev pub known : Option Log → Option (List SeenAnswer) → Known
 known log script = record { log = log; script = script }
 
--- the requests that are handed over: the one that is meant, if there is one
-abbrev pub requests_of : Option SeenRequest → List SeenRequest
-requests_of meant = option_to_list meant
+-- ---- one request
 
-module _ {A TE : Type 0} (worth : SeenResponse → Result A (TokenRefusal TE)) where
-  abbrev pub reply_of : SeenAnswer → Result A (TokenRefusal TE)
-  reply_of None = Err (Request tt)
-  reply_of (Some response) = worth response
+-- an answer, whatever the transport's error was
+abbrev pub answer_of : {E : Type 0} → Result (Response (List ℕ)) E → SeenAnswer
+answer_of (Ok response) = Some (seen_response response)
+answer_of (Err e) = None
 
-  -- the reply to a request, by the answer that came; without a request it is `Uri`
-  abbrev pub reply_to : Option SeenRequest → List SeenAnswer → Result A (TokenRefusal TE)
-  reply_to None answers = Err (Other Uri)
-  reply_to (Some request) answers = reply_of (first_of answers)
+-- This one request was handed over and took this answer, and nothing else was.
+abbrev pub Exchanged : Known → Known → SeenRequest → SeenAnswer → Type 0
+Exchanged old new request answer =
+    (new.log ≡ log_after old.log (request ∷ []) (answer ∷ [])) × Plays old.script (answer ∷ []) new.script
 
--- the fact holds, or the result is `Memory`
-abbrev pub OrMemory : {A RE TE : Type 0} → Result A (RequestTokenError RE TE) → Type 0 → Type 0
-OrMemory (Err Memory) Fact = Unit {0}
-OrMemory result Fact = Fact
+-- nothing was handed over
+abbrev pub Untouched : Known → Known → Type 0
+Untouched old new = (new.log ≡ old.log) × Plays old.script [] new.script
 
--- For some answers that came: the request that is meant was handed over, and the result is the reply by
--- the answer to it. On `Memory` it may not have been.
-pub record Exchanges {A RE TE : Type 0} (worth : SeenResponse → Result A (TokenRefusal TE)) (meant : Option SeenRequest) (old new : Known) (result : Result A (RequestTokenError RE TE)) : Type 0 where
+-- ---- runs of requests
+
+-- what is meant where some answers come: the reply, and the requests that are sent for it
+pub record Run (A F : Type 0) : Type 0 where
+  pub reply : Result A F
+  pub sent : List SeenRequest
+
+module _ {A F : Type 0} where
+  -- the reply by an answer: this refusal of a fault, or what the response is worth
+  abbrev pub reply_by : F → (SeenResponse → Result A F) → SeenAnswer → Result A F
+  reply_by fault worth None = Err fault
+  reply_by fault worth (Some response) = worth response
+
+  -- the run of one request, where it is made: its reply is that by the first answer
+  abbrev pub one_request : (SeenAnswer → Result A F) → Result SeenRequest F → List SeenAnswer → Run A F
+  one_request reply (Err refusal) answers = record { reply = Err refusal; sent = [] }
+  one_request reply (Ok request) answers = record { reply = reply (first_answer answers); sent = request ∷ [] }
+
+-- For some answers that came: each took one of the run's requests for them, in their order, and nothing else
+-- was handed over. The result is the run's reply, or want of memory, before which some may not have been sent.
+pub record Follows {A E F : Type 0} (errors : ErrorMeaning E F) (run : List SeenAnswer → Run A F) (old new : Known)
+    (result : Result A E) : Type 0 where
   pub answers : List SeenAnswer
-  pub logged : new.log ≡ log_after old.log (take (length answers) (requests_of meant)) answers
+  pub logged : new.log ≡ log_after old.log (take (length answers) (run answers).sent) answers
   pub plays : Plays old.script answers new.script
-  pub answered : length answers ≤ length (requests_of meant)
-  pub all_sent : OrMemory result (length answers ≡ length (requests_of meant))
-  pub reply : Gives result (reply_to worth meant answers)
+  pub answered : length answers ≤ length (run answers).sent
+  pub all_sent : OrMemory errors result (length answers ≡ length (run answers).sent)
+  pub reply : Gives errors result (run answers).reply
 
 -- a fault only where the count of faults has risen, or stands at its last value
-abbrev pub IsRequestBlamed : {A RE TE : Type 0} → ℕ → ℕ → Result A (RequestTokenError RE TE) → Type 0
-IsRequestBlamed before now (Err (Request e)) = HasRisen before now
-IsRequestBlamed before now result = Unit {0}
+abbrev pub IsRequestBlamed : {A E F : Type 0} → ErrorMeaning E F → ℕ → ℕ → Result A E → Type 0
+IsRequestBlamed errors before now result = IfErr result (λ e. errors.is_fault e ≡ true → HasRisen before now)

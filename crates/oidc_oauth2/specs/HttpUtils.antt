@@ -1,19 +1,22 @@
 -- Header fields of requests and responses (RFC 9110 sections 5.5 and 8.3, RFC 6750 section 2.1).
-use Rattle.std.specs.Prelude.{ℕ, ◌-◌, ◌==◌, ◌&&◌, List, ◌++◌, length, take, drop, Bool, true, Option, None, Some, option_map, codes}
+use Rattle.std.specs.Prelude.{ℕ, ◌-◌, ◌==◌, ◌&&◌, ◌||◌, List, ◌++◌, length, take, drop, Bool, true, Option, None, Some, option_map, codes}
 use Rattle.std.specs.List.{prefix_len, suffix_len, before_first}
-use Rattle.std.specs.Char.{is_ascii_whitespace}
 use Rattle.std.specs.Str.{str_eq_ignore_ascii_case}
 use Rattle.http_header.specs.HeaderMap.{Entries, get}
 use Rattle.http_header.specs.FieldValue.{FieldValue, is_visible_text}
 
--- the text without the white space at both its ends (`has_essence` admits no other white space than
--- space and tab)
+-- a space or a tab (RFC 9110 section 5.6.3)
+abbrev pub is_blank : ℕ → Bool
+is_blank b = b == 0x20 || b == 0x09
+
+-- the text without the spaces and tabs at both its ends
 abbrev pub trimmed : List ℕ → List ℕ
 trimmed text =
-    let rest = drop (prefix_len is_ascii_whitespace text) text in
-    take (length rest - suffix_len is_ascii_whitespace rest) rest
+    let rest = drop (prefix_len is_blank text) text in
+    take (length rest - suffix_len is_blank rest) rest
 
--- the essence of a media type: what stands before its parameters, and so before the first `;`
+-- the essence of a media type: what stands before its parameters, and so before the first `;`, without
+-- the spaces and tabs around it
 unfoldable pub essence : List ℕ → List ℕ
 essence value = trimmed (before_first (λ b. b == 59) value)
 

@@ -1,6 +1,7 @@
--- In reading order: what goes over a transport, what a transport promises, transports in memory and over a closure;
+-- In reading order: the words for replies; what goes over a transport, what a transport promises, transports in memory and over a closure;
 -- header fields, PKCE, vocabularies; how a client names itself, the code request; the records of answers; what
--- a token answer is worth, what one request leaves of a transport, and what its result rests on.
+-- a token answer is worth, what requests leave of a transport, and what the result of one rests on.
+pub mod Replies
 pub mod Messages
 pub mod Transport
 pub mod Recorded
@@ -19,7 +20,6 @@ pub mod TokenAnswers
 pub mod Exchanges
 pub mod AnswerCauses
 -- what no public clause cites
-mod KeepsText
 pub mod Slots
 pub mod TokenFields
 pub mod ErrorFields

@@ -6,7 +6,7 @@ use Rattle.http_header.specs.HeaderMap.{Entries}
 use Rattle.http_header.specs.FieldValue.{FieldValue, plain_value}
 use Rattle.oidc_pairs.specs.Form.{form}
 use Rattle.oidc_oauth2.specs.Messages.{SeenRequest}
-use Rattle.oidc_oauth2.specs.ClientAuth.{SeenClient, authorization_of, client_pairs, pair_if}
+use Rattle.oidc_oauth2.specs.ClientAuth.{SeenClientAuth, authorization_of, client_pairs, pair_if}
 use Rattle.oidc_oauth2.specs.declared.requests.PrepareError.{PrepareError}
 use Rattle.oidc_oauth2.specs.declared.requests.PrepareError.TheVariants.{Uri, Memory}
 
@@ -32,11 +32,11 @@ headers_with authorization =
     ∷ header (codes "content-type") (codes "application/x-www-form-urlencoded")
     ∷ authorization_header authorization
 
-abbrev pub request_headers : SeenClient → Entries FieldValue
+abbrev pub request_headers : SeenClientAuth → Entries FieldValue
 request_headers client = headers_with (option_map plain_value (authorization_of client))
 
 -- the POST of these pairs to an address
-abbrev pub post_of : List ℕ → SeenClient → List (List ℕ × List ℕ) → SeenRequest
+abbrev pub post_of : List ℕ → SeenClientAuth → List (List ℕ × List ℕ) → SeenRequest
 post_of address client pairs = record {
   method = codes "POST";
   address = address;
@@ -50,18 +50,18 @@ post_of address client pairs = record {
 -- authorization request, and further pairs
 pub record SeenCodeRequest : Type 0 where
   pub address : List ℕ
-  pub client : SeenClient
+  pub client : SeenClientAuth
   pub code : List ℕ
   pub verifier : Option (List ℕ)
   pub redirect_uri : Option (List ℕ)
   pub extra : List (List ℕ × List ℕ)
 
-abbrev pub own_pairs : SeenCodeRequest → List (List ℕ × List ℕ)
-own_pairs r =
+abbrev pub grant_pairs : SeenCodeRequest → List (List ℕ × List ℕ)
+grant_pairs r =
     (codes "grant_type", codes "authorization_code") ∷ (codes "code", r.code) ∷ pair_if (codes "code_verifier") r.verifier
 
 abbrev pub code_pairs : SeenCodeRequest → List (List ℕ × List ℕ)
-code_pairs r = own_pairs r ++ client_pairs r.client ++ pair_if (codes "redirect_uri") r.redirect_uri ++ r.extra
+code_pairs r = grant_pairs r ++ client_pairs r.client ++ pair_if (codes "redirect_uri") r.redirect_uri ++ r.extra
 
 unfoldable pub code_request : SeenCodeRequest → Option SeenRequest
 code_request r = if is_address r.address then Some (post_of r.address r.client (code_pairs r)) else None

@@ -27,13 +27,14 @@ IsLogged old new request (Err Memory) = new ≡ old
 
 -- ---- the answers of a list, one after another, and faults when it is at its end
 
-abbrev pub first_of : List SeenAnswer → SeenAnswer
-first_of [] = None
-first_of (answer ∷ later) = answer
+-- the first answer, or a fault where there is none
+abbrev pub first_answer : List SeenAnswer → SeenAnswer
+first_answer [] = None
+first_answer (answer ∷ later) = answer
 
 abbrev pub played : List SeenAnswer → ℕ → List SeenAnswer
 played script zero = []
-played script (suc n) = first_of script ∷ played (drop 1 script) n
+played script (suc n) = first_answer script ∷ played (drop 1 script) n
 
 -- These answers are the next ones of a script, and the others are left. Without a script any may come.
 abbrev pub Plays : Option (List SeenAnswer) → List SeenAnswer → Option (List SeenAnswer) → Type 0

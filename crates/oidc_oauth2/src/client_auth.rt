@@ -15,13 +15,24 @@ use std::alloc::{AllocError, Global};
 use thiserror::Error;
 
 /// How a client that has a secret sends it.
-#[derive(Clone, Copy, Debug, Default, PartialEq, Eq)]
+#[derive(Clone, Copy, Debug, PartialEq, Eq)]
 pub enum AuthType {
     /// As Basic credentials, each part form-coded. This is the usual way.
-    #[default]
     BasicAuth,
     /// In the body of the request.
     RequestBody,
+}
+
+/// As Basic credentials.
+impl Default for AuthType {
+    ghost use Rattle.std.specs.Prelude.{◌≡◌};
+    ghost use Rattle.oidc_oauth2.specs.declared.client_auth.AuthType.TheVariants.{BasicAuth};
+
+    ghost is_default = { λ kind. kind ≡ BasicAuth };
+
+    fn default() -> AuthType {
+        AuthType::BasicAuth
+    }
 }
 
 /// A client and how it authenticates. A public client has no secret: it sends no credentials, and its
@@ -138,7 +149,7 @@ fn push_own(
     id: &ClientId,
     secret: Option<&ClientSecret>,
 ) -> Result<(), AllocError>
-    ensures { let pairs = spec.own_pairs id.now (option_copied secret.entry) in
+    ensures { let pairs = spec.credential_pairs id.now (option_copied secret.entry) in
         OnOk result (form.new ≡ form.old ++ pairs) }
 {
     form.push("client_id", id.as_str())?;

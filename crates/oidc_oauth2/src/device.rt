@@ -10,7 +10,7 @@ ghost use Rattle.oidc_oauth2.specs.DeviceFields.{device_fields};
 ghost use Rattle.oidc_oauth2.specs.TokenResponse.{seconds as span};
 ghost use Rattle.oidc_oauth2.specs.DeviceResponse as spec;
 
-use crate::extra::{EmptyExtraDeviceAuthorizationFields, ExtraDeviceAuthorizationFields};
+use crate::extra_fields::{EmptyExtraDeviceAuthorizationFields, ExtraDeviceAuthorizationFields};
 use oidc_members::{Member, Members, ParseError};
 use oidc_readers::{MemberReader, Once, read_fields};
 use oidc_types::{DeviceCode, EndUserVerificationUrl, UserCode, VerificationUriComplete};

@@ -57,6 +57,10 @@ impl<T: ErrorResponseType> Model for StandardErrorResponse<T> {
 
 /// Prints `StandardErrorResponse([redacted])`.
 impl<T: ErrorResponseType> fmt::Debug for StandardErrorResponse<T> {
+    ghost use Rattle.std.specs.Prelude.{Some, codes};
+
+    ghost debug_output = { λ _. Some (codes "StandardErrorResponse([redacted])") };
+
     fn fmt<W: fmt::Write>(&self, f: &mut fmt::Formatter<W>) -> fmt::Result {
         f.write_str("StandardErrorResponse([redacted])")
     }

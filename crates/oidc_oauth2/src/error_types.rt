@@ -68,7 +68,7 @@ impl CoreErrorResponseType {
 impl Vocabulary for CoreErrorResponseType {
     ghost use Rattle.std.specs.Prelude.{refl};
     ghost use Rattle.oidc_oauth2.specs.Words.{error_text, errors, error_of};
-    ghost use Rattle.oidc_oauth2.specs.KeepsText.{keeps};
+    ghost use Rattle.oidc_types.specs.KeepsText.{keeps};
     ghost use Rattle.oidc_oauth2.specs.declared.error_types.CoreErrorResponseType.TheVariants as error;
 
     ghost as_ref = { error_text };
@@ -166,7 +166,7 @@ impl Vocabulary for DeviceCodeErrorResponseType {
     ghost use Rattle.std.specs.Prelude.{refl};
     ghost use Rattle.oidc_oauth2.specs.Words.{error_text, errors, error_of};
     ghost use Rattle.oidc_oauth2.specs.Words.{device_error_text, device_errors, device_error_of};
-    ghost use Rattle.oidc_oauth2.specs.KeepsText.{keeps};
+    ghost use Rattle.oidc_types.specs.KeepsText.{keeps};
     ghost use Rattle.oidc_oauth2.specs.declared.error_types.DeviceCodeErrorResponseType.TheVariants as own;
     ghost use Rattle.oidc_oauth2.specs.declared.error_types.CoreErrorResponseType.TheVariants as error;
 
@@ -249,7 +249,7 @@ impl Vocabulary for RevocationErrorResponseType {
     ghost use Rattle.std.specs.Prelude.{refl};
     ghost use Rattle.oidc_oauth2.specs.Words.{error_text, errors, error_of};
     ghost use Rattle.oidc_oauth2.specs.Words.{revocation_error_text, revocation_errors, revocation_error_of};
-    ghost use Rattle.oidc_oauth2.specs.KeepsText.{keeps};
+    ghost use Rattle.oidc_types.specs.KeepsText.{keeps};
     ghost use Rattle.oidc_oauth2.specs.declared.error_types.RevocationErrorResponseType.TheVariants as own;
     ghost use Rattle.oidc_oauth2.specs.declared.error_types.CoreErrorResponseType.TheVariants as error;
 

@@ -1,6 +1,6 @@
 //! Header fields of requests and responses (RFC 9110, RFC 6750).
 
-ghost use Rattle.std.specs.Prelude.{◌≡◌, ◌==◌, ◌++◌, ◌↔◌, false, IfOk, IsErrOf, IsOk, IsTrue, codes};
+ghost use Rattle.std.specs.Prelude.{◌≡◌, ◌==◌, ◌++◌, ◌↔◌, false, true, IfOk, IsErrOf, IsOk, IsTrue, codes};
 ghost use Rattle.std.specs.List.{before_first, position};
 ghost use Rattle.std.specs.String.{string_bytes};
 ghost use Rattle.http_header.specs.Token.{is_visible_or_blank as visible_or_blank};
@@ -86,6 +86,7 @@ fn before_parameters(value: &[u8]) -> &[u8]
 
 // The essence of a media type.
 fn essence(value: &[u8]) -> &[u8]
+    requires { is_visible_text value.now ≡ true }
     ensures { result.now ≡ spec.essence value.now }
 {
     before_parameters(value).trim_ascii()
@@ -98,7 +99,10 @@ pub fn content_type_has_essence(value: &HeaderValue, expected: &str) -> bool
     ensures essence { result ≡ spec.has_essence value.now.bytes expected.now }
 {
     let bytes = value.as_bytes();
-    is_visible(bytes) && essence(bytes).eq_ignore_ascii_case(expected.as_bytes())
+    if !is_visible(bytes) {
+        return false;
+    }
+    essence(bytes).eq_ignore_ascii_case(expected.as_bytes())
 }
 
 /// Refuses exactly where a `content-type` is there, and the first one hasn't the expected essence.
@@ -122,7 +126,8 @@ pub fn check_content_type(headers: &HeaderMap, expected: &str) -> Result<(), Une
 fn bearer_text(alloc: Global, token: &str) -> Result<String, AllocError>
     ensures { IfOk result (λ text. string_bytes text ≡ spec.bearer_of token.now) }
 {
-    let mut text = String::from_str(alloc, "Bearer ")?;
+    let mut text = String::from_str(alloc, BEARER)?;
+    text.push_str(" ")?;
     text.push_str(token)?;
     Ok(text)
 }

@@ -9,14 +9,13 @@ ghost use Rattle.oidc_oauth2.specs.IntrospectionFields.{introspection_fields};
 ghost use Rattle.oidc_oauth2.specs.Introspection as spec;
 
 use crate::error_response::text_in;
-use crate::extra::{EmptyExtraTokenFields, ExtraTokenFields};
+use crate::extra_fields::{EmptyExtraTokenFields, ExtraTokenFields};
 use crate::scopes::optional_scopes;
 use crate::token_type::{CoreTokenType, TokenType};
 use jiff::Timestamp;
 use oidc_members::{FieldName, Member, Members, ParseError};
 use oidc_readers::{MemberReader, Moment, Once, TextOrTexts, read_fields, timestamp_of};
-use oidc_types::texts::AudienceMarker;
-use oidc_types::{Audience, ClientId, Scope};
+use oidc_types::{Audience, AudienceMarker, ClientId, Scope};
 use std::alloc::{AllocError, Global};
 use std::marker::Model;
 

@@ -20,24 +20,25 @@
 //! answers an `AllocError`, and no clause says when it comes. What holds tokens has no `Debug`.
 #![tactic(auto)]
 
-pub mod adapter;
-pub mod client_auth;
-pub mod device;
-pub mod error_response;
-pub mod error_types;
-pub mod extra;
-pub mod http_utils;
-pub mod introspection;
+mod adapter;
+mod client_auth;
+mod device;
+mod error_response;
+mod error_types;
+mod exchanges;
+mod extra_fields;
+mod http_utils;
+mod introspection;
 pub mod laws;
-pub mod pkce;
-pub mod recorded;
-pub mod requests;
-pub mod revocation;
+mod pkce;
+mod recorded;
+mod requests;
+mod revocation;
 mod scopes;
-pub mod token;
-pub mod token_answers;
-pub mod token_type;
-pub mod transport;
+mod token;
+mod token_answers;
+mod token_type;
+mod transport;
 
 pub use crate::adapter::Adapter;
 pub use crate::client_auth::{AuthType, ClientAuth, ConfigurationError};
@@ -48,7 +49,8 @@ pub use crate::error_response::{
 pub use crate::error_types::{
     CoreErrorResponseType, DeviceCodeErrorResponseType, RevocationErrorResponseType,
 };
-pub use crate::extra::{
+pub use crate::exchanges::exchange;
+pub use crate::extra_fields::{
     EmptyExtraDeviceAuthorizationFields, EmptyExtraTokenFields, ExtraDeviceAuthorizationFields,
     ExtraTokenFields,
 };
@@ -68,4 +70,5 @@ pub use crate::token_answers::{
     CoreRequestTokenError, MAX_BODY, OtherCause, RequestTokenError, token_answer,
 };
 pub use crate::token_type::{CoreTokenType, TokenType};
-pub use crate::transport::{Body, CallError, HttpRequest, HttpResponse, SyncHttpClient};
+pub use crate::transport::{CallError, HttpRequest, HttpResponse, SyncHttpClient};
+pub use oidc_types::Body;

@@ -2,11 +2,12 @@
 
 ghost use Rattle.std.specs.Prelude.{◌≡◌, [], ◌∷◌, ◌++◌, Some, map, drop, option_map, IfOk, OnOk, OnErr};
 ghost use Rattle.oidc_oauth2.specs.Messages.{seen_response};
-ghost use Rattle.oidc_oauth2.specs.Transport.{first_of};
+ghost use Rattle.oidc_oauth2.specs.Transport.{first_answer};
 ghost use Rattle.oidc_oauth2.specs.Recorded.{seen_answer, left_of};
 
-use crate::transport::{Body, CallError, HttpRequest, HttpResponse, SyncHttpClient};
+use crate::transport::{CallError, HttpRequest, HttpResponse, SyncHttpClient};
 use http_header::CONTENT_TYPE;
+use oidc_types::Body;
 use std::alloc::{AllocError, Global};
 use std::fmt;
 use std::marker::Model;
@@ -137,7 +138,7 @@ impl Recorded {
     fn keep(&mut self, alloc: Global, request: HttpRequest) -> Result<(), AllocError>
         ensures requests { OnOk result (self.new.requests ≡ self.old.requests ++ request ∷ []) }
         ensures given { OnOk result
-            (self.new.given ≡ self.old.given ++ first_of self.old.left ∷ []) }
+            (self.new.given ≡ self.old.given ++ first_answer self.old.left ∷ []) }
         ensures left { OnOk result (self.new.left ≡ self.old.left) }
         ensures err { OnErr result (self.new ≡ self.old) }
     {
@@ -150,7 +151,7 @@ impl Recorded {
 
     // The next answer, which is a fault where none is left.
     fn give(&mut self) -> Option<HttpResponse>
-        ensures answer { option_map seen_response result ≡ first_of self.old.left }
+        ensures answer { option_map seen_response result ≡ first_answer self.old.left }
         ensures left { self.new.left ≡ drop 1 self.old.left }
         ensures requests { self.new.requests ≡ self.old.requests }
         ensures given { self.new.given ≡ self.old.given }
@@ -172,7 +173,7 @@ impl Recorded {
 }
 
 fn kept_of(alloc: Global, next: &Option<Answer>) -> Result<Option<Kept>, AllocError>
-    ensures { IfOk result (λ kept. kept ≡ first_of (left_of next.now [])) }
+    ensures { IfOk result (λ kept. kept ≡ first_answer (left_of next.now [])) }
 {
     match next {
         Some(Answer::Response(response)) => Ok(Some(Kept::of(alloc, response)?)),

@@ -1,26 +1,29 @@
 //! The request that exchanges a code for tokens (RFC 6749 section 4.1.3).
 
-ghost use Rattle.std.specs.Prelude.{◌≡◌, ◌≤◌, ◌++◌, ◌∷◌, [], None, Some, IfOk, OnOk, map};
+ghost use Rattle.std.specs.Prelude.{◌≡◌, ◌≤◌, ◌++◌, ◌∷◌, [], true, None, Some, IfErr, IfOk, OnOk, map};
 ghost use Rattle.std.specs.List.{list_all};
 ghost use Rattle.std.specs.Option.{option_copied};
 ghost use Rattle.std.specs.String.{string_bytes};
 ghost use Rattle.url.specs.Parts.{serialize};
 ghost use Rattle.http_header.specs.FieldValue.{plain_value};
 ghost use Rattle.oidc_oauth2.specs.ClientAuth.{seen_client};
-ghost use Rattle.oidc_oauth2.specs.Exchanges.{Exchanges, IsRequestBlamed, known};
-ghost use Rattle.oidc_oauth2.specs.AnswerCauses.{Ran};
-ghost use Rattle.oidc_oauth2.specs.TokenAnswers.{token_answer as worth_of};
+ghost use Rattle.oidc_oauth2.specs.Replies.{Gives};
+ghost use Rattle.oidc_oauth2.specs.TokenAnswers.{is_fault, token_errors};
+ghost use Rattle.oidc_oauth2.specs.Exchanges.{answer_of, Follows, IsRequestBlamed, known};
+ghost use Rattle.oidc_oauth2.specs.AnswerCauses.{code_reply, code_run, RanTokenRequest};
 ghost use Rattle.oidc_oauth2.specs.Requests as spec;
 
 use crate::client_auth::{ClientAuth, authorization, push_client, push_optional};
 use crate::error_response::ErrorResponse;
+use crate::exchanges::exchange;
+use crate::http_utils::MIME_TYPE_JSON;
 use crate::token::OAuth2TokenResponse;
 use crate::token_answers::{OtherCause, RequestTokenError, token_answer};
-use crate::transport::{Body, CallError, HttpRequest, SyncHttpClient};
+use crate::transport::{HttpRequest, HttpResponse, SyncHttpClient};
 use http::Method;
 use http_header::{ACCEPT, AUTHORIZATION, CONTENT_TYPE, HeaderMap, HeaderMapError, HeaderValue};
 use oidc_pairs::FormText;
-use oidc_types::{AuthorizationCode, PkceCodeVerifier, RedirectUrl, TokenUrl};
+use oidc_types::{AuthorizationCode, Body, PkceCodeVerifier, RedirectUrl, TokenUrl};
 use std::alloc::{AllocError, Global};
 use std::marker::{Model, PhantomData};
 use thiserror::Error;
@@ -78,7 +81,7 @@ fn headers_with(
     ensures { IfOk result (λ headers. headers ≡ spec.headers_with authorization) }
 {
     let mut headers = HeaderMap::new(alloc);
-    headers.insert(ACCEPT, HeaderValue::from_static("application/json"))?;
+    headers.insert(ACCEPT, HeaderValue::from_static(MIME_TYPE_JSON))?;
     headers.insert(
         CONTENT_TYPE,
         HeaderValue::from_static("application/x-www-form-urlencoded"),
@@ -263,6 +266,21 @@ impl<'a, TE, TR> CodeTokenRequest<'a, TE, TR> {
     }
 }
 
+// The reply by what came of a request.
+fn judge_answer<RE, TE: ErrorResponse, TR: OAuth2TokenResponse>(
+    alloc: Global,
+    answer: Result<HttpResponse, RE>,
+) -> Result<TR, RequestTokenError<RE, TE>>
+    ensures gives { let reply = code_reply TE.read_of TR.read_of (answer_of answer) in
+        Gives token_errors result reply }
+    ensures fault { IfErr result (λ e. is_fault e ≡ true → answer_of answer ≡ None) }
+{
+    match answer {
+        Err(error) => Err(RequestTokenError::Request(error)),
+        Ok(response) => token_answer(alloc, response),
+    }
+}
+
 impl<'a, TE: ErrorResponse, TR: OAuth2TokenResponse> CodeTokenRequest<'a, TE, TR> {
     // Hands the request over, and judges the response.
     fn exchange<C: SyncHttpClient>(
@@ -272,26 +290,26 @@ impl<'a, TE: ErrorResponse, TR: OAuth2TokenResponse> CodeTokenRequest<'a, TE, TR
     ) -> Result<TR, RequestTokenError<C::Error, TE>>
         requires { C.ready http.old }
         ensures again { C.ready http.new }
-        ensures exchanges { let worth = worth_of TE.read_of TR.read_of in
+        ensures follows { let run = code_run TE.read_of TR.read_of self.entry in
             let before = known (C.log http.old) (C.script http.old) in
             let after = known (C.log http.new) (C.script http.new) in
-            Exchanges worth (spec.code_request self.entry) before after result }
+            Follows token_errors run before after result }
         ensures never_falls { C.faults http.old ≤ C.faults http.new }
-        ensures blamed { IsRequestBlamed (C.faults http.old) (C.faults http.new) result }
+        ensures blamed { let before = C.faults http.old in
+            IsRequestBlamed token_errors before (C.faults http.new) result }
     {
         match self.prepare(alloc) {
             Err(PrepareError::Uri) => Err(RequestTokenError::Other(OtherCause::Uri)),
             Err(PrepareError::Memory) => Err(RequestTokenError::Memory),
-            Ok(request) => match http.call(alloc, request) {
-                Err(CallError::Memory) => Err(RequestTokenError::Memory),
-                Err(CallError::Transport(error)) => Err(RequestTokenError::Request(error)),
-                Ok(response) => token_answer(alloc, response),
-            },
+            Ok(request) => {
+                let answer = exchange(alloc, http, request)?;
+                judge_answer(alloc, answer)
+            }
         }
     }
 
-    /// Hands the request of `prepare` over, and answers what the response is worth. On `Uri` nothing
-    /// is handed over, and `Request` comes only where the transport failed.
+    /// Hands the request of `prepare` over, and answers what the response is worth. `Request` comes only
+    /// where the transport failed. On `Uri` a transport that keeps a log has nothing new in it.
     pub fn request<C: SyncHttpClient>(
         self,
         alloc: Global,
@@ -301,9 +319,10 @@ impl<'a, TE: ErrorResponse, TR: OAuth2TokenResponse> CodeTokenRequest<'a, TE, TR
         ensures again { C.ready http.new }
         ensures ran { let before = known (C.log http.old) (C.script http.old) in
             let after = known (C.log http.new) (C.script http.new) in
-            Ran TE.read_of TR.read_of self.entry before after result }
+            RanTokenRequest TE.read_of TR.read_of self.entry before after result }
         ensures never_falls { C.faults http.old ≤ C.faults http.new }
-        ensures blamed { IsRequestBlamed (C.faults http.old) (C.faults http.new) result }
+        ensures blamed { let before = C.faults http.old in
+            IsRequestBlamed token_errors before (C.faults http.new) result }
     {
         self.exchange(alloc, http)
     }

@@ -10,7 +10,7 @@ ghost use Rattle.oidc_members.specs.declared.refusal.Refusal.{Refusal};
 ghost use Rattle.oidc_oauth2.specs.TokenFields.{token_fields};
 ghost use Rattle.oidc_oauth2.specs.TokenResponse as spec;
 
-use crate::extra::ExtraTokenFields;
+use crate::extra_fields::ExtraTokenFields;
 use crate::scopes::{optional_joined, optional_scopes};
 use crate::token_type::TokenType;
 use oidc_members::{FieldName, Member, Members, OutMember, ParseError, write_object};

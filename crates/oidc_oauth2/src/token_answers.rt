@@ -3,16 +3,19 @@
 ghost use Rattle.std.specs.Prelude.{◌≡◌, ◌==◌, Err, IfErr};
 ghost use Rattle.oidc_members.specs.Answers.{Answers};
 ghost use Rattle.oidc_oauth2.specs.Messages.{seen_response};
+ghost use Rattle.oidc_oauth2.specs.Replies.{Gives};
 ghost use Rattle.oidc_oauth2.specs.TokenAnswers as spec;
+ghost use Rattle.oidc_oauth2.specs.TokenAnswers.{token_errors};
 ghost use Rattle.oidc_oauth2.specs.AnswerCauses.{AnswerCause, Because};
 
 use crate::error_response::{ErrorResponse, StandardErrorResponse};
 use crate::error_types::CoreErrorResponseType;
-use crate::http_utils::check_content_type;
+use crate::http_utils::{MIME_TYPE_JSON, check_content_type};
 use crate::token::OAuth2TokenResponse;
-use crate::transport::{Body, HttpResponse};
+use crate::transport::HttpResponse;
 use oidc_members::{Members, ParseError, Refusal};
-use std::alloc::Global;
+use oidc_types::Body;
+use std::alloc::{AllocError, Global};
 use thiserror::Error;
 
 /// The most bytes that the body of an answer may have.
@@ -21,8 +24,8 @@ pub const MAX_BODY: usize = 1_048_576;
 /// Other causes for which there is no answer.
 #[derive(Clone, Copy, Debug, Error, PartialEq, Eq)]
 pub enum OtherCause {
-    /// The endpoint's address is too long, or has other bytes than visible ASCII. Nothing was handed
-    /// over.
+    /// The endpoint's address is too long, or has other bytes than visible ASCII. The log of the
+    /// transport, where it is known, is as it was.
     #[error("an address that is not sent to")]
     Uri,
     /// The body is empty.
@@ -63,15 +66,26 @@ pub type CoreRequestTokenError<RE> = RequestTokenError<
     StandardErrorResponse<CoreErrorResponseType>,
 >;
 
+impl<RE, T> From<AllocError> for RequestTokenError<RE, T> {
+    ghost use Rattle.std.specs.Prelude.{◌≡◌};
+    ghost use Rattle.oidc_oauth2.specs.declared.token_answers.RequestTokenError.TheVariants.{Memory};
+
+    ghost from_gives = { λ _ error. error ≡ Memory };
+
+    fn from(_refused: AllocError) -> RequestTokenError<RE, T> {
+        RequestTokenError::Memory
+    }
+}
+
 // Whether a response has no media type, or that of JSON.
 fn may_be_json(response: &HttpResponse) -> bool
     ensures { result ≡ spec.may_be_json (seen_response response.now) }
 {
-    check_content_type(response.headers(), "application/json").is_ok()
+    check_content_type(response.headers(), MIME_TYPE_JSON).is_ok()
 }
 
 // The error response that a body holds.
-fn error_in<TE: ErrorResponse>(alloc: Global, body: &Body) -> Result<TE, ParseError>
+fn error_response_in<TE: ErrorResponse>(alloc: Global, body: &Body) -> Result<TE, ParseError>
     ensures { Answers (spec.record_in TE.read_of body.now) result }
 {
     let members = Members::split(alloc, body.as_slice())?;
@@ -79,7 +93,7 @@ fn error_in<TE: ErrorResponse>(alloc: Global, body: &Body) -> Result<TE, ParseEr
 }
 
 // The token response that a body holds.
-fn response_in<TR: OAuth2TokenResponse>(alloc: Global, body: &Body) -> Result<TR, ParseError>
+fn token_response_in<TR: OAuth2TokenResponse>(alloc: Global, body: &Body) -> Result<TR, ParseError>
     ensures { Answers (spec.record_in TR.read_of body.now) result }
 {
     let members = Members::split(alloc, body.as_slice())?;
@@ -87,17 +101,22 @@ fn response_in<TR: OAuth2TokenResponse>(alloc: Global, body: &Body) -> Result<TR
 }
 
 // What an answer of another status than 200 is worth.
-#[tactic(auto, unfolding(crate::specs::TokenAnswers::refusal_in))]
-fn refusal_in<RE, TE: ErrorResponse>(alloc: Global, body: Body) -> RequestTokenError<RE, TE>
-    ensures { spec.GivesError result (spec.refusal_in TE.read_of body) }
+#[tactic(auto, unfolding(crate::specs::TokenAnswers::error_in))]
+fn error_in<RE, TE: ErrorResponse, TR: OAuth2TokenResponse>(
+    alloc: Global,
+    response: HttpResponse,
+) -> Result<TR, RequestTokenError<RE, TE>>
+    ensures { let reply = spec.error_in TE.read_of TR.read_of (seen_response response) in
+        Gives token_errors result reply }
 {
+    let body = response.into_body();
     if body.as_slice().is_empty() {
-        return RequestTokenError::Other(OtherCause::EmptyBody);
+        return Err(RequestTokenError::Other(OtherCause::EmptyBody));
     }
-    match error_in::<TE>(alloc, &body) {
-        Ok(error) => RequestTokenError::ServerResponse(error),
-        Err(ParseError::Refused(refusal)) => RequestTokenError::Parse(refusal, body),
-        Err(ParseError::Memory) => RequestTokenError::Memory,
+    match error_response_in::<TE>(alloc, &body) {
+        Ok(error) => Err(RequestTokenError::ServerResponse(error)),
+        Err(ParseError::Refused(refusal)) => Err(RequestTokenError::Parse(refusal, body)),
+        Err(ParseError::Memory) => Err(RequestTokenError::Memory),
     }
 }
 
@@ -105,43 +124,55 @@ fn refusal_in<RE, TE: ErrorResponse>(alloc: Global, body: Body) -> RequestTokenE
 #[tactic(auto, unfolding(crate::specs::TokenAnswers::tokens_in))]
 fn tokens_in<RE, TE: ErrorResponse, TR: OAuth2TokenResponse>(
     alloc: Global,
-    may_be_json: bool,
-    body: Body,
+    response: HttpResponse,
 ) -> Result<TR, RequestTokenError<RE, TE>>
-    ensures { spec.Gives result (spec.tokens_in TR.read_of may_be_json body) }
+    ensures { let reply = spec.tokens_in TE.read_of TR.read_of (seen_response response) in
+        Gives token_errors result reply }
 {
+    let may_be_json = may_be_json(&response);
+    let body = response.into_body();
     if !may_be_json {
         return Err(RequestTokenError::Other(OtherCause::MediaType));
     }
     if body.as_slice().is_empty() {
         return Err(RequestTokenError::Other(OtherCause::EmptyBody));
     }
-    match response_in::<TR>(alloc, &body) {
-        Ok(response) => Ok(response),
+    match token_response_in::<TR>(alloc, &body) {
+        Ok(tokens) => Ok(tokens),
         Err(ParseError::Refused(refusal)) => Err(RequestTokenError::Parse(refusal, body)),
         Err(ParseError::Memory) => Err(RequestTokenError::Memory),
     }
 }
 
+// What a response is worth, whose body isn't too long.
+#[tactic(auto, unfolding(crate::specs::TokenAnswers::status_worth))]
+fn status_worth<RE, TE: ErrorResponse, TR: OAuth2TokenResponse>(
+    alloc: Global,
+    response: HttpResponse,
+) -> Result<TR, RequestTokenError<RE, TE>>
+    ensures { let reply = spec.status_worth TE.read_of TR.read_of (seen_response response) in
+        Gives token_errors result reply }
+{
+    if response.status().as_u16() == 200 {
+        tokens_in(alloc, response)
+    } else {
+        error_in(alloc, response)
+    }
+}
+
 // What a response is worth, by the rows.
-#[tactic(auto, unfolding(crate::specs::TokenAnswers::status_worth, crate::specs::TokenAnswers::token_answer))]
+#[tactic(auto, unfolding(crate::specs::TokenAnswers::token_answer))]
 fn judge<RE, TE: ErrorResponse, TR: OAuth2TokenResponse>(
     alloc: Global,
     response: HttpResponse,
 ) -> Result<TR, RequestTokenError<RE, TE>>
-    ensures { let worth = spec.token_answer TE.read_of TR.read_of in
-        spec.Gives result (worth (seen_response response)) }
+    ensures { let reply = spec.token_answer TE.read_of TR.read_of (seen_response response) in
+        Gives token_errors result reply }
 {
-    let status = response.status().as_u16();
-    let may_be_json = may_be_json(&response);
-    let body = response.into_body();
-    if body.as_slice().len() > MAX_BODY {
-        return Err(RequestTokenError::TooLong(body));
+    if response.body().as_slice().len() > MAX_BODY {
+        return Err(RequestTokenError::TooLong(response.into_body()));
     }
-    if status != 200 {
-        return Err(refusal_in(alloc, body));
-    }
-    tokens_in(alloc, may_be_json, body)
+    status_worth(alloc, response)
 }
 
 /// What a response to a token request is worth: the token response, or the first of these that holds.
@@ -152,12 +183,12 @@ pub fn token_answer<RE, TE: ErrorResponse, TR: OAuth2TokenResponse>(
     alloc: Global,
     response: HttpResponse,
 ) -> Result<TR, RequestTokenError<RE, TE>>
-    ensures answer { let worth = spec.token_answer TE.read_of TR.read_of in
-        spec.Gives result (worth (seen_response response)) }
+    ensures answer { let reply = spec.token_answer TE.read_of TR.read_of (seen_response response) in
+        Gives token_errors result reply }
     // Each refusal has its cause, want of memory aside, and each cause its refusal.
     ensures cause { IfErr result (Because TE.read_of TR.read_of (seen_response response)) }
     ensures refused { let Caused = AnswerCause TE.read_of TR.read_of (seen_response response) in
-        (e : spec.TokenRefusal TE) → Caused e → spec.Gives result (Err e) }
+        (e : spec.TokenRefusal TE) → Caused e → Gives token_errors result (Err e) }
 {
     judge(alloc, response)
 }

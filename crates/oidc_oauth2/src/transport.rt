@@ -1,51 +1,13 @@
 //! Requests, responses, and what a transport promises (RFC 9110).
 
-ghost use Rattle.std.specs.Prelude.{◌≡◌, ◌≤◌, ℕ, List, Option, Some};
+ghost use Rattle.std.specs.Prelude.{◌≡◌, ◌≤◌, ℕ, List, Option};
 ghost use Rattle.std.specs.String.{string_bytes};
 
 use http::Method;
 use http_header::HeaderMap;
+use oidc_types::Body;
 use std::alloc::Global;
-use std::fmt;
 use std::marker::Model;
-
-/// The bytes of a request or a response. Contracts see their list. `Debug` does not show them, since
-/// they are often secrets.
-#[derive(Drop)]
-pub struct Body {
-    bytes: Vec<u8>,
-}
-
-impl Model for Body {
-    ghost use Rattle.std.specs.Prelude.{List, ℕ};
-
-    ghost Value = { List ℕ };
-
-    ghost view = { λ b. b.bytes.items };
-}
-
-impl Body {
-    /// A body of these bytes.
-    pub fn new(bytes: Vec<u8>) -> Self
-        ensures bytes { result ≡ bytes.items }
-    {
-        Body { bytes }
-    }
-
-    /// The bytes.
-    pub fn as_slice(&self) -> &[u8]
-        ensures bytes { result.now ≡ self.now }
-    {
-        self.bytes.as_slice()
-    }
-}
-
-/// Prints `Body([redacted])`.
-impl fmt::Debug for Body {
-    fn fmt<W: fmt::Write>(&self, f: &mut fmt::Formatter<W>) -> fmt::Result {
-        f.write_str("Body([redacted])")
-    }
-}
 
 /// A request: a method, the text of an address, headers and a body. A transport builds what its own
 /// client needs from these four. It has no `Debug`, since it carries a client's credentials.
@@ -126,7 +88,7 @@ pub type HttpResponse = http::Response<Body>;
 pub enum CallError<E> {
     /// The request was handed over and failed on its way, or its response did.
     Transport(E),
-    /// There was no memory. Nothing was handed over.
+    /// There was no memory. The log of the transport, where it is known, is as it was.
     Memory,
 }
 
@@ -157,7 +119,7 @@ pub trait SyncHttpClient {
     ghost ready: { Self → Type 0 } = { λ _. Unit {0} };
 
     /// Hands the request over and gives the answer. `Transport` comes only where the count of faults
-    /// has risen or stands at its last value. On `Memory` nothing was handed over.
+    /// has risen or stands at its last value. On `Memory` a log that is known is as it was.
     fn call(
         &mut self,
         alloc: Global,

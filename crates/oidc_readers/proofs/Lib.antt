@@ -1,8 +1,10 @@
 mod First
 mod JsonValues
+mod NoFloat
 mod Parts
 mod ReadBack
 mod Scans
 pub mod Theorems
+mod Utf8
 mod Values
 mod WrittenBack

@@ -1,5 +1,7 @@
--- Lemmas that other crates may cite: slots that look at a member one after another, and members that
--- are split back.
+-- Lemmas that other crates may cite: slots that look at a member one after another, members that are
+-- split back, values that hold no float, and that what a program holds is UTF-8.
+pub use Rattle.oidc_readers.proofs.NoFloat.{whole_value, whole_members, free_append, standing_free}
+pub use Rattle.oidc_readers.proofs.Utf8.{value_has_texts, utf8_pushed}
 pub use Rattle.oidc_readers.proofs.WrittenBack.{written_split_back}
 use Rattle.std.proofs.Common.{◌≡◌, ℕ, List, [], ◌∷◌, ◌++◌, Option, Result, Ok, Err, sym, ap, subst, ◌∙◌}
 use Rattle.std.specs.Option.{option_or}

@@ -50,6 +50,7 @@ module _ {V : Type 0} (f : Field V) where
   unfoldable pub judged : List SeenMember → SeenMember → Option Refusal
   judged before m = if is_own m then judged_among f.kind (own before) m else None
 
-  -- the field's value
+  -- The field's value: what its first member reads as. Members none of which is faulty have none
+  -- where no member is the field's own; `judged` refuses a first member of another kind.
   abbrev pub value_in : List SeenMember → Option V
   value_in members = first_value f.kind (own members)

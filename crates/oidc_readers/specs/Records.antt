@@ -8,11 +8,11 @@ pub use Rattle.oidc_readers.specs.Passes.{Rule}
 use Rattle.oidc_readers.specs.Passes.{first_by}
 use Rattle.oidc_readers.specs.Fields.{Field, value_in}
 
--- one step after another, up to the first refusal
+-- one step after another, up to the first error
 infixl 10 ◌>>=◌
-abbrev pub ◌>>=◌ : {A B : Type 0} → Result A Refusal → (A → Result B Refusal) → Result B Refusal
+abbrev pub ◌>>=◌ : {A B F : Type 0} → Result A F → (A → Result B F) → Result B F
 (Ok x) >>= f = f x
-(Err refusal) >>= f = Err refusal
+(Err error) >>= f = Err error
 
 -- A member is refused by the first field of the table that refuses it.
 abbrev pub by_table : List Rule → Rule
@@ -33,10 +33,11 @@ faultless rule members = without_place (first_by rule [] members)
 abbrev pub missing : List ℕ → Refusal
 missing name = record { kind = Missing; field = name }
 
--- the value of a field that has to be there
+-- The value of a field that has to be there. It is asked of members none of which is faulty, behind
+-- `faultless`: a member of the field would be of its kind, so where there is no value none came.
 abbrev pub required : {V : Type 0} → Field V → List SeenMember → Result V Refusal
 required f members = ok_or (value_in f members) (missing f.name)
 
--- the value of one that may be absent or null
+-- the value of one that may be absent or null, asked behind `faultless` too
 abbrev pub optional : {V : Type 0} → Field (Option V) → List SeenMember → Option V
 optional f members = option_flatten (value_in f members)

@@ -1,5 +1,6 @@
 -- Members that were written, as they are read back (RFC 8259).
 use Rattle.std.specs.Prelude.{⊤, ℕ, ◌^◌, ◌<◌, ◌≤◌, pos, negsuc, List, [], ◌∷◌}
+use Rattle.std.specs.List.{All}
 use Rattle.std.specs.Cmp.Lexicographic.{slice_cmp}
 use Rattle.std.specs.List.Sorted.{IsStrictlySortedBy}
 use Rattle.std.specs.Ordering.{nat_cmp}
@@ -68,6 +69,10 @@ MayStand value = IsWhole value × (depth value ≤ max_depth)
 -- The name and the texts of the value are UTF-8.
 abbrev pub IsUtf8Member : OutSeen → Type 0
 IsUtf8Member m = IsUtf8 m.name × HasTexts m.value
+
+-- The members are UTF-8 where those before were.
+abbrev pub KeepsUtf8 : List OutSeen → List OutSeen → Type 0
+KeepsUtf8 before after = All IsUtf8Member before → All IsUtf8Member after
 
 -- A member that may be written: its texts are UTF-8, and its value may stand.
 pub record MayBeWritten (m : OutSeen) : Type 0 where

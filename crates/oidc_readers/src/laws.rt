@@ -1,4 +1,4 @@
-//! What holds of members that are written. Each function here says a law in its contract, and does
+//! What holds of members that are written and hold no float. Each function here says a law in its contract, and does
 //! nothing.
 
 ghost use Rattle.std.specs.Prelude.{◌≡◌, List, Some, map};
@@ -12,13 +12,17 @@ ghost use Rattle.oidc_members.specs.Write.{object_text};
 ghost use Rattle.oidc_readers.specs.WrittenBack.{MayBeWritten, MayStand, HasTexts, as_read};
 
 /// An object that was written is split into the members that were written, each with its name, its
-/// value and the value's compact text.
+/// value and the value's compact text. It speaks of members that may be written: names and texts are
+/// UTF-8, no value holds a float, whole numbers are from -2^63 up to 2^64 - 1, members of objects
+/// inside stand in the byte order of their names, no name twice, and values are nested at most 127
+/// deep.
 pub fn written_objects_split_back()
     ensures { (members : List OutSeen) → All MayBeWritten members
         → members_of (object_text members) ≡ Some (map as_read members) }
 {}
 
-/// The compact text of a value is read as that value.
+/// The compact text of a value is read as that value, where its names and texts are UTF-8, it holds
+/// no float, its numbers and inner objects are as above, and it is nested at most 127 deep.
 pub fn written_values_read_back()
     ensures { (value : Data) → MayStand value → HasTexts value
         → read (compact_text value) ≡ Some value }

@@ -10,11 +10,12 @@
 //! - [`MemberReader`] is what a reader keeps. Its meanings are `fault`, the refusal of a member after
 //!   those before it, and `state`, what is kept of the members that came. [`Both`] joins two.
 //! - [`read_fields`] is the pass, and [`read_members`] the same with the place of a refusal.
-//! - [`put`] and its like append the members that a record is written as.
-//! - [`laws`] says that what is written is read back as it was.
+//! - [`put`] and its like append the members that a record is written as, which are UTF-8.
+//! - [`laws`] says that what is written is read back as it was, where its names and texts are UTF-8 and
+//!   it holds no float.
 //!
 //! What it promises. A field's member is refused where one of its names stood before, or where its
-//! value isn't of the field's kind. A pass answers the first faulty member's refusal, by looking back
+//! value isn't of the field's kind. A pass over the members answers the first faulty member's refusal, by looking back
 //! from each member over all that stand before it, and where no member is faulty it answers what is
 //! kept of them all; then a missing field refuses, in the order of the table. Want of memory is an
 //! answer of its own, and no clause says when it comes.
@@ -34,5 +35,5 @@ pub use crate::passes::{MemberReader, PlacedError, read_members};
 pub use crate::records::{Both, read_fields};
 pub use crate::slots::Once;
 pub use crate::writing::{
-    put, put_optional_moment, put_optional_text, put_optional_whole, put_text,
+    put, put_optional_moment, put_optional_text, put_optional_whole, put_text, put_texts,
 };

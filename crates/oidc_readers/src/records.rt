@@ -8,7 +8,7 @@ use crate::passes::{MemberReader, read_members};
 use oidc_members::{Member, Members, ParseError};
 use std::alloc::Global;
 
-/// One pass of a reader over the members, up to the first faulty one.
+/// Shows the members to a reader one after another, up to the first faulty one.
 pub fn read_fields<R: MemberReader>(
     alloc: Global,
     reader: R,

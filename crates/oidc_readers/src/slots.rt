@@ -83,7 +83,8 @@ impl<T: FieldValue> Once<T> {
         Ok(())
     }
 
-    /// The value, which has to be there; else the field of that name is missing.
+    /// The value, which has to be there; else the field of that name is missing. It is asked of
+    /// members that were all taken: then a slot that has seen one holds its value.
     pub fn required(self, alloc: Global, name: &str) -> Result<T, ParseError>
         ensures value { Answers (ok_or (slot_value self) (missing name.now)) result }
     {

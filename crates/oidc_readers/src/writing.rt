@@ -1,14 +1,20 @@
 //! Members that a record is written as.
+//!
+//! Each function appends a member, or nothing where there is no value. What it appends is UTF-8, as a
+//! `String` and the texts of a `Value` are. `AllocError` is want of memory, the one error, after which
+//! the members are as they were.
 
-ghost use Rattle.std.specs.Prelude.{◌≡◌, ◌++◌, OnOk, option_map};
+ghost use Rattle.std.specs.Prelude.{◌≡◌, ◌++◌, IfOk, OnOk, OnErr, option_map};
 ghost use Rattle.std.specs.Option.{option_copied};
 ghost use Rattle.serde_json.specs.View.{view};
 ghost use Rattle.serde_json.specs.Data.{string};
 ghost use Rattle.oidc_readers.specs.Writing as spec;
+ghost use Rattle.oidc_readers.specs.WrittenBack.{KeepsUtf8};
 
 use crate::moments::seconds_value;
 use jiff::Timestamp;
 use oidc_members::{FieldName, OutMember};
+use oidc_types::{Marker, Text};
 use serde_json::Value;
 use std::alloc::{AllocError, Global};
 
@@ -21,8 +27,11 @@ pub fn put(
 ) -> Result<(), AllocError>
     ensures put { OnOk result
         (members.new.items ≡ members.old.items ++ spec.one_member name.now (view value)) }
+    ensures err { OnErr result (members.new.items ≡ members.old.items) }
+    ensures texts { OnOk result (KeepsUtf8 members.old.items members.new.items) }
 {
-    let name = FieldName::new(String::from_str(alloc, name)?);
+    let text = String::from_str(alloc, name)?;
+    let name = FieldName::new(text);
     members.push(OutMember { name, value })?;
     Ok(())
 }
@@ -36,6 +45,8 @@ pub fn put_text(
 ) -> Result<(), AllocError>
     ensures put { OnOk result
         (members.new.items ≡ members.old.items ++ spec.one_member name.now (string text.now)) }
+    ensures err { OnErr result (members.new.items ≡ members.old.items) }
+    ensures texts { OnOk result (KeepsUtf8 members.old.items members.new.items) }
 {
     let text = String::from_str(alloc, text)?;
     put(alloc, members, name, Value::String(text))
@@ -50,6 +61,8 @@ pub fn put_optional_text(
 ) -> Result<(), AllocError>
     ensures put { let text = option_copied text.entry in OnOk result
         (members.new.items ≡ members.old.items ++ spec.text_member name.now text) }
+    ensures err { OnErr result (members.new.items ≡ members.old.items) }
+    ensures texts { OnOk result (KeepsUtf8 members.old.items members.new.items) }
 {
     match text {
         None => Ok(()),
@@ -66,6 +79,8 @@ pub fn put_optional_whole(
 ) -> Result<(), AllocError>
     ensures put { OnOk result
         (members.new.items ≡ members.old.items ++ spec.whole_member name.now number) }
+    ensures err { OnErr result (members.new.items ≡ members.old.items) }
+    ensures texts { OnOk result (KeepsUtf8 members.old.items members.new.items) }
 {
     match number {
         None => Ok(()),
@@ -82,9 +97,39 @@ pub fn put_optional_moment(
 ) -> Result<(), AllocError>
     ensures put { let moment = option_map (λ t. t.nanosecond) moment in OnOk result
         (members.new.items ≡ members.old.items ++ spec.moment_member name.now moment) }
+    ensures err { OnErr result (members.new.items ≡ members.old.items) }
+    ensures texts { OnOk result (KeepsUtf8 members.old.items members.new.items) }
 {
     match moment {
         None => Ok(()),
         Some(moment) => put(alloc, members, name, seconds_value(moment)),
     }
+}
+
+/// Appends an array of texts, where there is one.
+pub fn put_texts<M: Marker>(
+    alloc: Global,
+    members: &mut Vec<OutMember>,
+    name: &str,
+    texts: Option<&[Text<M>]>,
+) -> Result<(), AllocError>
+    ensures put { let texts = option_copied texts.entry in OnOk result
+        (members.new.items ≡ members.old.items ++ spec.texts_member name.now texts) }
+    ensures err { OnErr result (members.new.items ≡ members.old.items) }
+    ensures texts { OnOk result (KeepsUtf8 members.old.items members.new.items) }
+{
+    match texts {
+        None => Ok(()),
+        Some(texts) => put(alloc, members, name, texts_value(alloc, texts)?),
+    }
+}
+
+fn texts_value<M: Marker>(alloc: Global, texts: &[Text<M>]) -> Result<Value, AllocError>
+    ensures { IfOk result (λ value. view value ≡ spec.texts_data texts.now) }
+{
+    let mut values = Vec::new(alloc);
+    for text in texts {
+        values.push(Value::String(String::from_str(alloc, text.as_str())?))?;
+    }
+    Ok(Value::Array(values))
 }

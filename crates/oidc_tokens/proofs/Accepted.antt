@@ -20,7 +20,7 @@ use Rattle.oidc_tokens.specs.Steps.{◌>>=◌}
 use Rattle.oidc_jwt.specs.Tokens.{SeenToken}
 use Rattle.oidc_id_token_claims.specs.IdTokenClaims.{SeenIdTokenClaims}
 use Rattle.oidc_tokens.specs.Signatures.{KeyMeanings, SeenVerifier, signing_alg, is_allowed, if_allowed, key_for, verdict_on}
-use Rattle.oidc_tokens.specs.Verification.{is_token_type, is_encrypted, is_supported, is_alone_in, Accepts, unless, refused_as, first_of, first_failure, FailsUnlessAccepted}
+use Rattle.oidc_tokens.specs.Verification.{is_token_type, is_encrypted, is_supported, IsForAlone, is_alone_in, Accepts, unless, refused_as, first_refusal, first_failure, FailsUnlessAccepted}
 
 -- ---- one check
 
@@ -41,18 +41,19 @@ contains_found test x same (y ∷ ys) h =
 found_contained : {A : Type 0} (test : A → Bool) (x : A) → test x ≡ true → (xs : List A) → Contains xs x → list_any test xs ≡ true
 found_contained test x passes xs h = list_any_at test xs h.0 x h.1 (ap test h.2 ∙ passes)
 
-pub alone : (id : List ℕ) (audiences : List (List ℕ)) → is_alone_in id audiences ≡ true → Contains audiences id × All (λ a. a ≡ id) audiences
+pub alone : (id : List ℕ) (audiences : List (List ℕ)) → is_alone_in id audiences ≡ true → IsForAlone id audiences
 alone id audiences h =
-    let parts = and_parts (list_any (λ a. bytes_eq a id) audiences) (list_all (λ a. bytes_eq a id) audiences) h in (
-      contains_found (λ a. bytes_eq a id) id (λ a e. same_bytes a id e) audiences parts.0,
-      All-weaker (λ a. bytes_eq a id ≡ true) (λ a. a ≡ id) (λ a e. same_bytes a id e) audiences (AllPass-from_list_all (λ a. bytes_eq a id) audiences parts.1),
-    )
+    let parts = and_parts (list_any (λ a. bytes_eq a id) audiences) (list_all (λ a. bytes_eq a id) audiences) h in
+    record {
+      one = contains_found (λ a. bytes_eq a id) id (λ a e. same_bytes a id e) audiences parts.0;
+      no_other = All-weaker (λ a. bytes_eq a id ≡ true) (λ a. a ≡ id) (λ a e. same_bytes a id e) audiences (AllPass-from_list_all (λ a. bytes_eq a id) audiences parts.1);
+    }
 
-pub alone_back : (id : List ℕ) (audiences : List (List ℕ)) → Contains audiences id → All (λ a. a ≡ id) audiences → is_alone_in id audiences ≡ true
-alone_back id audiences one all =
+pub alone_back : (id : List ℕ) (audiences : List (List ℕ)) → IsForAlone id audiences → is_alone_in id audiences ≡ true
+alone_back id audiences is =
     and_from (list_any (λ a. bytes_eq a id) audiences) (list_all (λ a. bytes_eq a id) audiences)
-    (found_contained (λ a. bytes_eq a id) id (bytes_same id id refl) audiences one)
-    (list_all-from_AllPass (λ a. bytes_eq a id) audiences (All-weaker (λ a. a ≡ id) (λ a. bytes_eq a id ≡ true) (λ a e. bytes_same a id e) audiences all))
+    (found_contained (λ a. bytes_eq a id) id (bytes_same id id refl) audiences is.one)
+    (list_all-from_AllPass (λ a. bytes_eq a id) audiences (All-weaker (λ a. a ≡ id) (λ a. bytes_eq a id ≡ true) (λ a e. bytes_same a id e) audiences is.no_other))
 
 less : (a b : ℤ) → int_lt a b ≡ true → a <ℤ b
 less a b h = grind (arith, ints)
@@ -140,7 +141,7 @@ first_two (Some e) b h = absurd cc
 abbrev All_none : Option ClaimsVerificationError → Option ClaimsVerificationError → Option ClaimsVerificationError → Option ClaimsVerificationError → Option ClaimsVerificationError → Option ClaimsVerificationError → Type 0
 All_none a b c d e f = (a ≡ None) × (b ≡ None) × (c ≡ None) × (d ≡ None) × (e ≡ None) × (f ≡ None)
 
-all_six : (a b c d e f : Option ClaimsVerificationError) → first_of (a ∷ b ∷ c ∷ d ∷ e ∷ f ∷ []) ≡ None → All_none a b c d e f
+all_six : (a b c d e f : Option ClaimsVerificationError) → first_refusal (a ∷ b ∷ c ∷ d ∷ e ∷ f ∷ []) ≡ None → All_none a b c d e f
 all_six None None None None None None h = (refl, refl, refl, refl, refl, refl)
 all_six (Some x) b c d e f h = absurd cc
 all_six None (Some x) c d e f h = absurd cc
@@ -149,7 +150,7 @@ all_six None None None (Some x) e f h = absurd cc
 all_six None None None None (Some x) f h = absurd cc
 all_six None None None None None (Some x) h = absurd cc
 
-six_back : (a b c d e f : Option ClaimsVerificationError) → All_none a b c d e f → first_of (a ∷ b ∷ c ∷ d ∷ e ∷ f ∷ []) ≡ None
+six_back : (a b c d e f : Option ClaimsVerificationError) → All_none a b c d e f → first_refusal (a ∷ b ∷ c ∷ d ∷ e ∷ f ∷ []) ≡ None
 six_back a b c d e f h = rw (h.0, h.1, h.2, h.3, h.4, h.5) refl
 
 module _ {Key Use Algorithm Type' : Type 0} (k : KeyMeanings Key Use Algorithm Type') {JE AC GC : Type 0} where
@@ -161,15 +162,13 @@ module _ {Key Use Algorithm Type' : Type 0} (k : KeyMeanings Key Use Algorithm T
       let six = all_six (unless (is_supported token.header) Unsupported) (unless (bytes_eq own.issuer.text v.issuer.text) InvalidIssuer) (unless (is_alone_in v.client_id own.audiences) InvalidAudience)
       (refused_as SignatureVerification (verdict_on k v token)) (unless (int_lt now own.expiration) Expired) (unless (allows own.nonce) InvalidNonce) h in
       let header = supported_parts token.header (passes (is_supported token.header) Unsupported six.0) in
-      let audience = alone v.client_id own.audiences (passes (is_alone_in v.client_id own.audiences) InvalidAudience six.2) in
       let signed = good k v token (passed (verdict_on k v token) six.3) in
       record {
         no_extension = header.0;
         no_inner_token = header.1;
         known_type = header.2;
         issuer = same_bytes own.issuer.text v.issuer.text (passes (bytes_eq own.issuer.text v.issuer.text) InvalidIssuer six.1);
-        audience = audience.0;
-        no_other = audience.1;
+        audience = alone v.client_id own.audiences (passes (is_alone_in v.client_id own.audiences) InvalidAudience six.2);
         alg = signed.alg;
         signed = signed.signed;
         allowed = signed.allowed;
@@ -188,7 +187,7 @@ module _ {Key Use Algorithm Type' : Type 0} (k : KeyMeanings Key Use Algorithm T
       six_back _ _ _ _ _ _ (
         ap (λ b. unless b Unsupported) (supported_back token.header a.alg a.no_extension a.no_inner_token a.known_type a.signed),
         ap (λ b. unless b InvalidIssuer) (bytes_same own.issuer.text v.issuer.text a.issuer),
-        ap (λ b. unless b InvalidAudience) (alone_back v.client_id own.audiences a.audience a.no_other),
+        ap (λ b. unless b InvalidAudience) (alone_back v.client_id own.audiences a.audience),
         ap (refused_as SignatureVerification) (good_back k v token (record { alg = a.alg; signed = a.signed; allowed = a.allowed; key = a.key; chosen = a.chosen; verified = a.verified })),
         ap (λ b. unless b Expired) (less_back now own.expiration a.unexpired),
         ap (λ b. unless b InvalidNonce) a.nonce,

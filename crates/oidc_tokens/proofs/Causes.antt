@@ -15,9 +15,9 @@ use Rattle.oidc_tokens.specs.Steps.{◌>>=◌}
 use Rattle.oidc_jwt.specs.Tokens.{SeenToken}
 use Rattle.oidc_id_token_claims.specs.IdTokenClaims.{SeenIdTokenClaims}
 use Rattle.oidc_tokens.specs.Signatures.{KeyMeanings, SeenVerifier, signing_alg, the_one, fits, is_allowed, if_allowed, key_for, verdict_on}
-use Rattle.oidc_tokens.specs.Verification.{is_token_type, is_encrypted, is_supported, is_alone_in, unless, refused_as, first_of, first_failure}
+use Rattle.oidc_tokens.specs.Verification.{is_token_type, is_encrypted, is_supported, is_alone_in, unless, refused_as, first_refusal, first_failure}
 use Rattle.oidc_tokens.specs.Causes.{KeyIsAtFault, KeySays, Cause}
-use Rattle.oidc_tokens.proofs.Accepted.{bytes_same}
+use Rattle.oidc_tokens.proofs.Accepted.{bytes_same, alone_back}
 
 same_err : {A : Type 0} (o : Result A SignatureVerificationError) (a b : SignatureVerificationError) → o ≡ Err a → o ≡ Err b → a ≡ b
 same_err o a b h k = let both = sym h ∙ k in cc both
@@ -115,35 +115,35 @@ not_less a b h = grind (arith, ints)
 
 module _ {Key Use Algorithm Type' : Type 0} (k : KeyMeanings Key Use Algorithm Type') {JE AC GC : Type 0}
     (v : SeenVerifier Key Algorithm) (allows : Option (List ℕ) → Bool) (now : ℤ) (token : SeenToken JE Algorithm (SeenIdTokenClaims AC GC)) where
-  last_cause : (allowed : Bool) → allows token.payload.own.nonce ≡ allowed → (e : ClaimsVerificationError) → first_of (unless allowed InvalidNonce ∷ []) ≡ Some e → Cause k v allows now token e
+  last_cause : (allowed : Bool) → allows token.payload.own.nonce ≡ allowed → (e : ClaimsVerificationError) → first_refusal (unless allowed InvalidNonce ∷ []) ≡ Some e → Cause k v allows now token e
   last_cause true is e h = absurd cc
   last_cause false is e h = subst (Cause k v allows now token) (same_some InvalidNonce e h) is
 
   time_cause : (unexpired : Bool) → int_lt now token.payload.own.expiration ≡ unexpired → (e : ClaimsVerificationError)
-      → first_of (unless unexpired Expired ∷ unless (allows token.payload.own.nonce) InvalidNonce ∷ []) ≡ Some e → Cause k v allows now token e
+      → first_refusal (unless unexpired Expired ∷ unless (allows token.payload.own.nonce) InvalidNonce ∷ []) ≡ Some e → Cause k v allows now token e
   time_cause true is e h = last_cause (allows token.payload.own.nonce) refl e h
   time_cause false is e h = subst (Cause k v allows now token) (same_some Expired e h) (not_less now token.payload.own.expiration is)
 
   signed_cause : is_encrypted token.header.alg ≡ false → (said : Result (Unit {0}) SignatureVerificationError) → verdict_on k v token ≡ said → (e : ClaimsVerificationError)
-      → first_of (refused_as SignatureVerification said ∷ unless (int_lt now token.payload.own.expiration) Expired ∷ unless (allows token.payload.own.nonce) InvalidNonce ∷ []) ≡ Some e → Cause k v allows now token e
+      → first_refusal (refused_as SignatureVerification said ∷ unless (int_lt now token.payload.own.expiration) Expired ∷ unless (allows token.payload.own.nonce) InvalidNonce ∷ []) ≡ Some e → Cause k v allows now token e
   signed_cause plain (Ok u) is e h = time_cause (int_lt now token.payload.own.expiration) refl e h
   signed_cause plain (Err r) is e h = subst (Cause k v allows now token) (same_some (SignatureVerification r) e h) (signature_cause k v token plain r is)
 
   audience_cause : is_encrypted token.header.alg ≡ false → (alone : Bool) → is_alone_in v.client_id token.payload.own.audiences ≡ alone → (e : ClaimsVerificationError)
-      → first_of (unless alone InvalidAudience ∷ refused_as SignatureVerification (verdict_on k v token) ∷ unless (int_lt now token.payload.own.expiration) Expired ∷ unless (allows token.payload.own.nonce) InvalidNonce ∷ []) ≡ Some e
+      → first_refusal (unless alone InvalidAudience ∷ refused_as SignatureVerification (verdict_on k v token) ∷ unless (int_lt now token.payload.own.expiration) Expired ∷ unless (allows token.payload.own.nonce) InvalidNonce ∷ []) ≡ Some e
       → Cause k v allows now token e
   audience_cause plain true is e h = signed_cause plain (verdict_on k v token) refl e h
-  audience_cause plain false is e h = subst (Cause k v allows now token) (same_some InvalidAudience e h) is
+  audience_cause plain false is e h = subst (Cause k v allows now token) (same_some InvalidAudience e h) (λ alone. true≢false (sym (alone_back v.client_id token.payload.own.audiences alone) ∙ is))
 
   issuer_cause : is_encrypted token.header.alg ≡ false → (same : Bool) → bytes_eq token.payload.own.issuer.text v.issuer.text ≡ same → (e : ClaimsVerificationError)
-      → first_of (unless same InvalidIssuer ∷ unless (is_alone_in v.client_id token.payload.own.audiences) InvalidAudience ∷ refused_as SignatureVerification (verdict_on k v token)
+      → first_refusal (unless same InvalidIssuer ∷ unless (is_alone_in v.client_id token.payload.own.audiences) InvalidAudience ∷ refused_as SignatureVerification (verdict_on k v token)
       ∷ unless (int_lt now token.payload.own.expiration) Expired ∷ unless (allows token.payload.own.nonce) InvalidNonce ∷ []) ≡ Some e
       → Cause k v allows now token e
   issuer_cause plain true is e h = audience_cause plain (is_alone_in v.client_id token.payload.own.audiences) refl e h
   issuer_cause plain false is e h = subst (Cause k v allows now token) (same_some InvalidIssuer e h) (differ token.payload.own.issuer.text v.issuer.text is)
 
   header_cause : (supported : Bool) → is_supported token.header ≡ supported → (e : ClaimsVerificationError)
-      → first_of (unless supported Unsupported ∷ unless (bytes_eq token.payload.own.issuer.text v.issuer.text) InvalidIssuer ∷ unless (is_alone_in v.client_id token.payload.own.audiences) InvalidAudience
+      → first_refusal (unless supported Unsupported ∷ unless (bytes_eq token.payload.own.issuer.text v.issuer.text) InvalidIssuer ∷ unless (is_alone_in v.client_id token.payload.own.audiences) InvalidAudience
       ∷ refused_as SignatureVerification (verdict_on k v token) ∷ unless (int_lt now token.payload.own.expiration) Expired ∷ unless (allows token.payload.own.nonce) InvalidNonce ∷ []) ≡ Some e
       → Cause k v allows now token e
   header_cause true is e h = issuer_cause (plain_of token.header.crit (is_none token.header.cty) (is_token_type token.header.typ) (is_encrypted token.header.alg) is) (bytes_eq token.payload.own.issuer.text v.issuer.text) refl e h

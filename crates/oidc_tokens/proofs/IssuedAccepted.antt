@@ -10,7 +10,7 @@ use Rattle.oidc_jwt.specs.Issuing.{signed_with}
 use Rattle.oidc_tokens.specs.Hashes.{Hashing, hash_or_refusal, with_token_hash, with_code_hash, with_hashes}
 use Rattle.oidc_tokens.specs.Signatures.{KeyMeanings, SeenVerifier, key_for}
 use Rattle.oidc_tokens.specs.Verification.{is_token_type, Accepts}
-use Rattle.oidc_id_token_claims.specs.RoundTrip.{IsInRange}
+use Rattle.oidc_id_token_claims.specs.RoundTrip.{IsTokenInRange}
 use Rattle.oidc_tokens.specs.Issuing.{Expects}
 
 -- ---- claims that differ in their hashes alone
@@ -81,7 +81,7 @@ module _ {AC GC : Type 0} where
   hashes_differ by token code claims hashed h = both_by by code (with_token_hash by token claims) claims hashed (λ x is. token_differs by token claims x is) h
 
   -- the range speaks of no hash
-  pub range_kept : (additional_out : AC → List OutSeen) (claims hashed : SeenIdTokenClaims AC GC) → DifferInHashes hashed claims → IsInRange additional_out claims → IsInRange additional_out hashed
+  pub range_kept : (additional_out : AC → List OutSeen) (claims hashed : SeenIdTokenClaims AC GC) → DifferInHashes hashed claims → IsTokenInRange additional_out claims → IsTokenInRange additional_out hashed
   range_kept additional_out claims hashed d r = record {
     issuer = rw d.issuer r.issuer;
     expiration = rw d.expiration r.expiration;
@@ -105,8 +105,10 @@ module _ {Key Use Algorithm Type' : Type 0} (k : KeyMeanings Key Use Algorithm T
         no_inner_token = ap (λ h. h.cty) header;
         known_type = ap (λ h. is_token_type h.typ) header;
         issuer = ap (λ i. i.text) d.issuer ∙ e.issuer;
-        audience = rw one (0, omega arith, refl);
-        no_other = rw one (All-cons (λ a. a ≡ v.client_id) v.client_id [] refl (All-nil (λ a. a ≡ v.client_id)));
+        audience = record {
+          one = rw one (0, omega arith, refl);
+          no_other = rw one (All-cons (λ a. a ≡ v.client_id) v.client_id [] refl (All-nil (λ a. a ≡ v.client_id)));
+        };
         alg = alg;
         signed = ap (λ h. h.alg) header;
         allowed = e.allowed;

@@ -8,13 +8,13 @@ use Rattle.oidc_tokens.specs.declared.verification.refusals.ClaimsVerificationEr
 use Rattle.oidc_jwt.specs.Tokens.{SeenToken}
 use Rattle.oidc_id_token_claims.specs.IdTokenClaims.{SeenIdTokenClaims}
 use Rattle.oidc_tokens.specs.Signatures.{KeyMeanings, SeenVerifier, verdict_on}
-use Rattle.oidc_tokens.specs.Verification.{is_supported, is_alone_in, unless, refused_as, first_of, first_failure}
+use Rattle.oidc_tokens.specs.Verification.{is_supported, is_alone_in, unless, refused_as, first_refusal, first_failure}
 use Rattle.oidc_tokens.specs.UserInfoVerification.{SeenUserInfoVerifier, Parties, without_secret, passes_issuer, passes_audience, is_expected_subject, first_info_failure}
 use Rattle.oidc_tokens.proofs.Causes.{failure_cause}
 use Rattle.oidc_tokens.proofs.UserInfo.{info_failure_cause}
 
 never_by : (supported same alone : Bool) (said : Result (Unit {0}) SignatureVerificationError) (unexpired allowed : Bool)
-    → first_of (unless supported Unsupported ∷ unless same InvalidIssuer ∷ unless alone InvalidAudience ∷ refused_as SignatureVerification said ∷ unless unexpired Expired ∷ unless allowed InvalidNonce ∷ []) ≢ Some Memory
+    → first_refusal (unless supported Unsupported ∷ unless same InvalidIssuer ∷ unless alone InvalidAudience ∷ refused_as SignatureVerification said ∷ unless unexpired Expired ∷ unless allowed InvalidNonce ∷ []) ≢ Some Memory
 never_by false same alone said unexpired allowed = λ e. cc
 never_by true false alone said unexpired allowed = λ e. cc
 never_by true true false said unexpired allowed = λ e. cc
@@ -40,7 +40,7 @@ module _ {Key Use Algorithm Type' : Type 0} (k : KeyMeanings Key Use Algorithm T
 -- ---- user info
 
 info_never_by : (supported issuer audience : Bool) (said : Result (Unit {0}) SignatureVerificationError) (about : Bool)
-    → first_of (unless supported Unsupported ∷ unless issuer InvalidIssuer ∷ unless audience InvalidAudience ∷ refused_as SignatureVerification said ∷ unless about InvalidSubject ∷ []) ≢ Some Memory
+    → first_refusal (unless supported Unsupported ∷ unless issuer InvalidIssuer ∷ unless audience InvalidAudience ∷ refused_as SignatureVerification said ∷ unless about InvalidSubject ∷ []) ≢ Some Memory
 info_never_by false issuer audience said about = λ e. cc
 info_never_by true false audience said about = λ e. cc
 info_never_by true true false said about = λ e. cc

@@ -17,41 +17,11 @@ use Rattle.oidc_readers.specs.Records.{◌>>=◌, faultless, optional}
 use Rattle.oidc_claims.specs.Additional.{out_of}
 use Rattle.oidc_claims.specs.Others.{Others, list_of, read_others}
 use Rattle.oidc_claims.proofs.Theorems.{all_kept}
-use Rattle.oidc_jwt.specs.Tokens.{SeenToken, parts_of, bytes_of, header_in, payload_in, contents_of, token_of}
+use Rattle.oidc_jwt.specs.Tokens.{SeenToken, token_of}
+use Rattle.oidc_jwt.proofs.Theorems.{after, same_ok, payload_said}
 use Rattle.oidc_id_token_claims.specs.IdTokenClaims.{SeenIdTokenClaims, additional_members, id_token_claims_of}
 use Rattle.oidc_tokens.specs.IdTokenFields.{SeenIdTokenFields, token_kind, id_token, response_fields_of}
 use Rattle.oidc_id_token_claims.proofs.Theorems.{accepted_parts, additional_stay}
-
--- what follows from two steps that gave a value, by the value between them
-after : {A B Goal : Type 0} (o : Result A Refusal) (f : A → Result B Refusal) (y : B) → (o >>= f) ≡ Ok y → ((x : A) → o ≡ Ok x → f x ≡ Ok y → Goal) → Goal
-after (Ok x) f y h next = next x refl h
-after (Err refusal) f y h next = absurd cc
-
-same_ok : {A : Type 0} (x y : A) → ◌≡◌ {A = Result A Refusal} (Ok x) (Ok y) → x ≡ y
-same_ok x y h = cc
-
--- ---- an object that was split
-
-free_by : (members : List SeenMember) (has : Bool) (given : List SeenMember) → list_any (λ m. has_float m.value) members ≡ has → (cond has None (Some members)) ≡ Some given → list_any (λ m. has_float m.value) given ≡ false
-free_by members true given is h = absurd cc
-free_by members false given is h = let same : members ≡ given = cc h in ap (list_any (λ (m : SeenMember). has_float m.value)) (sym same) ∙ is
-
-loose_free : (loose : Option (List SeenMember)) (given : List SeenMember) → option_and_then without_floats loose ≡ Some given → list_any (λ m. has_float m.value) given ≡ false
-loose_free None given h = absurd cc
-loose_free (Some members) given h = free_by members (list_any (λ m. has_float m.value) members) given refl h
-
-members_free : (text : List ℕ) (given : List SeenMember) → members_of text ≡ Some given → list_any (λ m. has_float m.value) given ≡ false
-unfolding members_of
-members_free text given h = loose_free (loose_members_of text) given h
-
-split_by : (members loose : Option (List SeenMember)) (given : List SeenMember) → members_or_refusal members loose ≡ Ok given → members ≡ Some given
-split_by (Some members) loose given h = cc
-split_by None (Some loose) given h = absurd cc
-split_by None None given h = absurd cc
-
-split_free : (text : List ℕ) (given : List SeenMember) → split_of text ≡ Ok given → list_any (λ m. has_float m.value) given ≡ false
-unfolding split_of
-split_free text given h = members_free text given (split_by (members_of text) (loose_members_of text) given h)
 
 -- ---- some of its members
 
@@ -70,31 +40,13 @@ kept_free test (m ∷ ms) h =
 
 -- ---- a token
 
-module _ {JE JS P : Type 0} (encrypts : List ℕ → Option JE) (signs : List ℕ → Option JS) (payload_read : List SeenMember → Result P Refusal) where
-  payload_of : (text : List ℕ) (token : SeenToken JE JS P) → token_of encrypts signs payload_read text ≡ Ok token → (bytes : List ℕ) × (payload_in payload_read bytes ≡ Ok token.payload)
-  unfolding token_of contents_of
-  payload_of text token h =
-      after (parts_of text) _ token h λ parts _ given.
-      after (contents_of encrypts signs payload_read parts) _ token given λ said contents whole.
-      after (bytes_of parts) _ said contents λ bytes _ decoded.
-      after (header_in encrypts signs bytes.header) _ said decoded λ header _ headed.
-      after (payload_in payload_read bytes.payload) _ said headed λ payload read made.
-      (bytes.payload, read ∙ ap Ok (ap (λ s. s.payload) (same_ok _ said made) ∙ ap (λ t. t.payload) (same_ok _ token whole)))
-
-  members_read : (text : List ℕ) (token : SeenToken JE JS P) → token_of encrypts signs payload_read text ≡ Ok token
-      → (members : List SeenMember) × (list_any (λ m. has_float m.value) members ≡ false) × (payload_read members ≡ Ok token.payload)
-  unfolding payload_in
-  members_read text token h =
-      let payload = payload_of text token h in
-      after (split_of payload.0) payload_read token.payload payload.1 λ members split read. (members, split_free payload.0 members split, read)
-
-module _ {JE JS GC : Type 0} (encrypts : List ℕ → Option JE) (signs : List ℕ → Option JS) (gender_read : SeenMember → Result GC Refusal) where
+module _ {JE JS GC : Type 0} (encryption_named : List ℕ → Option JE) (signing_named : List ℕ → Option JS) (gender_read : SeenMember → Result GC Refusal) where
   abbrev pub reads : List ℕ → Result (SeenToken JE JS (SeenIdTokenClaims Others GC)) Refusal
-  reads = token_of encrypts signs (id_token_claims_of read_others gender_read)
+  reads = token_of encryption_named signing_named (id_token_claims_of read_others gender_read)
 
   pub token_free : (text : List ℕ) (token : SeenToken JE JS (SeenIdTokenClaims Others GC)) → reads text ≡ Ok token → any_float (list_of token.payload.additional_claims) ≡ false
   token_free text token h =
-      let read = members_read encrypts signs (id_token_claims_of read_others gender_read) text token h in
+      let read = payload_said encryption_named signing_named (id_token_claims_of read_others gender_read) text token h in
       let parts = accepted_parts read_others gender_read read.0 token.payload read.2 in
       let kept = all_kept (additional_members read.0) (additional_stay read.0) in
       let same : kept.0 ≡ token.payload.additional_claims = same_ok kept.0 token.payload.additional_claims (sym kept.1 ∙ parts.2) in

@@ -11,9 +11,9 @@ use Rattle.oidc_tokens.specs.declared.verification.refusals.ClaimsVerificationEr
 use Rattle.oidc_tokens.specs.declared.verification.refusals.ClaimsVerificationError.TheVariants.{Unsupported, InvalidIssuer, InvalidAudience, SignatureVerification, InvalidSubject}
 use Rattle.oidc_jwt.specs.Tokens.{SeenToken}
 use Rattle.oidc_tokens.specs.Signatures.{KeyMeanings, verdict_on}
-use Rattle.oidc_tokens.specs.Verification.{is_token_type, is_encrypted, is_supported, is_alone_in, unless, refused_as, first_of}
-use Rattle.oidc_tokens.specs.UserInfoVerification.{SeenUserInfoVerifier, Parties, without_secret, IsIssuedBy, IsForAlone, AcceptsInfo, passes_issuer, passes_audience, is_expected_subject, first_info_failure, InfoFailsUnlessAccepted}
-use Rattle.oidc_tokens.specs.UserInfoCauses.{InfoCause}
+use Rattle.oidc_tokens.specs.Verification.{is_token_type, is_encrypted, is_supported, is_alone_in, unless, refused_as, first_refusal}
+use Rattle.oidc_tokens.specs.UserInfoVerification.{SeenUserInfoVerifier, Parties, without_secret, IsIssuedBy, NamesAlone, AcceptsInfo, passes_issuer, passes_audience, is_expected_subject, first_info_failure, InfoFailsUnlessAccepted}
+use Rattle.oidc_tokens.specs.UserInfoCauses.{InfoTokenCause}
 use Rattle.oidc_tokens.proofs.Accepted.{same_bytes, bytes_same, alone, alone_back, supported_parts, supported_back, good, good_back, passes, passed}
 use Rattle.oidc_tokens.proofs.Causes.{same_some, too_much_by, plain_of, differ, signature_cause}
 
@@ -46,12 +46,12 @@ issued_back text issuer is = ap (is_issued_by text) is.there ∙ bytes_same is.f
 abbrev is_for_alone : List ℕ → Option (List (List ℕ)) → Bool
 is_for_alone id audiences = option_map_or (is_alone_in id) audiences false
 
-for_alone : (id : List ℕ) (audiences : Option (List (List ℕ))) → is_for_alone id audiences ≡ true → IsForAlone id audiences
+for_alone : (id : List ℕ) (audiences : Option (List (List ℕ))) → is_for_alone id audiences ≡ true → NamesAlone id audiences
 for_alone id None h = absurd (false≢true h)
-for_alone id (Some xs) h = let both = alone id xs h in record { found = xs; there = refl; one = both.0; no_other = both.1 }
+for_alone id (Some xs) h = record { found = xs; there = refl; alone = alone id xs h }
 
-for_alone_back : (id : List ℕ) (audiences : Option (List (List ℕ))) → IsForAlone id audiences → is_for_alone id audiences ≡ true
-for_alone_back id audiences is = ap (is_for_alone id) is.there ∙ alone_back id is.found is.one is.no_other
+for_alone_back : (id : List ℕ) (audiences : Option (List (List ℕ))) → NamesAlone id audiences → is_for_alone id audiences ≡ true
+for_alone_back id audiences is = ap (is_for_alone id) is.there ∙ alone_back id is.found is.alone
 
 same_text : (a b : List ℕ) → Some a ≡ Some b → a ≡ b
 same_text a b h = cc
@@ -73,7 +73,7 @@ about_another (Some x) subject h = (x, refl, differ subject x h)
 abbrev All_none : Option ClaimsVerificationError → Option ClaimsVerificationError → Option ClaimsVerificationError → Option ClaimsVerificationError → Option ClaimsVerificationError → Type 0
 All_none a b c d e = (a ≡ None) × (b ≡ None) × (c ≡ None) × (d ≡ None) × (e ≡ None)
 
-all_five : (a b c d e : Option ClaimsVerificationError) → first_of (a ∷ b ∷ c ∷ d ∷ e ∷ []) ≡ None → All_none a b c d e
+all_five : (a b c d e : Option ClaimsVerificationError) → first_refusal (a ∷ b ∷ c ∷ d ∷ e ∷ []) ≡ None → All_none a b c d e
 all_five None None None None None h = (refl, refl, refl, refl, refl)
 all_five (Some x) b c d e h = absurd cc
 all_five None (Some x) c d e h = absurd cc
@@ -81,7 +81,7 @@ all_five None None (Some x) d e h = absurd cc
 all_five None None None (Some x) e h = absurd cc
 all_five None None None None (Some x) h = absurd cc
 
-five_back : (a b c d e : Option ClaimsVerificationError) → All_none a b c d e → first_of (a ∷ b ∷ c ∷ d ∷ e ∷ []) ≡ None
+five_back : (a b c d e : Option ClaimsVerificationError) → All_none a b c d e → first_refusal (a ∷ b ∷ c ∷ d ∷ e ∷ []) ≡ None
 five_back a b c d e h = rw (h.0, h.1, h.2, h.3, h.4) refl
 
 module _ {Key Use Algorithm Type' : Type 0} (k : KeyMeanings Key Use Algorithm Type') {JE P : Type 0} where
@@ -125,43 +125,43 @@ module _ {Key Use Algorithm Type' : Type 0} (k : KeyMeanings Key Use Algorithm T
 
 module _ {Key Use Algorithm Type' : Type 0} (k : KeyMeanings Key Use Algorithm Type') {JE P : Type 0}
     (v : SeenUserInfoVerifier Key) (token : SeenToken JE Algorithm P) (named : Parties) where
-  subject_cause : (expected : Bool) → is_expected_subject v.expected_subject named.subject ≡ expected → (e : ClaimsVerificationError) → first_of (unless expected InvalidSubject ∷ []) ≡ Some e → InfoCause k v token named e
+  subject_cause : (expected : Bool) → is_expected_subject v.expected_subject named.subject ≡ expected → (e : ClaimsVerificationError) → first_refusal (unless expected InvalidSubject ∷ []) ≡ Some e → InfoTokenCause k v token named e
   subject_cause true is e h = absurd cc
-  subject_cause false is e h = subst (InfoCause k v token named) (same_some InvalidSubject e h) (about_another v.expected_subject named.subject is)
+  subject_cause false is e h = subst (InfoTokenCause k v token named) (same_some InvalidSubject e h) (about_another v.expected_subject named.subject is)
 
   signed_cause : is_encrypted token.header.alg ≡ false → (said : Result (Unit {0}) SignatureVerificationError) → verdict_on k (without_secret v) token ≡ said → (e : ClaimsVerificationError)
-      → first_of (refused_as SignatureVerification said ∷ unless (is_expected_subject v.expected_subject named.subject) InvalidSubject ∷ []) ≡ Some e → InfoCause k v token named e
+      → first_refusal (refused_as SignatureVerification said ∷ unless (is_expected_subject v.expected_subject named.subject) InvalidSubject ∷ []) ≡ Some e → InfoTokenCause k v token named e
   signed_cause plain (Ok u) is e h = subject_cause (is_expected_subject v.expected_subject named.subject) refl e h
-  signed_cause plain (Err r) is e h = subst (InfoCause k v token named) (same_some (SignatureVerification r) e h) (signature_cause k (without_secret v) token plain r is)
+  signed_cause plain (Err r) is e h = subst (InfoTokenCause k v token named) (same_some (SignatureVerification r) e h) (signature_cause k (without_secret v) token plain r is)
 
   audience_cause : is_encrypted token.header.alg ≡ false → (passes : Bool) → passes_audience v named.audiences ≡ passes → (e : ClaimsVerificationError)
-      → first_of (unless passes InvalidAudience ∷ refused_as SignatureVerification (verdict_on k (without_secret v) token) ∷ unless (is_expected_subject v.expected_subject named.subject) InvalidSubject ∷ []) ≡ Some e
-      → InfoCause k v token named e
+      → first_refusal (unless passes InvalidAudience ∷ refused_as SignatureVerification (verdict_on k (without_secret v) token) ∷ unless (is_expected_subject v.expected_subject named.subject) InvalidSubject ∷ []) ≡ Some e
+      → InfoTokenCause k v token named e
   audience_cause plain true is e h = signed_cause plain (verdict_on k (without_secret v) token) refl e h
   audience_cause plain false is e h =
       let fails = asked_fails v.audience_match (is_for_alone v.client_id named.audiences) is in
-      subst (InfoCause k v token named) (same_some InvalidAudience e h)
+      subst (InfoTokenCause k v token named) (same_some InvalidAudience e h)
       (fails.0, λ holds. true≢false (sym (for_alone_back v.client_id named.audiences holds) ∙ fails.1))
 
   issuer_cause : is_encrypted token.header.alg ≡ false → (passes : Bool) → passes_issuer v named.issuer ≡ passes → (e : ClaimsVerificationError)
-      → first_of (unless passes InvalidIssuer ∷ unless (passes_audience v named.audiences) InvalidAudience ∷ refused_as SignatureVerification (verdict_on k (without_secret v) token)
+      → first_refusal (unless passes InvalidIssuer ∷ unless (passes_audience v named.audiences) InvalidAudience ∷ refused_as SignatureVerification (verdict_on k (without_secret v) token)
       ∷ unless (is_expected_subject v.expected_subject named.subject) InvalidSubject ∷ []) ≡ Some e
-      → InfoCause k v token named e
+      → InfoTokenCause k v token named e
   issuer_cause plain true is e h = audience_cause plain (passes_audience v named.audiences) refl e h
   issuer_cause plain false is e h =
       let fails = asked_fails v.issuer_match (is_issued_by v.issuer.text named.issuer) is in
-      subst (InfoCause k v token named) (same_some InvalidIssuer e h)
+      subst (InfoTokenCause k v token named) (same_some InvalidIssuer e h)
       (fails.0, λ holds. true≢false (sym (issued_back v.issuer.text named.issuer holds) ∙ fails.1))
 
   header_cause : (supported : Bool) → is_supported token.header ≡ supported → (e : ClaimsVerificationError)
-      → first_of (unless supported Unsupported ∷ unless (passes_issuer v named.issuer) InvalidIssuer ∷ unless (passes_audience v named.audiences) InvalidAudience
+      → first_refusal (unless supported Unsupported ∷ unless (passes_issuer v named.issuer) InvalidIssuer ∷ unless (passes_audience v named.audiences) InvalidAudience
       ∷ refused_as SignatureVerification (verdict_on k (without_secret v) token) ∷ unless (is_expected_subject v.expected_subject named.subject) InvalidSubject ∷ []) ≡ Some e
-      → InfoCause k v token named e
+      → InfoTokenCause k v token named e
   header_cause true is e h = issuer_cause (plain_of token.header.crit (is_none token.header.cty) (is_token_type token.header.typ) (is_encrypted token.header.alg) is) (passes_issuer v named.issuer) refl e h
   header_cause false is e h =
-      subst (InfoCause k v token named) (same_some Unsupported e h)
+      subst (InfoTokenCause k v token named) (same_some Unsupported e h)
       (too_much_by token.header.crit token.header.cty (is_token_type token.header.typ) (is_encrypted token.header.alg) is)
 
-  pub info_failure_cause : (e : ClaimsVerificationError) → first_info_failure k v token named ≡ Some e → InfoCause k v token named e
+  pub info_failure_cause : (e : ClaimsVerificationError) → first_info_failure k v token named ≡ Some e → InfoTokenCause k v token named e
   unfolding first_info_failure
   info_failure_cause e h = header_cause (is_supported token.header) refl e h

@@ -10,7 +10,7 @@ use Rattle.oidc_tokens.specs.declared.verification.refusals.ClaimsVerificationEr
 use Rattle.oidc_jwt.specs.Tokens.{SeenToken}
 use Rattle.oidc_id_token_claims.specs.IdTokenClaims.{SeenIdTokenClaims}
 use Rattle.oidc_tokens.specs.Signatures.{KeyMeanings, SeenVerifier, fits, is_allowed, key_for}
-use Rattle.oidc_tokens.specs.Verification.{is_token_type, is_encrypted, is_alone_in}
+use Rattle.oidc_tokens.specs.Verification.{is_token_type, is_encrypted, IsForAlone}
 
 -- An extension has to be understood, the payload is a token of its own, the token is of no known type, or it
 -- is encrypted.
@@ -55,7 +55,7 @@ module _ {Key Use Algorithm Type' : Type 0} (k : KeyMeanings Key Use Algorithm T
   abbrev pub Cause : ClaimsVerificationError → Type 0
   Cause Unsupported = AsksTooMuch token.header
   Cause InvalidIssuer = token.payload.own.issuer.text ≢ v.issuer.text
-  Cause InvalidAudience = IsFalse (is_alone_in v.client_id token.payload.own.audiences)
+  Cause InvalidAudience = IsForAlone v.client_id token.payload.own.audiences → ⊥
   Cause (SignatureVerification refusal) = KeyIsAtFault k v token refusal ⊎ KeySays k v token refusal
   Cause Expired = token.payload.own.expiration ≤ℤ now
   Cause InvalidNonce = IsFalse (allows token.payload.own.nonce)

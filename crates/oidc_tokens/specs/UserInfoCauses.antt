@@ -6,18 +6,18 @@ use Rattle.oidc_tokens.specs.declared.verification.refusals.ClaimsVerificationEr
 use Rattle.oidc_jwt.specs.Tokens.{SeenToken}
 use Rattle.oidc_tokens.specs.Signatures.{KeyMeanings}
 use Rattle.oidc_tokens.specs.Causes.{AsksTooMuch, KeyIsAtFault, KeySays}
-use Rattle.oidc_tokens.specs.UserInfoVerification.{SeenUserInfoVerifier, Parties, IsIssuedBy, IsForAlone, without_secret}
+use Rattle.oidc_tokens.specs.UserInfoVerification.{SeenUserInfoVerifier, Parties, IsIssuedBy, NamesAlone, without_secret}
 
 module _ {Key Use Algorithm Type' : Type 0} (k : KeyMeanings Key Use Algorithm Type') {JE P : Type 0}
     (v : SeenUserInfoVerifier Key) (token : SeenToken JE Algorithm P) (named : Parties) where
-  abbrev pub InfoCause : ClaimsVerificationError → Type 0
-  InfoCause Unsupported = AsksTooMuch token.header
-  InfoCause InvalidIssuer = IsTrue v.issuer_match × (IsIssuedBy v.issuer.text named.issuer → ⊥)
-  InfoCause InvalidAudience = IsTrue v.audience_match × (IsForAlone v.client_id named.audiences → ⊥)
-  InfoCause (SignatureVerification refusal) =
+  abbrev pub InfoTokenCause : ClaimsVerificationError → Type 0
+  InfoTokenCause Unsupported = AsksTooMuch token.header
+  InfoTokenCause InvalidIssuer = IsTrue v.issuer_match × (IsIssuedBy v.issuer.text named.issuer → ⊥)
+  InfoTokenCause InvalidAudience = IsTrue v.audience_match × (NamesAlone v.client_id named.audiences → ⊥)
+  InfoTokenCause (SignatureVerification refusal) =
       KeyIsAtFault k (without_secret v) token refusal ⊎ KeySays k (without_secret v) token refusal
-  InfoCause InvalidSubject =
+  InfoTokenCause InvalidSubject =
       (expected : List ℕ) × (v.expected_subject ≡ Some expected) × (named.subject ≢ expected)
-  InfoCause Expired = ⊥
-  InfoCause InvalidNonce = ⊥
-  InfoCause Memory = Unit {0}
+  InfoTokenCause Expired = ⊥
+  InfoTokenCause InvalidNonce = ⊥
+  InfoTokenCause Memory = Unit {0}

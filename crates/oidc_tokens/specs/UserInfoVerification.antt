@@ -1,5 +1,5 @@
 -- The checks of a user info answer that is a token (OpenID Connect Core 1.0 sections 5.3.2 and 5.3.4).
-use Rattle.std.specs.Prelude.{◌≡◌, ◌↔◌, ℕ, List, [], ◌∷◌, Bool, true, false, ◌||◌, not, Option, None, Some, Ok, IsTrue, Contains, All}
+use Rattle.std.specs.Prelude.{◌≡◌, ◌↔◌, ℕ, List, [], ◌∷◌, Bool, true, false, ◌||◌, not, Option, None, Some, Ok, IsTrue}
 use Rattle.std.specs.Option.{option_map_or}
 use Rattle.std.specs.Str.{bytes_eq}
 use Rattle.oidc_types.specs.{TextAndUrl}
@@ -8,7 +8,7 @@ use Rattle.oidc_tokens.specs.declared.verification.refusals.ClaimsVerificationEr
 use Rattle.oidc_tokens.specs.declared.verification.refusals.ClaimsVerificationError.TheVariants.{Unsupported, InvalidIssuer, InvalidAudience, SignatureVerification, InvalidSubject}
 use Rattle.oidc_jwt.specs.Tokens.{SeenToken}
 use Rattle.oidc_tokens.specs.Signatures.{KeyMeanings, SeenVerifier, is_allowed, key_for, verdict_on}
-use Rattle.oidc_tokens.specs.Verification.{is_token_type, is_supported, is_alone_in, unless, refused_as, first_of}
+use Rattle.oidc_tokens.specs.Verification.{is_token_type, is_supported, IsForAlone, is_alone_in, unless, refused_as, first_refusal}
 
 -- what a client expects of such a token
 pub record SeenUserInfoVerifier (Key : Type 0) : Type 0 where
@@ -50,11 +50,10 @@ pub record IsIssuedBy (text : List ℕ) (issuer : Option TextAndUrl) : Type 0 wh
   pub same : found.text ≡ text
 
 -- The audience is there: this client is in it, and nobody else is.
-pub record IsForAlone (client_id : List ℕ) (audiences : Option (List (List ℕ))) : Type 0 where
+pub record NamesAlone (client_id : List ℕ) (audiences : Option (List (List ℕ))) : Type 0 where
   pub found : List (List ℕ)
   pub there : audiences ≡ Some found
-  pub one : Contains found client_id
-  pub no_other : All (λ a. a ≡ client_id) found
+  pub alone : IsForAlone client_id found
 
 module _ {Key Use Algorithm Type' : Type 0} (k : KeyMeanings Key Use Algorithm Type') {JE P : Type 0} where
   -- The token is accepted, whose claims name these parties.
@@ -69,7 +68,7 @@ module _ {Key Use Algorithm Type' : Type 0} (k : KeyMeanings Key Use Algorithm T
     -- where that is asked, the issuer is the one that is expected
     pub issuer : IsTrue v.issuer_match → IsIssuedBy v.issuer.text named.issuer
     -- where that is asked, it is for the client and for nobody else
-    pub audience : IsTrue v.audience_match → IsForAlone v.client_id named.audiences
+    pub audience : IsTrue v.audience_match → NamesAlone v.client_id named.audiences
     -- it is signed, by an algorithm that is allowed, which is RS256 alone
     pub alg : Algorithm
     pub signed : token.header.alg ≡ algorithm.Signature alg
@@ -100,7 +99,7 @@ module _ {Key Use Algorithm Type' : Type 0} (k : KeyMeanings Key Use Algorithm T
   unfoldable pub first_info_failure : SeenUserInfoVerifier Key → SeenToken JE Algorithm P → Parties
       → Option ClaimsVerificationError
   first_info_failure v token named =
-      first_of
+      first_refusal
       (unless (is_supported token.header) Unsupported
       ∷ unless (passes_issuer v named.issuer) InvalidIssuer
       ∷ unless (passes_audience v named.audiences) InvalidAudience

@@ -43,6 +43,11 @@ is_supported header =
 -- ---- the audience
 
 -- The client is in the audience, and nobody else is.
+pub record IsForAlone (client_id : List ℕ) (audiences : List (List ℕ)) : Type 0 where
+  pub one : Contains audiences client_id
+  pub no_other : All (λ a. a ≡ client_id) audiences
+
+-- the same as a test
 abbrev pub is_alone_in : List ℕ → List (List ℕ) → Bool
 is_alone_in id audiences =
     list_any (λ a. bytes_eq a id) audiences && list_all (λ a. bytes_eq a id) audiences
@@ -62,8 +67,7 @@ module _ {Key Use Algorithm Type' : Type 0} (k : KeyMeanings Key Use Algorithm T
     -- the issuer's text is the one that is expected, byte for byte
     pub issuer : token.payload.own.issuer.text ≡ v.issuer.text
     -- the client is in the audience, and nobody else is
-    pub audience : Contains token.payload.own.audiences v.client_id
-    pub no_other : All (λ a. a ≡ v.client_id) token.payload.own.audiences
+    pub audience : IsForAlone v.client_id token.payload.own.audiences
     -- it is signed, by an algorithm that the client allows
     pub alg : Algorithm
     pub signed : token.header.alg ≡ algorithm.Signature alg
@@ -90,8 +94,8 @@ refused_as wrap (Ok u) = None
 refused_as wrap (Err refusal) = Some (wrap refusal)
 
 -- the first that refuses
-abbrev pub first_of : List (Option ClaimsVerificationError) → Option ClaimsVerificationError
-first_of checks = fold option_or None checks
+abbrev pub first_refusal : List (Option ClaimsVerificationError) → Option ClaimsVerificationError
+first_refusal checks = fold option_or None checks
 
 module _ {Key Use Algorithm Type' : Type 0} (k : KeyMeanings Key Use Algorithm Type') {JE AC GC : Type 0} where
   -- the first check that fails
@@ -99,7 +103,7 @@ module _ {Key Use Algorithm Type' : Type 0} (k : KeyMeanings Key Use Algorithm T
       → SeenToken JE Algorithm (SeenIdTokenClaims AC GC) → Option ClaimsVerificationError
   first_failure v allows now token =
       let own = token.payload.own in
-      first_of
+      first_refusal
       (unless (is_supported token.header) Unsupported
       ∷ unless (bytes_eq own.issuer.text v.issuer.text) InvalidIssuer
       ∷ unless (is_alone_in v.client_id own.audiences) InvalidAudience

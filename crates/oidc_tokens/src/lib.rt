@@ -2,7 +2,7 @@
 //!
 //! - [`IdToken`] is a [`JsonWebToken`] whose payload is [`IdTokenClaims`] (OpenID Connect Core 1.0 section 2).
 //!   Tokens over any payload are those of `oidc_jwt`, and the claims those of `oidc_id_token_claims`; both are
-//!   passed on here, in the modules `jwt`, `header`, `payload` and `members`.
+//!   passed on here.
 //! - [`IdTokenVerifier`] is what a client expects of an ID token. [`IdToken::claims`] gives the claims
 //!   where the verifier accepts the token (section 3.1.3.7), else the first check that fails.
 //! - [`UserInfoVerifier`] is what it expects of a user info answer that is a token (sections 5.3.2 and 5.3.4).
@@ -15,7 +15,8 @@
 //! What it promises. A text is read exactly as `token_of` says, over claims as `id_token_claims_of` says.
 //! `IdToken::claims` is Ok only for tokens that `Accepts` holds of, and for each
 //! of them, want of memory aside; a refusal is the first check that fails. A token that is issued with
-//! claims in range is read back as it is, and whoever expects its claims accepts it. All of this holds of
+//! claims in range, by an algorithm that is read back from its own text, is read back as it is; and whoever
+//! expects its claims accepts it. All of this holds of
 //! every lawful type of keys, algorithms and claims. Want of memory is a variant `Memory` of its own, or
 //! the one error of a call that answers an `AllocError`, and no clause says when it comes.
 //!
@@ -23,12 +24,12 @@
 //! verdict. What holds tokens or claims has no `Debug`.
 #![tactic(auto)]
 
-pub mod core_tokens;
-pub mod hashes;
-pub mod id_token;
+mod core_tokens;
+mod hashes;
+mod id_token;
 pub mod laws;
-pub mod token;
-pub mod verification;
+mod token;
+mod verification;
 
 pub use crate::core_tokens::{
     CoreIdToken, CoreIdTokenClaims, CoreIdTokenFields, CoreIdTokenVerifier, CoreTokenResponse,
@@ -41,8 +42,5 @@ pub use crate::verification::{
     AudiencesClaim, ClaimsVerificationError, IdTokenVerifier, IssuerClaim, NonceVerifier,
     UserInfoVerifier, is_expected_subject,
 };
-pub use oidc_id_token_claims::members;
-pub use oidc_jwt::{
-    JsonWebToken, JsonWebTokenAlgorithm, JsonWebTokenError, Payload, TokenHeader, header, jwt,
-    payload,
-};
+pub use oidc_id_token_claims::additional_copies;
+pub use oidc_jwt::{JsonWebToken, JsonWebTokenAlgorithm, JsonWebTokenError, Payload, TokenHeader};

@@ -4,7 +4,7 @@ ghost use Rattle.std.specs.Prelude.{◌≡◌, IfOk};
 ghost use Rattle.oidc_types.specs.CoreAuthorization.{auth_display_text, auth_displays, auth_error_text, auth_errors, auth_prompt_text, auth_prompts, response_mode_text, response_modes, response_type_text, response_types};
 ghost use Rattle.oidc_types.specs.Vocabulary.{find_word};
 
-use crate::open::{
+use crate::open_vocabularies::{
     AuthDisplay, AuthPrompt, ErrorResponseType, ExtensionText, ResponseMode, ResponseType,
 };
 use crate::text::Text;

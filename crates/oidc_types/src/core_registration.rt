@@ -4,7 +4,7 @@ ghost use Rattle.std.specs.Prelude.{◌≡◌, IfOk};
 ghost use Rattle.oidc_types.specs.CoreRegistration.{application_type_text, application_types, claim_type_text, claim_types, auth_method_text, auth_methods, grant_type_text, grant_types, register_error_text, register_errors, subject_type_text, subject_types};
 ghost use Rattle.oidc_types.specs.Vocabulary.{find_word};
 
-use crate::open::{
+use crate::open_vocabularies::{
     ApplicationType, ClaimType, ClientAuthMethod, ErrorResponseType, ExtensionText, GrantType,
     SubjectIdentifierType,
 };

@@ -25,33 +25,24 @@ fn fill<R: Rng>(rng: &mut R, bytes: &mut [u8])
     }
 }
 
-/// The base64url text, without padding, of the next bytes of a generator.
-fn random_secret<M: Marker, R: Rng>(
-    alloc: Global,
-    rng: &mut R,
-    num_bytes: u32,
-) -> Result<Secret<M>, AllocError>
-    ensures text { IfOk result (λ secret. secret ≡ random_text num_bytes (R.stream rng.old)) }
-    ensures moved { OnOk result (R.stream rng.new ≡ stream_after num_bytes (R.stream rng.old)) }
-    ensures err { OnErr result (IsBeforeOrAfter num_bytes (R.stream rng.old) (R.stream rng.new)) }
-{
-    let mut bytes = vec![in alloc; 0u8; num_bytes as usize]?;
-    fill(rng, bytes.as_mut_slice());
-    let text = URL_SAFE_NO_PAD.encode(alloc, bytes.as_slice())?;
-    Ok(Secret::new(text))
-}
+/// A kind of secret that no one can guess.
+pub trait RandomMarker: Marker {}
 
-impl Secret<NonceMarker> {
-    /// A new nonce of 16 random bytes. `AllocError` is want of memory, the one error.
+impl RandomMarker for NonceMarker {}
+
+impl RandomMarker for CsrfTokenMarker {}
+
+impl<M: RandomMarker> Secret<M> {
+    /// A new text of 16 random bytes. `AllocError` is want of memory, the one error.
     pub fn new_random<R: Rng>(alloc: Global, rng: &mut R) -> Result<Self, AllocError>
-        ensures text { IfOk result (λ nonce. nonce ≡ random_text 16 (R.stream rng.old)) }
+        ensures text { IfOk result (λ secret. secret ≡ random_text 16 (R.stream rng.old)) }
         ensures moved { OnOk result (R.stream rng.new ≡ stream_after 16 (R.stream rng.old)) }
         ensures err { OnErr result (IsBeforeOrAfter 16 (R.stream rng.old) (R.stream rng.new)) }
     {
-        random_secret(alloc, rng, USUAL_BYTES)
+        Self::new_random_len(alloc, rng, USUAL_BYTES)
     }
 
-    /// A new nonce: the base64url text, without padding, of the next `num_bytes` bytes of the
+    /// A new text: the base64url text, without padding, of the next `num_bytes` bytes of the
     /// generator, each drawn by `random::<u8>()`. Where there is no memory, the one error, the
     /// generator stands where it stood or behind these bytes.
     pub fn new_random_len<R: Rng>(
@@ -59,36 +50,13 @@ impl Secret<NonceMarker> {
         rng: &mut R,
         num_bytes: u32,
     ) -> Result<Self, AllocError>
-        ensures text { IfOk result (λ nonce. nonce ≡ random_text num_bytes (R.stream rng.old)) }
+        ensures text { IfOk result (λ secret. secret ≡ random_text num_bytes (R.stream rng.old)) }
         ensures moved { OnOk result (R.stream rng.new ≡ stream_after num_bytes (R.stream rng.old)) }
         ensures err { OnErr result (IsBeforeOrAfter num_bytes (R.stream rng.old) (R.stream rng.new)) }
     {
-        random_secret(alloc, rng, num_bytes)
-    }
-}
-
-impl Secret<CsrfTokenMarker> {
-    /// A new state of 16 random bytes. `AllocError` is want of memory, the one error.
-    pub fn new_random<R: Rng>(alloc: Global, rng: &mut R) -> Result<Self, AllocError>
-        ensures text { IfOk result (λ state. state ≡ random_text 16 (R.stream rng.old)) }
-        ensures moved { OnOk result (R.stream rng.new ≡ stream_after 16 (R.stream rng.old)) }
-        ensures err { OnErr result (IsBeforeOrAfter 16 (R.stream rng.old) (R.stream rng.new)) }
-    {
-        random_secret(alloc, rng, USUAL_BYTES)
-    }
-
-    /// A new state: the base64url text, without padding, of the next `num_bytes` bytes of the
-    /// generator, each drawn by `random::<u8>()`. Where there is no memory, the one error, the
-    /// generator stands where it stood or behind these bytes.
-    pub fn new_random_len<R: Rng>(
-        alloc: Global,
-        rng: &mut R,
-        num_bytes: u32,
-    ) -> Result<Self, AllocError>
-        ensures text { IfOk result (λ state. state ≡ random_text num_bytes (R.stream rng.old)) }
-        ensures moved { OnOk result (R.stream rng.new ≡ stream_after num_bytes (R.stream rng.old)) }
-        ensures err { OnErr result (IsBeforeOrAfter num_bytes (R.stream rng.old) (R.stream rng.new)) }
-    {
-        random_secret(alloc, rng, num_bytes)
+        let mut bytes = vec![in alloc; 0u8; num_bytes as usize]?;
+        fill(rng, bytes.as_mut_slice());
+        let text = URL_SAFE_NO_PAD.encode(alloc, bytes.as_slice())?;
+        Ok(Secret::new(text))
     }
 }

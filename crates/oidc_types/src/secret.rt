@@ -3,26 +3,24 @@
 ghost use Rattle.std.specs.Prelude.{◌≡◌, IfOk};
 ghost use Rattle.std.specs.String.{string_bytes};
 
-use crate::text::Marker;
+use crate::text::{Marker, Text};
 use std::alloc::{AllocError, Global};
 use std::fmt;
-use std::marker::{Model, PhantomData};
+use std::marker::Model;
 
 /// A text of the kind `M` that `Debug` does not show. It has no equality, order or hash, so that none
 /// is compared in passing. Contracts see it as its bytes.
 #[derive(Drop)]
 pub struct Secret<M> {
-    text: String,
-    of: PhantomData<M>,
+    text: Text<M>,
 }
 
 impl<M> Model for Secret<M> {
     ghost use Rattle.std.specs.Prelude.{List, ℕ};
-    ghost use Rattle.std.specs.String.{string_bytes};
 
     ghost Value = { List ℕ };
 
-    ghost view = { λ t. string_bytes t.text };
+    ghost view = { λ s. s.text };
 }
 
 impl<M: Marker> Secret<M> {
@@ -31,8 +29,7 @@ impl<M: Marker> Secret<M> {
         ensures kept { result ≡ string_bytes text }
     {
         Secret {
-            text,
-            of: PhantomData,
+            text: Text::new(text),
         }
     }
 
@@ -47,15 +44,15 @@ impl<M: Marker> Secret<M> {
     pub fn into_string(self) -> String
         ensures text { string_bytes result ≡ self }
     {
-        self.text
+        self.text.into_string()
     }
 
     /// A copy of this text. `AllocError` is want of memory, the one error.
     pub fn clone_in(&self, alloc: Global) -> Result<Self, AllocError>
         ensures copy { IfOk result (λ copy. copy ≡ self.now) }
     {
-        let text = String::from_str(alloc, self.text.as_str())?;
-        Ok(Secret::new(text))
+        let text = self.text.clone_in(alloc)?;
+        Ok(Secret { text })
     }
 }
 

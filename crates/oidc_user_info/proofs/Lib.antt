@@ -1,7 +1,8 @@
 pub mod Theorems
 mod Stays
-mod OwnBack
+mod IssuerAndAudienceBack
 mod ClaimsBack
+mod OneHome
 mod Rows
 mod Runs
 mod Texts

@@ -12,7 +12,7 @@ use Rattle.url.proofs.ValidLemmas.{with_own_tail}
 use Rattle.oidc_pairs.specs.Pairs.{IsTextPair}
 use Rattle.oidc_pairs.specs.Form.{form}
 use Rattle.oidc_pairs.proofs.Theorems.{extend_pairs-on_empty, extend_pairs-after_text}
-use Rattle.oidc_user_info.specs.Urls.{spaced, joined, kept_query, extended}
+use Rattle.oidc_user_info.specs.QueryPairs.{spaced, joined, kept_query, extended}
 
 flat_map-map : {X A : Type 0} → (sep : List A) (f : X → List A) (xs : List X)
     → flat_map (λ x. sep ++ f x) xs ≡ flat_map (λ text. sep ++ text) (map f xs)

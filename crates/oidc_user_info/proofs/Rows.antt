@@ -2,14 +2,15 @@
 use Rattle.std.proofs.Common.{◌≡◌, ◌≢◌, ◌==◌, ℕ, Bool, true, false, List, Option, None, Some, refl, ap, ◌∙◌, inl, inr, arith}
 use Rattle.std.specs.Prelude.{Result, Ok, Err, not, ◌⊎◌, if◌then◌else◌, codes}
 use Rattle.std.specs.Str.{is_utf8}
-use Rattle.http_header.specs.FieldValue.{is_visible_text}
+use Rattle.http_header.specs.FieldValue.{is_visible_text, plain_value}
 use Rattle.oidc_members.specs.declared.refusal.Refusal.{Refusal}
 use Rattle.oidc_keys.specs.declared.refusals.SignatureVerificationError.TheVariants.{AmbiguousKeyId, CryptoError, DisallowedAlg, InvalidKey, NoMatchingKey, NoSignature, UnsupportedAlg, Memory as NoMemory}
 use Rattle.oidc_oauth2.specs.Messages.{SeenRequest, SeenResponse, SeenAnswer}
-use Rattle.oidc_oauth2.specs.HttpUtils.{may_be}
+use Rattle.oidc_oauth2.specs.HttpUtils.{may_be, bearer_of}
 use Rattle.oidc_oauth2.specs.Requests.{is_address}
-use Rattle.oidc_oauth2.specs.Transport.{first_of}
-use Rattle.oidc_oauth2.specs.TokenAnswers.{◌>>=◌, ◌>>◌, ◌when◌, ◌or_as◌, is_over_long}
+use Rattle.oidc_oauth2.specs.Transport.{first_answer}
+use Rattle.oidc_oauth2.specs.Replies.{◌>>=◌, ◌>>◌, ◌when◌, ◌for◌, ◌or_as◌}
+use Rattle.oidc_oauth2.specs.TokenAnswers.{is_over_long}
 use Rattle.oidc_jwt.specs.Tokens.{SeenToken}
 use Rattle.oidc_tokens.specs.UserInfoVerification.{is_expected_subject}
 use Rattle.oidc_tokens.specs.declared.verification.refusals.ClaimsVerificationError.{ClaimsVerificationError}
@@ -17,11 +18,12 @@ use Rattle.oidc_tokens.specs.declared.verification.refusals.ClaimsVerificationEr
 use Rattle.oidc_tokens.proofs.Theorems.{about, about_back, about_another, info_accepts, info_accepted, info_failure_cause, info_never_memory, info_never_memory_inside}
 use Rattle.oidc_user_info.specs.UserInfoClaims.{SeenUserInfoClaims, parties_of}
 use Rattle.oidc_user_info.specs.InfoErrors.{InfoRefusal, Meant}
-use Rattle.oidc_user_info.specs.InfoAnswers.{◌for◌, Readers, claims_in, token_in, failure_of, accepted_claims, from_json, of_object, of_token, by_media_type, info_answer}
-use Rattle.oidc_user_info.specs.InfoRequests.{SeenInfoRequest, info_request}
+use Rattle.oidc_user_info.specs.InfoAnswers.{Readers, claims_in, token_in, failure_of, accepted_claims, from_json, of_object, of_token, by_media_type, info_answer}
+use Rattle.oidc_user_info.specs.InfoRequests.{SeenInfoRequest, get_with, info_request}
 use Rattle.oidc_user_info.specs.InfoCauses.{IsAsked, HasNoAddress, Came, Fits, Succeeds, HoldsObject, HoldsToken, AllowsObject, HoldsText, HasOtherStatus, HasOtherType, HoldsNoText, IsTooLong, ReadsObject, ReadsToken, IsUserInfo, ObjectIsRefused, TokenIsRefused, ObjectFails, TokenFails, Cause}
-use Rattle.oidc_user_info.specs.InfoRuns.{reply_of, reply_to, reply}
+use Rattle.oidc_user_info.specs.InfoRuns.{reply_of, run_of, reply}
 use Rattle.oidc_user_info.specs.declared.errors.InfoOther.TheVariants as other
+use Rattle.oidc_user_info.specs.declared.errors.PrepareInfoError.{PrepareInfoError}
 use Rattle.oidc_user_info.specs.declared.errors.PrepareInfoError.TheVariants.{Bearer, Uri}
 use Rattle.oidc_user_info.specs.declared.errors.ResponseCause.TheVariants.{Status, MediaType}
 use Rattle.oidc_user_info.specs.declared.errors.UserInfoError.TheVariants.{ClaimsVerification, Parse, Request, Response, Other, TooLong, Memory}
@@ -174,15 +176,15 @@ module _ {AC GC JE Key Use Algorithm Type' : Type 0} (r : Readers AC GC JE Key U
       unfolding info_answer
       response_rests came = size_rests came (is_over_long response.body) refl
 
-    answer_rests : IsAsked ask → (answer : SeenAnswer) → first_of answers ≡ answer → Rests (reply_of r ask.demand answer)
+    answer_rests : IsAsked ask → (answer : SeenAnswer) → first_answer answers ≡ answer → Rests (reply_of r ask.demand answer)
     answer_rests asked None is = record { asked = asked; no_response = is }
     answer_rests asked (Some response) is = response_rests response (record { asked = asked; response_came = is })
 
     asked_rests : (visible fits : Bool) → is_visible_text ask.access_token ≡ visible → is_address ask.address ≡ fits → (request : SeenRequest)
-        → Rests (reply_to r ask.demand ((Bearer when not visible) >> ((Uri when not fits) >> Ok request)) answers)
+        → Rests (run_of r ask.demand ((Bearer when not visible) >> ((Uri when not fits) >> Ok request)) answers).reply
     asked_rests false fits v f request = v
     asked_rests true false v f request = record { token_fits = v; no_address = f }
-    asked_rests true true v f request = answer_rests (record { token_fits = v; address_fits = f }) (first_of answers) refl
+    asked_rests true true v f request = answer_rests (record { token_fits = v; address_fits = f }) (first_answer answers) refl
 
     -- every reply of the table rests on its cause
     pub rests : Rests (reply r ask answers)
@@ -194,9 +196,18 @@ module _ {AC GC JE Key Use Algorithm Type' : Type 0} (r : Readers AC GC JE Key U
   abbrev Replies : Meant Claims → Type 0
   Replies meant = reply r ask answers ≡ meant
 
-  asked_reply : IsAsked ask → Replies (reply_of r ask.demand (first_of answers))
+  -- by what is known of the token and the address
+  made_by : (visible fits : Bool) → is_visible_text ask.access_token ≡ visible → is_address ask.address ≡ fits
+      → info_request ask ≡ ((Bearer when not visible) >> ((Uri when not fits) >> Ok (get_with ask.address ask.response_type (plain_value (bearer_of ask.access_token)))))
   unfolding info_request
-  asked_reply asked = rw (asked.token_fits, asked.address_fits) refl
+  made_by visible fits v f =
+      λ i. (Bearer when not (v i)) >> ((Uri when not (f i)) >> Ok (get_with ask.address ask.response_type (plain_value (bearer_of ask.access_token))))
+
+  abbrev reply_where : Result SeenRequest PrepareInfoError → Meant Claims
+  reply_where made = (run_of r ask.demand made answers).reply
+
+  asked_reply : IsAsked ask → Replies (reply_of r ask.demand (first_answer answers))
+  asked_reply asked = ap reply_where (made_by true true asked.token_fits asked.address_fits)
 
   came_reply : (response : SeenResponse) → Came ask answers response → Replies (info_answer r ask.demand response)
   came_reply response came = asked_reply came.asked ∙ ap (reply_of r ask.demand) came.response_came
@@ -277,12 +288,10 @@ module _ {AC GC JE Key Use Algorithm Type' : Type 0} (r : Readers AC GC JE Key U
   token_refused_reply refusal is = text_reply is.body is.holds ∙ rw is.refused refl
 
   bearer_reply : is_visible_text ask.access_token ≡ false → Replies (Err (Other other.Bearer))
-  unfolding info_request
-  bearer_reply is = rw is refl
+  bearer_reply is = ap reply_where (made_by false (is_address ask.address) is refl)
 
   uri_reply : HasNoAddress ask → Replies (Err (Other other.Uri))
-  unfolding info_request
-  uri_reply is = rw (is.token_fits, is.no_address) refl
+  uri_reply is = ap reply_where (made_by true false is.token_fits is.no_address)
 
   long_reply : (body : List ℕ) → IsTooLong ask answers body → Replies (Err (TooLong body))
   unfolding info_answer

@@ -5,7 +5,8 @@ use Rattle.std.specs.Str.{is_utf8, IsUtf8}
 use Rattle.std.proofs.lemmas.Str.{IsUtf8-from_is_utf8, is_utf8-from_IsUtf8}
 use Rattle.oidc_tokens.specs.UserInfoVerification.{SeenUserInfoVerifier}
 use Rattle.oidc_user_info.specs.UserInfoClaims.{SeenUserInfoClaims}
-use Rattle.oidc_user_info.specs.InfoErrors.{Gives}
+use Rattle.oidc_oauth2.specs.Replies.{Gives}
+use Rattle.oidc_user_info.specs.InfoErrors.{info_errors}
 use Rattle.oidc_user_info.specs.InfoAnswers.{Readers, of_text, of_token}
 use Rattle.oidc_user_info.specs.declared.errors.InfoOther.TheVariants.{Utf8}
 use Rattle.oidc_user_info.specs.declared.errors.UserInfoError.{UserInfoError}
@@ -25,6 +26,6 @@ module _ {AC GC JE Key Use Algorithm Type' : Type 0} (r : Readers AC GC JE Key U
   text_row h = rw (is_utf8-from_IsUtf8 body h) refl
 
   -- what a text is worth is what the body is, whose text it is
-  pub text_gives : {RE : Type 0} (text slice : List ℕ) → text ≡ slice → slice ≡ body → IsUtf8 slice → (result : Result (SeenUserInfoClaims AC GC) (UserInfoError RE)) → Gives result (of_text r v text) → Gives result (of_token r v body)
+  pub text_gives : {RE : Type 0} (text slice : List ℕ) → text ≡ slice → slice ≡ body → IsUtf8 slice → (result : Result (SeenUserInfoClaims AC GC) (UserInfoError RE)) → Gives info_errors result (of_text r v text) → Gives info_errors result (of_token r v body)
   text_gives text slice is same utf8 result gives =
-      subst (λ meant. Gives result meant) (ap (of_text r v) (is ∙ same) ∙ sym (text_row (subst IsUtf8 same utf8))) gives
+      subst (λ meant. Gives info_errors result meant) (ap (of_text r v) (is ∙ same) ∙ sym (text_row (subst IsUtf8 same utf8))) gives

@@ -1,20 +1,20 @@
 -- A response is never worth a fault of the transport.
-use Rattle.std.proofs.Common.{◌==◌, ℕ, List, Bool, true, false, cond, Option, None, Some, Result, Ok, Err, subst}
-use Rattle.std.specs.Prelude.{not, codes}
+use Rattle.std.proofs.Common.{◌≡◌, ◌==◌, ℕ, List, Bool, true, false, cond, Option, None, Some, Result, Ok, Err, refl, subst}
+use Rattle.std.specs.Prelude.{not, codes, IfErr}
 use Rattle.std.specs.Str.{is_utf8}
 use Rattle.oidc_members.specs.declared.refusal.Refusal.{Refusal}
 use Rattle.oidc_keys.specs.declared.refusals.SignatureVerificationError.TheVariants.{NoSignature}
 use Rattle.oidc_oauth2.specs.HttpUtils.{may_be}
 use Rattle.oidc_oauth2.specs.Messages.{SeenResponse}
-use Rattle.oidc_oauth2.specs.TokenAnswers.{◌>>=◌, ◌>>◌, ◌when◌, ◌or_as◌, is_over_long}
+use Rattle.oidc_oauth2.specs.Replies.{◌>>=◌, ◌>>◌, ◌when◌, ◌for◌, ◌or_as◌, Gives}
+use Rattle.oidc_oauth2.specs.TokenAnswers.{is_over_long}
 use Rattle.oidc_jwt.specs.Tokens.{SeenToken}
 use Rattle.oidc_tokens.specs.UserInfoVerification.{is_expected_subject}
 use Rattle.oidc_tokens.specs.declared.verification.refusals.ClaimsVerificationError.{ClaimsVerificationError}
 use Rattle.oidc_tokens.specs.declared.verification.refusals.ClaimsVerificationError.TheVariants as claims
 use Rattle.oidc_user_info.specs.UserInfoClaims.{SeenUserInfoClaims}
-use Rattle.oidc_user_info.specs.InfoErrors.{InfoRefusal, Meant, Gives}
-use Rattle.oidc_user_info.specs.InfoAnswers.{◌for◌, Readers, Demand, claims_in, token_in, failure_of, accepted_claims, from_json, of_object, of_token, by_media_type, info_answer}
-use Rattle.oidc_user_info.specs.InfoRuns.{IsRequestBlamed}
+use Rattle.oidc_user_info.specs.InfoErrors.{InfoRefusal, Meant, is_fault, info_errors}
+use Rattle.oidc_user_info.specs.InfoAnswers.{Readers, Demand, claims_in, token_in, failure_of, accepted_claims, from_json, of_object, of_token, by_media_type, info_answer}
 use Rattle.oidc_user_info.specs.declared.errors.InfoOther.TheVariants as other
 use Rattle.oidc_user_info.specs.declared.errors.ResponseCause.TheVariants.{Status, MediaType}
 use Rattle.oidc_user_info.specs.declared.errors.UserInfoError.{UserInfoError}
@@ -75,13 +75,13 @@ module _ {AC GC JE Key Use Algorithm Type' : Type 0} (r : Readers AC GC JE Key U
         after_when (TooLong response.body) (is_over_long response.body) _ tt
         (after_when (Response response.status response.body Status) (not (response.status == 200)) (by_media_type r demand response) tt media_judged)
 
-    -- a result that is what a response is worth blames no fault on the transport
-    pub unblamed : {RE : Type 0} (before now : ℕ) (result : Result Claims (UserInfoError RE)) → Gives result (info_answer r demand response) → IsRequestBlamed before now result
-    unblamed before now (Ok found) gives = tt
-    unblamed before now (Err (ClaimsVerification kind)) gives = tt
-    unblamed before now (Err (Parse refusal)) gives = tt
-    unblamed before now (Err (Request e)) gives = absurd (subst IsJudged gives judged)
-    unblamed before now (Err (Response status body cause)) gives = tt
-    unblamed before now (Err (Other cause)) gives = tt
-    unblamed before now (Err (TooLong body)) gives = tt
-    unblamed before now (Err Memory) gives = tt
+    -- a result that is what a response is worth is no fault of the transport
+    pub unblamed : {RE : Type 0} (result : Result Claims (UserInfoError RE)) → Gives info_errors result (info_answer r demand response) → IfErr result (λ e. is_fault e ≡ false)
+    unblamed (Ok found) gives = tt
+    unblamed (Err (ClaimsVerification kind)) gives = refl
+    unblamed (Err (Parse refusal)) gives = refl
+    unblamed (Err (Request e)) gives = absurd (subst IsJudged gives judged)
+    unblamed (Err (Response status body cause)) gives = refl
+    unblamed (Err (Other cause)) gives = refl
+    unblamed (Err (TooLong body)) gives = refl
+    unblamed (Err Memory) gives = refl

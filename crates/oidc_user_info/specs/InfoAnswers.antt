@@ -1,29 +1,24 @@
 -- What a user info answer is worth, row by row, in the order of the rows (OpenID Connect Core 1.0 sections 5.3.2
 -- to 5.3.4).
-use Rattle.std.specs.Prelude.{ℕ, List, ◌==◌, Bool, not, Option, None, Some, Result, Ok, Err, if◌then◌else◌, codes}
+use Rattle.std.specs.Prelude.{ℕ, List, ◌==◌, Bool, not, Option, Result, Ok, Err, if◌then◌else◌, codes}
 use Rattle.std.specs.Str.{is_utf8}
 use Rattle.oidc_members.specs.Seen.{SeenMember}
 use Rattle.oidc_members.specs.declared.refusal.Refusal.{Refusal}
 use Rattle.oidc_keys.specs.declared.refusals.SignatureVerificationError.TheVariants.{NoSignature}
 use Rattle.oidc_oauth2.specs.Messages.{SeenResponse}
 use Rattle.oidc_oauth2.specs.HttpUtils.{may_be}
-use Rattle.oidc_oauth2.specs.TokenAnswers.{◌>>=◌, ◌>>◌, ◌when◌, ◌or_as◌, is_over_long, record_in}
+use Rattle.oidc_oauth2.specs.Replies.{◌>>=◌, ◌>>◌, ◌when◌, ◌for◌, ◌or_as◌}
+use Rattle.oidc_oauth2.specs.TokenAnswers.{is_over_long, record_in}
 use Rattle.oidc_jwt.specs.Tokens.{SeenToken, token_of}
 use Rattle.oidc_tokens.specs.Signatures.{KeyMeanings}
 use Rattle.oidc_tokens.specs.UserInfoVerification.{SeenUserInfoVerifier, is_expected_subject, first_info_failure}
 use Rattle.oidc_tokens.specs.declared.verification.refusals.ClaimsVerificationError.{ClaimsVerificationError}
 use Rattle.oidc_tokens.specs.declared.verification.refusals.ClaimsVerificationError.TheVariants.{SignatureVerification, InvalidSubject}
 use Rattle.oidc_user_info.specs.UserInfoClaims.{SeenUserInfoClaims, user_info_claims_of, parties_of}
-use Rattle.oidc_user_info.specs.InfoErrors.{InfoRefusal, Meant}
+use Rattle.oidc_user_info.specs.InfoErrors.{Meant}
 use Rattle.oidc_user_info.specs.declared.errors.InfoOther.TheVariants.{Utf8}
 use Rattle.oidc_user_info.specs.declared.errors.ResponseCause.TheVariants.{Status, MediaType}
 use Rattle.oidc_user_info.specs.declared.errors.UserInfoError.TheVariants.{ClaimsVerification, Parse, Response, Other, TooLong}
-
--- the refusal for what was found, where something was
-infixl 12 ◌for◌
-abbrev pub ◌for◌ : {F : Type 0} → (F → InfoRefusal) → Option F → Meant (Unit {0})
-row for None = Ok tt
-row for (Some x) = Err (row x)
 
 -- what is asked of an answer: whether it has to be signed, and by whom, for whom and about whom it has to be
 pub record Demand (Key : Type 0) : Type 0 where
@@ -35,16 +30,21 @@ pub record Demand (Key : Type 0) : Type 0 where
 pub record Readers (AC GC JE Key Use Algorithm Type' : Type 0) : Type 1 where
   pub additional : List SeenMember → Result AC Refusal
   pub gender : SeenMember → Result GC Refusal
-  pub encrypts : List ℕ → Option JE
-  pub signs : List ℕ → Option Algorithm
+  pub encryption_named : List ℕ → Option JE
+  pub signing_named : List ℕ → Option Algorithm
   pub keys : KeyMeanings Key Use Algorithm Type'
 
 abbrev pub readers : {AC GC JE Key Use Algorithm Type' : Type 0}
     → (List SeenMember → Result AC Refusal) → (SeenMember → Result GC Refusal)
     → (List ℕ → Option JE) → (List ℕ → Option Algorithm) → KeyMeanings Key Use Algorithm Type'
     → Readers AC GC JE Key Use Algorithm Type'
-readers additional gender encrypts signs keys =
-    record { additional = additional; gender = gender; encrypts = encrypts; signs = signs; keys = keys }
+readers additional gender encryption signing keys = record {
+  additional = additional;
+  gender = gender;
+  encryption_named = encryption;
+  signing_named = signing;
+  keys = keys;
+}
 
 -- the claims that a body holds as an object
 abbrev pub claims_in : {AC GC : Type 0} → (List SeenMember → Result AC Refusal)
@@ -71,7 +71,7 @@ of_object additional gender demand body = do
 module _ {AC GC JE Key Use Algorithm Type' : Type 0} (r : Readers AC GC JE Key Use Algorithm Type') where
   -- the token that a text is
   abbrev pub token_in : List ℕ → Result (SeenToken JE Algorithm (SeenUserInfoClaims AC GC)) Refusal
-  token_in text = token_of r.encrypts r.signs (user_info_claims_of r.additional r.gender) text
+  token_in text = token_of r.encryption_named r.signing_named (user_info_claims_of r.additional r.gender) text
 
   -- the first check of a token that fails
   abbrev pub failure_of : SeenUserInfoVerifier Key → SeenToken JE Algorithm (SeenUserInfoClaims AC GC)

@@ -7,11 +7,11 @@ use Rattle.oidc_keys.specs.declared.refusals.SignatureVerificationError.TheVaria
 use Rattle.oidc_oauth2.specs.Messages.{SeenResponse, SeenAnswer}
 use Rattle.oidc_oauth2.specs.HttpUtils.{may_be}
 use Rattle.oidc_oauth2.specs.Requests.{is_address}
-use Rattle.oidc_oauth2.specs.Transport.{first_of}
+use Rattle.oidc_oauth2.specs.Transport.{first_answer}
 use Rattle.oidc_oauth2.specs.TokenAnswers.{is_over_long}
 use Rattle.oidc_jwt.specs.Tokens.{SeenToken}
 use Rattle.oidc_tokens.specs.UserInfoVerification.{AcceptsInfo}
-use Rattle.oidc_tokens.specs.UserInfoCauses.{InfoCause}
+use Rattle.oidc_tokens.specs.UserInfoCauses.{InfoTokenCause}
 use Rattle.oidc_tokens.specs.declared.verification.refusals.ClaimsVerificationError.{ClaimsVerificationError}
 use Rattle.oidc_tokens.specs.declared.verification.refusals.ClaimsVerificationError.TheVariants as claims
 use Rattle.oidc_user_info.specs.UserInfoClaims.{SeenUserInfoClaims, parties_of}
@@ -36,14 +36,14 @@ module _ {Key : Type 0} (ask : SeenInfoRequest Key) where
 
   module _ (answers : List SeenAnswer) where
     -- the transport failed
-    pub record HasNoResponse : Type 0 where
+    pub record IsUnanswered : Type 0 where
       pub asked : IsAsked
-      pub no_response : first_of answers ≡ None
+      pub no_response : first_answer answers ≡ None
 
     -- this response came
     pub record Came (response : SeenResponse) : Type 0 where
       pub asked : IsAsked
-      pub response_came : first_of answers ≡ Some response
+      pub response_came : first_answer answers ≡ Some response
 
     -- its body is not too long
     pub record Fits (response : SeenResponse) : Type 0 where
@@ -181,7 +181,7 @@ module _ {Key : Type 0} (ask : SeenInfoRequest Key) where
         pub token : InfoToken
         pub reads : ReadsToken token
         pub check_failed : failure_of r ask.demand.verifier token ≡ Some kind
-        pub cause : InfoCause r.keys ask.demand.verifier token (parties_of token.payload) kind
+        pub cause : InfoTokenCause r.keys ask.demand.verifier token (parties_of token.payload) kind
 
       -- ---- the cause of each refusal; want of memory is never one inside another
 
@@ -190,7 +190,7 @@ module _ {Key : Type 0} (ask : SeenInfoRequest Key) where
       Cause (ClaimsVerification (claims.SignatureVerification NoMemory)) = ⊥
       Cause (ClaimsVerification kind) = ObjectFails kind ⊎ TokenFails kind
       Cause (Parse refusal) = ObjectIsRefused refusal ⊎ TokenIsRefused refusal
-      Cause (Request u) = HasNoResponse
+      Cause (Request u) = IsUnanswered
       Cause (Response status body Status) = HasOtherStatus status body
       Cause (Response status body MediaType) = HasOtherType status body
       Cause (Other other.Bearer) = is_visible_text ask.access_token ≡ false

@@ -6,7 +6,7 @@ use Rattle.http_header.specs.FieldValue.{FieldValue, plain_value, is_visible_tex
 use Rattle.oidc_oauth2.specs.Messages.{SeenRequest}
 use Rattle.oidc_oauth2.specs.HttpUtils.{bearer_of}
 use Rattle.oidc_oauth2.specs.Requests.{is_address, header}
-use Rattle.oidc_oauth2.specs.TokenAnswers.{◌>>◌, ◌when◌}
+use Rattle.oidc_oauth2.specs.Replies.{◌>>◌, ◌when◌}
 use Rattle.oidc_user_info.specs.InfoAnswers.{Demand}
 use Rattle.oidc_user_info.specs.declared.errors.PrepareInfoError.{PrepareInfoError}
 use Rattle.oidc_user_info.specs.declared.errors.PrepareInfoError.TheVariants.{Bearer, Uri, Memory}

@@ -7,13 +7,12 @@ use Rattle.oidc_members.specs.declared.refusal.Refusal.{Refusal}
 use Rattle.oidc_readers.specs.Kinds.{url_kind, text_or_texts_kind, or_null}
 use Rattle.oidc_readers.specs.Fields.{Field, field, judged}
 use Rattle.oidc_readers.specs.Records.{◌>>=◌, Rule, by_table, either_rule, faultless, optional}
-use Rattle.oidc_readers.specs.Writing.{text_member}
+use Rattle.oidc_readers.specs.Writing.{text_member, texts_member}
 use Rattle.oidc_claims.specs.Seen.{SeenClaims}
 use Rattle.oidc_claims.specs.Claims.{fault_at}
 use Rattle.oidc_claims.specs.Standard.{faultless_claims}
 use Rattle.oidc_claims.specs.Home.{user_info_fields}
 use Rattle.oidc_claims.specs.Write.{written}
-use Rattle.oidc_id_token_claims.specs.OwnClaims.{texts_member}
 use Rattle.oidc_id_token_claims.specs.IdTokenClaims.{additional_among}
 use Rattle.oidc_tokens.specs.UserInfoVerification.{Parties, parties}
 
@@ -35,12 +34,12 @@ iss = field (codes "iss") (or_null url_kind)
 abbrev pub aud : Field (Option (List (List ℕ)))
 aud = field (codes "aud") (or_null text_or_texts_kind)
 
-abbrev pub own_rule : Rule
-own_rule = by_table (judged iss ∷ judged aud ∷ [])
+abbrev pub issuer_and_audience_rule : Rule
+issuer_and_audience_rule = by_table (judged iss ∷ judged aud ∷ [])
 
 -- why a member is faulty, after all those before it: by its own field's row, or as a standard claim
 abbrev pub user_info_rule : {GC : Type 0} → (SeenMember → Result GC Refusal) → Rule
-user_info_rule gender_read = either_rule own_rule (fault_at gender_read)
+user_info_rule gender_read = either_rule issuer_and_audience_rule (fault_at gender_read)
 
 -- ---- as they are read
 
@@ -68,14 +67,14 @@ module _ {AC GC : Type 0} (additional_read : List SeenMember → Result AC Refus
 -- ---- as members
 
 -- absent fields left out; `aud` is always an array
-abbrev pub own_members : Option TextAndUrl → Option (List (List ℕ)) → List OutSeen
-own_members issuer audiences =
+abbrev pub issuer_and_audience_members : Option TextAndUrl → Option (List (List ℕ)) → List OutSeen
+issuer_and_audience_members issuer audiences =
     text_member iss.name (option_map (λ i. i.text) issuer) ++ texts_member aud.name audiences
 
 -- the fields, the standard claims, then the additional claims
 abbrev pub user_info_members : {AC GC : Type 0} → (AC → List OutSeen) → (GC → Data)
     → SeenUserInfoClaims AC GC → List OutSeen
 user_info_members additional_out gender_data c =
-    own_members c.issuer c.audiences
+    issuer_and_audience_members c.issuer c.audiences
     ++ written gender_data c.standard_claims
     ++ additional_out c.additional_claims

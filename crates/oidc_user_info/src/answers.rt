@@ -5,10 +5,11 @@ ghost use Rattle.std.specs.Option.{option_copied};
 ghost use Rattle.oidc_members.specs.Answers.{Answers};
 ghost use Rattle.oidc_oauth2.specs.HttpUtils.{may_be as may_be_of};
 ghost use Rattle.oidc_oauth2.specs.Messages.{seen_response};
+ghost use Rattle.oidc_oauth2.specs.Replies.{Gives};
 ghost use Rattle.oidc_tokens.specs.Signatures.{meanings};
 ghost use Rattle.oidc_user_info.specs.InfoAnswers as spec;
 ghost use Rattle.oidc_user_info.specs.InfoAnswers.{readers};
-ghost use Rattle.oidc_user_info.specs.InfoErrors.{Gives};
+ghost use Rattle.oidc_user_info.specs.InfoErrors.{info_errors};
 
 use crate::claims::UserInfoClaims;
 use crate::errors::{InfoOther, ResponseCause, UserInfoError};
@@ -17,9 +18,9 @@ use crate::token::UserInfoJsonWebToken;
 use oidc_claims::{AdditionalClaims, GenderClaim};
 use oidc_keys::{JsonWebKey, SignatureVerificationError};
 use oidc_members::{Members, ParseError};
-use oidc_oauth2::{Body, HttpResponse, MAX_BODY, check_content_type};
+use oidc_oauth2::{HttpResponse, MAX_BODY, MIME_TYPE_JSON, MIME_TYPE_JWT, check_content_type};
 use oidc_tokens::{ClaimsVerificationError, Payload, UserInfoVerifier, is_expected_subject};
-use oidc_types::{JweContentEncryptionAlgorithm, SubjectIdentifier};
+use oidc_types::{Body, JweContentEncryptionAlgorithm, SubjectIdentifier};
 use std::alloc::Global;
 
 // The claims that an object's text holds.
@@ -43,7 +44,7 @@ impl<AC: AdditionalClaims, GC: GenderClaim> UserInfoClaims<AC, GC> {
         expected_subject: Option<&SubjectIdentifier>,
     ) -> Result<Self, UserInfoError<RE>>
         ensures answer { let expected = option_copied expected_subject.entry in
-            Gives result (spec.from_json AC.read_of GC.read_of expected json.now) }
+            Gives info_errors result (spec.from_json AC.read_of GC.read_of expected json.now) }
     {
         match claims_in::<AC, GC>(alloc, json) {
             Err(ParseError::Refused(refusal)) => Err(UserInfoError::Parse(refusal)),
@@ -76,7 +77,7 @@ where
         K.SigningAlgorithm.JwsSigningAlgorithm.own K.SigningAlgorithm.ClosedVocabulary
         K.SigningAlgorithm.KeyType.ClosedVocabulary in
         let r = readers AC.read_of GC.read_of JE.from_str K.SigningAlgorithm.from_str k in
-        Gives result (spec.accepted_claims r verifier.now token) }
+        Gives info_errors result (spec.accepted_claims r verifier.now token) }
 {
     match token.claims(alloc, verifier) {
         Ok(claims) => Ok(claims),
@@ -100,7 +101,7 @@ where
         K.SigningAlgorithm.JwsSigningAlgorithm.own K.SigningAlgorithm.ClosedVocabulary
         K.SigningAlgorithm.KeyType.ClosedVocabulary in
         let r = readers AC.read_of GC.read_of JE.from_str K.SigningAlgorithm.from_str k in
-        Gives result (spec.of_text r verifier.now text.now) }
+        Gives info_errors result (spec.of_text r verifier.now text.now) }
 {
     match UserInfoJsonWebToken::<AC, GC, JE, K::SigningAlgorithm>::read(alloc, text) {
         Err(ParseError::Refused(refusal)) => Err(UserInfoError::Parse(refusal)),
@@ -124,7 +125,7 @@ where
         K.SigningAlgorithm.JwsSigningAlgorithm.own K.SigningAlgorithm.ClosedVocabulary
         K.SigningAlgorithm.KeyType.ClosedVocabulary in
         let r = readers AC.read_of GC.read_of JE.from_str K.SigningAlgorithm.from_str k in
-        Gives result (spec.of_token r verifier.now body.now) }
+        Gives info_errors result (spec.of_token r verifier.now body.now) }
 {
     match str::from_utf8(body.as_slice()) {
         Err(_) => Err(UserInfoError::Other(InfoOther::Utf8)),
@@ -147,7 +148,7 @@ impl<'a, JE: JweContentEncryptionAlgorithm, K: JsonWebKey> UserInfoRequest<'a, J
         alloc: Global,
         body: &Body,
     ) -> Result<UserInfoClaims<AC, GC>, UserInfoError<RE>>
-        ensures { Gives result (spec.of_object AC.read_of GC.read_of self.now.demand body.now) }
+        ensures { Gives info_errors result (spec.of_object AC.read_of GC.read_of self.now.demand body.now) }
     {
         if self.is_signature_required() {
             let refusal = SignatureVerificationError::NoSignature;
@@ -175,11 +176,11 @@ impl<'a, JE: JweContentEncryptionAlgorithm, K: JsonWebKey> UserInfoRequest<'a, J
             K.SigningAlgorithm.JwsSigningAlgorithm.own K.SigningAlgorithm.ClosedVocabulary
             K.SigningAlgorithm.KeyType.ClosedVocabulary in
             let r = readers AC.read_of GC.read_of JE.from_str K.SigningAlgorithm.from_str k in
-            Gives result (spec.info_answer r self.now.demand (seen_response response)) }
+            Gives info_errors result (spec.info_answer r self.now.demand (seen_response response)) }
     {
         let status = response.status();
-        let is_json = may_be(&response, "application/json");
-        let is_token = may_be(&response, "application/jwt");
+        let is_json = may_be(&response, MIME_TYPE_JSON);
+        let is_token = may_be(&response, MIME_TYPE_JWT);
         let body = response.into_body();
         if body.as_slice().len() > MAX_BODY {
             return Err(UserInfoError::TooLong(body));

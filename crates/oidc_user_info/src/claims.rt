@@ -10,20 +10,19 @@ ghost use Rattle.oidc_claims.specs.Home.{user_info_fields};
 ghost use Rattle.oidc_claims.specs.Reader.{reader_of};
 ghost use Rattle.oidc_id_token_claims.specs.IdTokenClaims.{additional_among};
 ghost use Rattle.oidc_user_info.specs.UserInfoClaims as spec;
-ghost use Rattle.oidc_user_info.specs.UserInfoFields.{own_fields};
-ghost use Rattle.oidc_user_info.specs.RoundTrip.{IsInRange, GivesClaims};
+ghost use Rattle.oidc_user_info.specs.IssuerAndAudience.{issuer_and_audience};
+ghost use Rattle.oidc_user_info.specs.RoundTrip.{IsInfoInRange, GivesInfoClaims};
 
-mod own;
+mod issuer_and_audience;
 mod standard;
 
-use crate::claims::own::OwnFields;
+use crate::claims::issuer_and_audience::IssuerAndAudience;
 use oidc_claims::{
     AdditionalClaims, ClaimsReader, GenderClaim, StandardClaims, USER_INFO_FIELDS, write_standard,
 };
 use oidc_members::{Member, Members, OutMember, ParseError};
-use oidc_readers::{Both, read_fields};
-use oidc_tokens::members::{additional_copies, push_text, push_texts};
-use oidc_tokens::{AudiencesClaim, IssuerClaim, Payload};
+use oidc_readers::{Both, put_optional_text, put_texts, read_fields};
+use oidc_tokens::{AudiencesClaim, IssuerClaim, Payload, additional_copies};
 use oidc_types::{Audience, IssuerUrl};
 use std::alloc::{AllocError, Global};
 use std::marker::Model;
@@ -186,11 +185,11 @@ impl<AC: AdditionalClaims, GC: GenderClaim> UserInfoClaims<AC, GC> {
     #[tactic(auto, unfolding(crate::specs::UserInfoClaims::parts_in, oidc_readers::specs::Slots::slot))]
     fn finish(
         alloc: Global,
-        own: OwnFields,
+        own: IssuerAndAudience,
         standard: ClaimsReader<GC>,
         members: &Members,
     ) -> Result<Self, ParseError>
-        requires own { own ≡ own_fields members.now }
+        requires own { own ≡ issuer_and_audience members.now }
         requires standard { standard ≡ reader_of GC.read_of members.now }
         ensures { Answers (spec.parts_in AC.read_of GC.read_of members.now) result }
     {
@@ -223,18 +222,18 @@ impl<AC: AdditionalClaims, GC: GenderClaim> UserInfoClaims<AC, GC> {
 }
 
 // The fields that are no claims, as members, absent ones left out.
-fn own_members(
+fn issuer_and_audience_members(
     alloc: Global,
     issuer: Option<&IssuerUrl>,
     audiences: Option<&[Audience]>,
 ) -> Result<Vec<OutMember>, AllocError>
-    ensures members { let members = spec.own_members (option_copied issuer.entry)
+    ensures members { let members = spec.issuer_and_audience_members (option_copied issuer.entry)
         (option_copied audiences.entry) in IfOk result (λ out. out.items ≡ members) }
     ensures texts { IfOk result (λ out. All IsUtf8Member out.items) }
 {
     let mut out = Vec::new(alloc);
-    push_text(alloc, &mut out, "iss", text_of(issuer))?;
-    push_texts(alloc, &mut out, "aud", audiences)?;
+    put_optional_text(alloc, &mut out, "iss", text_of(issuer))?;
+    put_texts(alloc, &mut out, "aud", audiences)?;
     Ok(out)
 }
 
@@ -254,7 +253,7 @@ impl<AC: AdditionalClaims, GC: GenderClaim> UserInfoClaims<AC, GC> {
             IfOk result (λ out. out.items ≡ written) }
         ensures texts { IfOk result (λ out. All IsUtf8Member out.items) }
     {
-        let mut out = own_members(alloc, self.issuer(), self.audiences())?;
+        let mut out = issuer_and_audience_members(alloc, self.issuer(), self.audiences())?;
         let mut standard = write_standard(alloc, &self.standard_claims)?;
         out.append(&mut standard)?;
         let mut additional = self.additional_claims.write(alloc)?;
@@ -277,7 +276,7 @@ impl<AC: AdditionalClaims, GC: GenderClaim> Payload for UserInfoClaims<AC, GC> {
     #[tactic(auto, unfolding(crate::specs::UserInfoClaims::user_info_claims_of))]
     fn read(alloc: Global, members: &Members) -> Result<Self, ParseError> {
         let readers = Both {
-            first: OwnFields::new(),
+            first: IssuerAndAudience::new(),
             second: ClaimsReader::<GC>::new(alloc),
         };
         let readers = read_fields(alloc, readers, members)?;
@@ -296,8 +295,8 @@ impl<AC: AdditionalClaims, GC: GenderClaim> Payload for UserInfoClaims<AC, GC> {
         ensures texts { IfOk result (λ out. All IsUtf8Member out.items) }
         ensures no_float { any_float (AC.write_of self.now.additional_claims) ≡ false
             → IfOk result (λ out. any_float out.items ≡ false) }
-        ensures reads_back { IsInRange AC.write_of self.now
-            → IfOk result (λ out. GivesClaims AC.read_of GC.read_of out.items self.now) }
+        ensures reads_back { IsInfoInRange AC.write_of self.now
+            → IfOk result (λ out. GivesInfoClaims AC.read_of GC.read_of out.items self.now) }
     {
         let out = self.as_members(alloc)?;
         Ok(out)

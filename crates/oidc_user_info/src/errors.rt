@@ -2,8 +2,8 @@
 
 use http::StatusCode;
 use oidc_members::Refusal;
-use oidc_oauth2::Body;
 use oidc_tokens::ClaimsVerificationError;
+use oidc_types::Body;
 use std::alloc::AllocError;
 use thiserror::Error;
 
@@ -21,11 +21,10 @@ pub enum ResponseCause {
 /// Other causes for which there is no user info.
 #[derive(Clone, Copy, Debug, Error, PartialEq, Eq)]
 pub enum InfoOther {
-    /// The access token has bytes that are neither visible ASCII nor spaces or tabs. Nothing was handed
-    /// over.
+    /// The access token has bytes that are neither visible ASCII nor spaces or tabs. There is no request.
     #[error("an access token that may not stand in a header")]
     Bearer,
-    /// The endpoint's text is too long, or has other bytes than visible ASCII. Nothing was handed over.
+    /// The endpoint's text is too long, or has other bytes than visible ASCII. There is no request.
     #[error("an address that is not sent to")]
     Uri,
     /// The body of a token isn't UTF-8.
@@ -57,6 +56,17 @@ pub enum UserInfoError<RE> {
     /// There was no memory.
     #[error("out of memory")]
     Memory,
+}
+
+impl<RE> From<AllocError> for UserInfoError<RE> {
+    ghost use Rattle.std.specs.Prelude.{◌≡◌};
+    ghost use Rattle.oidc_user_info.specs.declared.errors.UserInfoError.TheVariants.{Memory};
+
+    ghost from_gives = { λ _ error. error ≡ Memory };
+
+    fn from(_refused: AllocError) -> UserInfoError<RE> {
+        UserInfoError::Memory
+    }
 }
 
 /// Why a request for user info isn't made.

@@ -10,12 +10,13 @@
 //!   [`UserInfoError`] is why there are no claims.
 //! - [`QueryPairs`] are pairs that stand after the query of a URL to which a site sends its users.
 //!   [`BuildUrlError`] is why there is no such URL.
+//! - [`laws`] says what holds of claims as a whole.
 //! - [`AdditionalProviderMetadata`] is what a provider may say of itself beside its own metadata.
 //!
 //! What it promises. Claims are read as `user_info_claims_of` says, each member judged against all that stand
-//! before it; what is written in range is read back. A request hands over exactly the one
-//! request of its definition, a GET of the endpoint's text as it was given, or nothing; its answer is that of
-//! the table `info_answer` for the response that came, and each refusal has its cause. The subject of the ID
+//! before it; what is written in range is read back. A request is the one of its definition, a GET of the
+//! endpoint's text as it was given, or none; its answer is that of the table `info_answer` for the response that
+//! came, and each refusal has its cause. That nothing else was handed over shows where a transport keeps a log. The subject of the ID
 //! token that a site expects is compared for both kinds of answers (section 5.3.2). All of this holds for
 //! every lawful type of keys, algorithms, claims and transports. Want of memory is a variant `Memory` of its
 //! own, or the one error of a call that answers an `AllocError`, and no clause says when it comes.
@@ -23,22 +24,23 @@
 //! What holds tokens or claims has no `Debug`; that of an error shows no body.
 #![tactic(auto)]
 
-pub mod answers;
-pub mod claims;
-pub mod core_user_info;
-pub mod errors;
-pub mod provider_metadata;
-pub mod requests;
-pub mod token;
-pub mod urls;
+mod answers;
+mod claims;
+mod core_user_info;
+mod errors;
+pub mod laws;
+mod provider_metadata;
+mod query_pairs;
+mod requests;
+mod token;
 
 pub use crate::claims::UserInfoClaims;
 pub use crate::core_user_info::{CoreUserInfoClaims, CoreUserInfoJsonWebToken};
 pub use crate::errors::{InfoOther, PrepareInfoError, ResponseCause, UserInfoError};
 pub use crate::provider_metadata::{AdditionalProviderMetadata, EmptyAdditionalProviderMetadata};
-pub use crate::requests::{UserInfoRequest, UserInfoResponseType};
-pub use crate::token::UserInfoJsonWebToken;
-pub use crate::urls::{
+pub use crate::query_pairs::{
     BuildUrlError, MAX_URL, QueryPairs, spaced_texts, spaced_texts_if, spaced_words,
     spaced_words_if,
 };
+pub use crate::requests::{UserInfoRequest, UserInfoResponseType};
+pub use crate::token::UserInfoJsonWebToken;

@@ -1,14 +1,16 @@
 //! The request for user info (OpenID Connect Core 1.0 section 5.3.1).
 
-ghost use Rattle.std.specs.Prelude.{◌≡◌, ◌≤◌, false, codes, IfOk};
+ghost use Rattle.std.specs.Prelude.{◌≡◌, ◌≤◌, false, true, codes, None, IfErr, IfOk};
 ghost use Rattle.http_header.specs.FieldValue.{FieldValue, plain_value};
-ghost use Rattle.oidc_oauth2.specs.Exchanges.{known};
+ghost use Rattle.oidc_oauth2.specs.Exchanges.{answer_of, known, IsRequestBlamed};
 ghost use Rattle.oidc_oauth2.specs.HttpUtils.{bearer_of};
+ghost use Rattle.oidc_oauth2.specs.Replies.{Gives};
 ghost use Rattle.oidc_tokens.specs.Signatures.{meanings};
 ghost use Rattle.oidc_user_info.specs.InfoAnswers.{readers};
 ghost use Rattle.oidc_user_info.specs.InfoRequests as spec;
 ghost use Rattle.oidc_user_info.specs.InfoRequests.{info_request};
-ghost use Rattle.oidc_user_info.specs.InfoRuns.{Exchanged, Ran, IsRequestBlamed};
+ghost use Rattle.oidc_user_info.specs.InfoErrors.{info_errors, is_fault};
+ghost use Rattle.oidc_user_info.specs.InfoRuns.{reply_of, RanInfoRequest};
 ghost use Rattle.oidc_user_info.specs.declared.requests.UserInfoResponseType.TheVariants.{Json};
 
 use crate::claims::UserInfoClaims;
@@ -18,10 +20,11 @@ use http_header::{ACCEPT, AUTHORIZATION, HeaderMap, HeaderMapError, HeaderValue}
 use oidc_claims::{AdditionalClaims, GenderClaim};
 use oidc_keys::JsonWebKey;
 use oidc_oauth2::{
-    BearerError, Body, CallError, HttpRequest, SyncHttpClient, auth_bearer, is_address,
+    BearerError, HttpRequest, HttpResponse, MIME_TYPE_JSON, MIME_TYPE_JWT, SyncHttpClient,
+    auth_bearer, exchange, is_address,
 };
 use oidc_tokens::UserInfoVerifier;
-use oidc_types::{AccessToken, JweContentEncryptionAlgorithm, UserInfoUrl};
+use oidc_types::{AccessToken, Body, JweContentEncryptionAlgorithm, UserInfoUrl};
 use std::alloc::{AllocError, Global};
 use std::marker::Model;
 
@@ -176,8 +179,8 @@ fn accept_value(kind: UserInfoResponseType) -> HeaderValue
     ensures { result ≡ plain_value (spec.media_type kind) }
 {
     match kind {
-        UserInfoResponseType::Json => HeaderValue::from_static("application/json"),
-        UserInfoResponseType::Jwt => HeaderValue::from_static("application/jwt"),
+        UserInfoResponseType::Json => HeaderValue::from_static(MIME_TYPE_JSON),
+        UserInfoResponseType::Jwt => HeaderValue::from_static(MIME_TYPE_JWT),
     }
 }
 
@@ -216,39 +219,29 @@ fn get(
 }
 
 impl<'a, JE: JweContentEncryptionAlgorithm, K: JsonWebKey> UserInfoRequest<'a, JE, K> {
-    // Hands the request over, and judges the response.
-    fn exchange<AC: AdditionalClaims, GC: GenderClaim, C: SyncHttpClient>(
-        self,
+    // The reply by what came of the request.
+    fn judge_answer<AC: AdditionalClaims, GC: GenderClaim, RE>(
+        &self,
         alloc: Global,
-        http: &mut C,
-    ) -> Result<UserInfoClaims<AC, GC>, UserInfoError<C::Error>>
-        requires { C.ready http.old }
-        ensures again { C.ready http.new }
-        ensures exchanged { let k = meanings K.JsonWebKey K.KeyUse.JsonWebKeyUse
+        came: Result<HttpResponse, RE>,
+    ) -> Result<UserInfoClaims<AC, GC>, UserInfoError<RE>>
+        ensures gives { let k = meanings K.JsonWebKey K.KeyUse.JsonWebKeyUse
             K.SigningAlgorithm.JwsSigningAlgorithm.own K.SigningAlgorithm.ClosedVocabulary
             K.SigningAlgorithm.KeyType.ClosedVocabulary in
             let r = readers AC.read_of GC.read_of JE.from_str K.SigningAlgorithm.from_str k in
-            let before = known (C.log http.old) (C.script http.old) in
-            let after = known (C.log http.new) (C.script http.new) in
-            Exchanged r self.entry before after result }
-        ensures never_falls { C.faults http.old ≤ C.faults http.new }
-        ensures blamed { IsRequestBlamed (C.faults http.old) (C.faults http.new) result }
+            Gives info_errors result (reply_of r self.now.demand (answer_of came)) }
+        ensures fault { IfErr result (λ e. is_fault e ≡ true → answer_of came ≡ None) }
     {
-        match self.prepare(alloc) {
-            Err(PrepareInfoError::Bearer) => Err(UserInfoError::Other(InfoOther::Bearer)),
-            Err(PrepareInfoError::Uri) => Err(UserInfoError::Other(InfoOther::Uri)),
-            Err(PrepareInfoError::Memory) => Err(UserInfoError::Memory),
-            Ok(request) => match http.call(alloc, request) {
-                Err(CallError::Memory) => Err(UserInfoError::Memory),
-                Err(CallError::Transport(error)) => Err(UserInfoError::Request(error)),
-                Ok(response) => self.answer(alloc, response),
-            },
+        match came {
+            Ok(response) => self.answer(alloc, response),
+            Err(error) => Err(UserInfoError::Request(error)),
         }
     }
 
     /// Hands the request of `prepare` over, and answers what the response is worth, as
-    /// [`answer`](UserInfoRequest::answer) says. On `Bearer` and `Uri` nothing is handed over, and `Request`
-    /// comes only where the transport failed.
+    /// [`answer`](UserInfoRequest::answer) says. On `Bearer` and `Uri` there is no request; a transport that keeps
+    /// a log shows that nothing was handed over, and on `Memory` whether something was. `Request` comes only where
+    /// the transport failed.
     pub fn request<AC: AdditionalClaims, GC: GenderClaim, C: SyncHttpClient>(
         self,
         alloc: Global,
@@ -262,10 +255,19 @@ impl<'a, JE: JweContentEncryptionAlgorithm, K: JsonWebKey> UserInfoRequest<'a, J
             let r = readers AC.read_of GC.read_of JE.from_str K.SigningAlgorithm.from_str k in
             let before = known (C.log http.old) (C.script http.old) in
             let after = known (C.log http.new) (C.script http.new) in
-            Ran r self.entry before after result }
+            RanInfoRequest r self.entry before after result }
         ensures never_falls { C.faults http.old ≤ C.faults http.new }
-        ensures blamed { IsRequestBlamed (C.faults http.old) (C.faults http.new) result }
+        ensures blamed { let before = C.faults http.old in
+            IsRequestBlamed info_errors before (C.faults http.new) result }
     {
-        self.exchange(alloc, http)
+        match self.prepare(alloc) {
+            Err(PrepareInfoError::Bearer) => Err(UserInfoError::Other(InfoOther::Bearer)),
+            Err(PrepareInfoError::Uri) => Err(UserInfoError::Other(InfoOther::Uri)),
+            Err(PrepareInfoError::Memory) => Err(UserInfoError::Memory),
+            Ok(request) => {
+                let came = exchange(alloc, http, request)?;
+                self.judge_answer(alloc, came)
+            }
+        }
     }
 }

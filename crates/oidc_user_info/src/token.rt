@@ -10,8 +10,8 @@ ghost use Rattle.oidc_jwt.specs.Issuing.{Issues, IsRefusedBy, IsNamed};
 ghost use Rattle.oidc_tokens.specs.Signatures.{meanings};
 ghost use Rattle.oidc_tokens.specs.Verification.{Judges};
 ghost use Rattle.oidc_tokens.specs.UserInfoVerification.{AcceptsInfo, first_info_failure};
-ghost use Rattle.oidc_tokens.specs.UserInfoCauses.{InfoCause};
-ghost use Rattle.oidc_user_info.specs.RoundTrip.{IsInRange};
+ghost use Rattle.oidc_tokens.specs.UserInfoCauses.{InfoTokenCause};
+ghost use Rattle.oidc_user_info.specs.RoundTrip.{IsInfoInRange};
 ghost use Rattle.oidc_user_info.specs.UserInfoClaims.{user_info_claims_of, user_info_members, parties_of};
 
 use crate::claims::UserInfoClaims;
@@ -103,8 +103,8 @@ impl<
             let header = written_header (JS.as_ref alg) key_id in
             IfErr result (IsRefusedBy header (S.signs key.now alg)) }
 
-        // What is issued is read back.
-        ensures reads_back { IsNamed JS.as_ref JS.from_str alg → IsInRange AC.write_of claims
+        // What is issued is read back, where its algorithm is read back from its own text.
+        ensures reads_back { IsNamed JS.as_ref JS.from_str alg → IsInfoInRange AC.write_of claims
             → IfOk result (λ token. token_of JE.from_str JS.from_str
             (user_info_claims_of AC.read_of GC.read_of) token.text ≡ Ok token) }
     {
@@ -142,7 +142,7 @@ impl<
         ensures claims { IfOk result (λ claims. claims ≡ self.payload) }
         ensures cause { let k = meanings K.JsonWebKey K.KeyUse.JsonWebKeyUse
             JS.JwsSigningAlgorithm.own JS.ClosedVocabulary JS.KeyType.ClosedVocabulary in
-            IfErr result (InfoCause k verifier.now self (parties_of self.payload)) }
+            IfErr result (InfoTokenCause k verifier.now self (parties_of self.payload)) }
     {
         let subject = self.token.unverified_payload().subject();
         match verifier.check(&self.token, subject) {

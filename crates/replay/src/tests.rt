@@ -1,9 +1,9 @@
-//! What no line of text can say of transports, of logins and of the program: a transport of the test's own, an
-//! object that fails at one call, very many of something. Other tests of the crates below stand in `trials` and
-//! `trials_tokens`.
+//! What no line of the programs of cases can say of transports, of logins and of the program: objects that fail at one
+//! call, a transport, a key and a source of the test's own, and very many of something. Other tests of the crates below
+//! stand in `trials` and `trials_tokens`.
 
-mod cli;
 mod login;
-mod own_keys;
-mod store;
+mod many_logins;
+mod program;
+mod toy_provider;
 mod transports;

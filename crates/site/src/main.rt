@@ -1,17 +1,18 @@
-//! A site that signs a user in, over the crate `oidc`: what its author writes.
+//! A site that signs a user in, over the crates `oidc` and `oidc_pairs`: what its author writes.
 //!
 //! The site's transport, its generator and its clock are its own. Here the provider is played by `Recorded`, which
-//! answers from a list, and the generator begins at a fixed number, so that the program always prints the same. It
-//! reads the query with which the browser comes back from standard input.
+//! answers from a list, and the generator begins at a fixed number, so that the program always prints the same. Two
+//! browsers begin a login. The program reads the query with which the first one comes back from standard input, and
+//! shows that the second one, which was handed that query, is refused.
 #![tactic(auto)]
 
-ghost use Rattle.std.specs.Prelude.{◌≡◌, true, false, None, IfOk, IfSome, IsSome, OnOk, option_and_then};
+ghost use Rattle.std.specs.Prelude.{◌≡◌, ◌↔◌, true, false, None, Some, IfOk, IfSome, IsSome, IsTrue, OnOk, option_and_then};
 ghost use Rattle.std.specs.FinMap as finite;
 ghost use Rattle.std.specs.Option.{option_copied};
 ghost use Rattle.oidc.specs.Pairs.{pairs};
 ghost use Rattle.oidc.specs.IdTokens.{subject_of};
 ghost use Rattle.oidc.specs.Errors.{is_spent_by};
-ghost use Rattle.oidc.specs.Rows.{login_named_by};
+ghost use Rattle.oidc.specs.Rows.{login_named_by, state_in};
 
 mod provider;
 
@@ -23,9 +24,10 @@ use oidc::{
     AllOtherClaims, AuthenticationFlow, Client, ClientId, ClientSecret, CsrfToken, EndUserName,
     Recorded, RedirectUrl, Scope, SyncHttpClient, UserInfoResponseType,
 };
+use oidc_pairs::Pairs;
 use rand_core::Rng;
 use rand_pcg::Pcg32;
-use std::alloc::Global;
+use std::alloc::{AllocError, Global};
 use url::Url;
 
 /// The logins of a site that keeps all additional claims, and whose keys are symmetric.
@@ -43,7 +45,15 @@ fn client(alloc: Global) -> anyhow::Result<LoginClient> {
     Ok(client.set_redirect_uri(redirect))
 }
 
-// The user asks to sign in: the browser is sent to the URL, and the state beside it is kept in its session.
+// What each login asks for beside the ID token: user info, in an answer that may be unsigned.
+const USER_INFO: UserInfoDemand = UserInfoDemand {
+    signed: false,
+    issuer_match: true,
+    audience_match: true,
+    response_type: UserInfoResponseType::Json,
+};
+
+// The user asks to sign in: the browser is sent to the URL, and the site keeps the state in the browser's session.
 fn begin<'c, R: Rng>(
     alloc: Global,
     client: &'c LoginClient,
@@ -59,33 +69,42 @@ fn begin<'c, R: Rng>(
     let flow = AuthenticationFlow::AuthorizationCode;
     let request = client.authorize_url(alloc, flow, move || state, move || nonce)?;
     let request = request.add_scope(Scope::new(text(alloc, "email")?))?;
-    let user_info = UserInfoDemand {
-        signed: false,
-        issuer_match: true,
-        audience_match: true,
-        response_type: UserInfoResponseType::Json,
-    };
-    let url = logins.begin(request, verifier, Some(user_info))?;
+    let url = logins.begin(request, verifier, Some(USER_INFO))?;
     Ok((url, kept))
 }
 
-// The browser comes back, with the state of its session.
+// Whether the query's one `state` is the one that the browser's session keeps.
+fn is_own(alloc: Global, kept: &CsrfToken, query: &[u8]) -> Result<bool, AllocError>
+    ensures { IfOk result (λ own. IsTrue own ↔ (state_in (pairs query.now) ≡ Some kept.now)) }
+{
+    Ok(Pairs::parse(alloc, query)?.only("state") == Some(kept.secret()))
+}
+
+// The browser comes back. `kept` is the state that its session keeps: the login of another browser is refused.
 fn come_back<H: SyncHttpClient>(
+    alloc: Global,
     logins: &mut SiteLogins<'_>,
+    kept: &CsrfToken,
     query: &[u8],
     http: &mut H,
     now: Timestamp,
 ) -> Result<User, LoginError<H::Error>>
     requires { H.ready http.old }
+    ensures again { H.ready http.new }
+    ensures own { is_spent_by result ≡ true → state_in (pairs query.now) ≡ Some kept.now }
     ensures named { OnOk result (IsSome (login_named_by logins.old.pending (pairs query.now))) }
     ensures about_the_user { IfOk result (λ user. IfSome user.user_info
         (λ found. found.standard_claims.subject ≡ subject_of user.id_token)) }
     ensures used_up { is_spent_by result ≡ true
         → IsSome (login_named_by logins.old.pending (pairs query.now)) }
-    ensures kept { is_spent_by result ≡ false
+    ensures unspent { is_spent_by result ≡ false
         → (http.new ≡ http.old) × (logins.new.pending ≡ logins.old.pending) }
 {
-    logins.callback(query, http, now)
+    match is_own(alloc, kept, query) {
+        Ok(true) => logins.callback(query, http, now),
+        Ok(false) => Err(LoginError::State),
+        Err(AllocError) => Err(LoginError::Memory { spent: false }),
+    }
 }
 
 // The name in the user info, in no language of its own.
@@ -110,6 +129,7 @@ fn greeting(alloc: Global, user: &User) -> anyhow::Result<String> {
 fn said<E>(alloc: Global, reply: &Result<User, LoginError<E>>) -> anyhow::Result<String> {
     match reply {
         Ok(user) => greeting(alloc, user),
+        Err(LoginError::State) => text(alloc, "not signed in: this browser began no such login"),
         Err(_) => text(alloc, "not signed in"),
     }
 }
@@ -118,19 +138,34 @@ fn said<E>(alloc: Global, reply: &Result<User, LoginError<E>>) -> anyhow::Result
 fn answered<H: SyncHttpClient<Error: Drop>>(
     alloc: Global,
     logins: &mut SiteLogins<'_>,
+    kept: &CsrfToken,
     query: &[u8],
     http: &mut H,
     now: Timestamp,
 ) -> anyhow::Result<String>
     requires { H.ready http.old }
+    ensures { H.ready http.new }
 {
-    let reply = come_back(logins, query, http, now);
+    let reply = come_back(alloc, logins, kept, query, http, now);
     let line = said(alloc, &reply);
     drop(reply);
     line
 }
 
-// One login of a client, from its begin to its callback, over a transport that is handed in.
+// Sends a browser to the provider, and gives the state that its session keeps.
+fn sent<'c, R: Rng>(
+    rt: &impl Print,
+    alloc: Global,
+    client: &'c LoginClient,
+    logins: &mut SiteLogins<'c>,
+    rng: &mut R,
+) -> anyhow::Result<CsrfToken> {
+    let (url, kept) = begin(alloc, client, logins, rng)?;
+    println!(rt; "{url}")?;
+    Ok(kept)
+}
+
+// Two browsers begin, and both come back with the query of the first one's callback.
 fn sign_in<H: SyncHttpClient<Error: Drop>>(
     rt: &impl Print,
     alloc: Global,
@@ -144,9 +179,11 @@ fn sign_in<H: SyncHttpClient<Error: Drop>>(
     let mut logins = Logins::new(alloc, client)?;
     // This generator can be guessed. A site takes one for secrets: `StdRng` of the kit's `rand`, by `make_rng(&rt)`.
     let mut rng = Pcg32::new(42, 54);
-    let (url, _kept) = begin(alloc, client, &mut logins, &mut rng)?;
-    println!(rt; "{url}")?;
-    let line = answered(alloc, &mut logins, query, http, now)?;
+    let first = sent(rt, alloc, client, &mut logins, &mut rng)?;
+    let second = sent(rt, alloc, client, &mut logins, &mut rng)?;
+    let refusal = answered(alloc, &mut logins, &second, query, http, now)?;
+    println!(rt; "{refusal}")?;
+    let line = answered(alloc, &mut logins, &first, query, http, now)?;
     println!(rt; "{line}")?;
     Ok(())
 }

@@ -1,7 +1,7 @@
 //! Tests of oidc_user_info that no line of text can say: bodies that are no text, bodies and addresses at
 //! their limits, transports that fail, and additional claims of a caller's own.
 
-use crate::own_types::Method;
+use crate::tenant::Tenant;
 use http::StatusCode;
 use http_header::{CONTENT_TYPE, HeaderValue};
 use oidc_claims::EmptyAdditionalClaims;
@@ -11,8 +11,8 @@ use oidc_oauth2::{Answer, Body, Fault, HttpResponse, Recorded};
 use oidc_tokens::{CoreUserInfoVerifier, Payload};
 use oidc_types::{AccessToken, ClientId, CoreGenderClaim, IssuerUrl, UserInfoUrl};
 use oidc_user_info::{UserInfoClaims, UserInfoError, UserInfoRequest};
-use std::alloc::{AllocError, Global};
-use std::test::Fail;
+use std::alloc::Global;
+use std::process::Abort;
 
 // What a transport in memory gives.
 #[derive(Clone, Copy)]
@@ -25,50 +25,50 @@ enum Given {
     Nothing,
 }
 
-fn response(alloc: Global, status: u16, body: Vec<u8>) -> Result<HttpResponse, Fail> {
+fn response(rt: &impl Abort, alloc: Global, status: u16, body: Vec<u8>) -> HttpResponse {
     let mut response = http::Response::new(alloc, Body::new(body));
-    *response.status_mut() = StatusCode::from_u16(status)?;
-    Ok(response)
-}
-
-fn no_text(alloc: Global) -> Result<HttpResponse, Fail> {
-    let mut response = response(alloc, 200, vec![in alloc; 0xFFu8; 3]?)?;
+    *response.status_mut() = StatusCode::from_u16(status).expect(rt, "a status");
     response
-        .headers_mut()
-        .insert(CONTENT_TYPE, HeaderValue::from_static("application/jwt"))?;
-    Ok(response)
 }
 
-fn answers(alloc: Global, given: Given) -> Result<Vec<Answer>, Fail> {
-    let mut answers = Vec::new(alloc);
+fn filled(rt: &impl Abort, alloc: Global, byte: u8, len: usize) -> Vec<u8> {
+    vec![in alloc; byte; len].expect(rt, "memory")
+}
+
+fn no_text(rt: &impl Abort, alloc: Global) -> HttpResponse {
+    let mut response = response(rt, alloc, 200, filled(rt, alloc, 0xFF, 3));
+    let _ = response
+        .headers_mut()
+        .insert(CONTENT_TYPE, HeaderValue::from_static("application/jwt"))
+        .expect(rt, "memory");
+    response
+}
+
+fn answer(rt: &impl Abort, alloc: Global, given: Given) -> Option<Answer> {
     match given {
         Given::Blank(status, len) => {
-            let response = response(alloc, status, vec![in alloc; b' '; len]?)?;
-            answers.push(Answer::Response(response))?;
+            let body = filled(rt, alloc, b' ', len);
+            Some(Answer::Response(response(rt, alloc, status, body)))
         }
-        Given::NoText => answers.push(Answer::Response(no_text(alloc)?))?,
-        Given::Fault => answers.push(Answer::Fault)?,
-        Given::Nothing => {}
+        Given::NoText => Some(Answer::Response(no_text(rt, alloc))),
+        Given::Fault => Some(Answer::Fault),
+        Given::Nothing => None,
     }
-    Ok(answers)
+}
+
+fn recorded(rt: &impl Abort, alloc: Global, given: Given) -> Recorded {
+    let mut answers = Vec::new(alloc);
+    if let Some(answer) = answer(rt, alloc, given) {
+        answers.push(answer).expect(rt, "memory");
+    }
+    Recorded::new(alloc, answers)
 }
 
 // An endpoint of so many bytes behind `https://example/`.
-fn endpoint(alloc: Global, len: usize) -> Result<UserInfoUrl, Fail> {
-    let mut address = String::from_str(alloc, "https://example/")?;
-    for _ in 0..len {
-        address.push_str("a")?;
-    }
-    Ok(UserInfoUrl::new(alloc, address)?)
-}
-
-type Reply = Result<UserInfoClaims<EmptyAdditionalClaims, CoreGenderClaim>, UserInfoError<Fault>>;
-
-fn refusal(alloc: Global, reply: &Reply) -> Result<String, AllocError> {
-    match reply {
-        Ok(_) => String::from_str(alloc, "claims"),
-        Err(error) => format!(in alloc; "{error}"),
-    }
+fn endpoint(rt: &impl Abort, alloc: Global, len: usize) -> UserInfoUrl {
+    let path = "a".repeat(alloc, len).expect(rt, "memory");
+    let address = format!(in alloc; "https://example/{path}").expect(rt, "memory");
+    UserInfoUrl::new(alloc, address).expect(rt, "a URL")
 }
 
 // Whose answer is judged.
@@ -79,40 +79,50 @@ struct Parties {
     keys: CoreJsonWebKeySet,
 }
 
-fn some_parties(alloc: Global) -> Result<Parties, Fail> {
-    let id = ClientId::new(String::from_str(alloc, "aaa")?);
-    let issuer = IssuerUrl::new(alloc, String::from_str(alloc, "https://example")?)?;
-    Ok(Parties {
-        id,
-        issuer,
-        keys: CoreJsonWebKeySet::new(Vec::new(alloc)),
-    })
+fn text(rt: &impl Abort, alloc: Global, text: &str) -> String {
+    String::from_str(alloc, text).expect(rt, "memory")
 }
 
-// What the refusal of a request with this token prints.
-fn refused(
+fn some_parties(rt: &impl Abort, alloc: Global) -> Parties {
+    Parties {
+        id: ClientId::new(text(rt, alloc, "aaa")),
+        issuer: IssuerUrl::new(alloc, text(rt, alloc, "https://example")).expect(rt, "a URL"),
+        keys: CoreJsonWebKeySet::new(Vec::new(alloc)),
+    }
+}
+
+type Reply = Result<UserInfoClaims<EmptyAdditionalClaims, CoreGenderClaim>, UserInfoError<Fault>>;
+
+// What the request with this token answers.
+fn reply(
     alloc: Global,
     endpoint: &UserInfoUrl,
     parties: &Parties,
     token: AccessToken,
     http: &mut Recorded,
-) -> Result<String, AllocError> {
+) -> Reply {
     let (id, issuer, keys) = (&parties.id, &parties.issuer, &parties.keys);
     let verifier = CoreUserInfoVerifier::new(id, issuer, keys, None);
-    let reply = UserInfoRequest::new(endpoint, token, verifier).request(alloc, http);
-    let line = refusal(alloc, &reply);
-    drop(reply);
-    line
+    UserInfoRequest::new(endpoint, token, verifier).request(alloc, http)
+}
+
+// What a refusal prints.
+fn refusal(rt: &impl Abort, alloc: Global, reply: &Reply) -> String {
+    match reply {
+        Ok(_) => text(rt, alloc, "claims"),
+        Err(error) => format!(in alloc; "{error}").expect(rt, "memory"),
+    }
 }
 
 // How many requests are handed over, and what the refusal prints.
-fn asked(alloc: Global, len: usize, token: &str, given: Given) -> Result<String, Fail> {
-    let endpoint = endpoint(alloc, len)?;
-    let parties = some_parties(alloc)?;
-    let token = AccessToken::new(String::from_str(alloc, token)?);
-    let mut http = Recorded::new(alloc, answers(alloc, given)?);
-    let line = refused(alloc, &endpoint, &parties, token, &mut http)?;
-    Ok(format!(in alloc; "{} {line}", http.requests().len())?)
+fn asked(rt: &impl Abort, alloc: Global, len: usize, token: &str, given: Given) -> String {
+    let endpoint = endpoint(rt, alloc, len);
+    let parties = some_parties(rt, alloc);
+    let token = AccessToken::new(text(rt, alloc, token));
+    let mut http = recorded(rt, alloc, given);
+    let reply = reply(alloc, &endpoint, &parties, token, &mut http);
+    let (sent, line) = (http.requests().len(), refusal(rt, alloc, &reply));
+    format!(in alloc; "{sent} {line}").expect(rt, "memory")
 }
 
 // The longest address that is sent to has 65,534 bytes, and the longest body that is judged 1,048,576.
@@ -160,61 +170,64 @@ static CASES: [(usize, &str, Given, &str); 10] = [
 ];
 
 #[test]
-fn user_info_over_a_transport_in_memory(rt: HostRuntime) -> Result<(), Fail> {
+fn user_info_over_a_transport_in_memory(rt: HostRuntime) {
     for (len, token, given, wanted) in &CASES {
-        assert_eq!(rt;
-            asked(rt.alloc(), *len, token, *given)?.as_str(),
-            *wanted,
-            "{wanted}"
-        );
+        let line = asked(&rt, rt.alloc(), *len, token, *given);
+        assert_eq!(rt; line.as_str(), *wanted);
     }
-    Ok(())
 }
 
 // ---- additional claims that have to be there
 
-type MethodClaims = UserInfoClaims<Method, CoreGenderClaim>;
+type TenantClaims = UserInfoClaims<Tenant, CoreGenderClaim>;
 
 // The claims, written.
-fn claims_text(alloc: Global, claims: &MethodClaims) -> Result<String, Fail> {
-    let text = write_object(alloc, claims.write(alloc)?.as_slice())?;
-    Ok(String::from_utf8(text).map_err(|_| Fail::from("not a text"))?)
+fn claims_text(rt: &impl Abort, alloc: Global, claims: &TenantClaims) -> String {
+    let members = claims.write(alloc).expect(rt, "memory");
+    let text = write_object(alloc, members.as_slice()).expect(rt, "memory");
+    String::from_utf8(text).expect(rt, "a text")
 }
 
 // The claims of an object, written, or the kind and the field of a refusal.
-fn claims_line(alloc: Global, text: &str) -> Result<String, Fail> {
-    match MethodClaims::from_json::<Fault>(alloc, text.as_bytes(), None) {
-        Ok(claims) => claims_text(alloc, &claims),
+fn claims_line(rt: &impl Abort, alloc: Global, text: &str) -> String {
+    match TenantClaims::from_json::<Fault>(alloc, text.as_bytes(), None) {
+        Ok(claims) => claims_text(rt, alloc, &claims),
         Err(UserInfoError::Parse(refusal)) => {
-            Ok(format!(in alloc; "{:?} {}", refusal.kind, refusal.field)?)
+            let (kind, field) = (refusal.kind, &refusal.field);
+            format!(in alloc; "{kind:?} {field}").expect(rt, "memory")
         }
-        Err(_) => Err(Fail::from("another refusal")),
+        Err(_) => panic!(rt; "another refusal"),
     }
 }
 
-// What has to be there is a member, whatever stands beside it.
-static OWN: [(&str, &str); 5] = [
+// The first member that is no claim of user info has to be there, and to be a text.
+static TENANTS: [(&str, &str); 5] = [
     (
         r#"{"iss":"https://server.example.com","sub":"24400320","aud":["s6BhdRkqt3"]}"#,
-        "Additional tfa_method",
+        "Additional tenant name",
     ),
     (
-        r#"{"sub":"24400320","tfa_method":"u2f"}"#,
-        r#"{"sub":"24400320","tfa_method":"u2f"}"#,
+        r#"{"sub":"24400320","tenant":"b"}"#,
+        r#"{"sub":"24400320","tenant":"b"}"#,
     ),
     (
-        r#"{"x":"y","sub":"a","tfa_method":"u2f"}"#,
-        r#"{"sub":"a","tfa_method":"u2f"}"#,
+        r#"{"x":"y","iss":"https://a","sub":"a","tenant":"b"}"#,
+        r#"{"iss":"https://a","sub":"a","tenant":"y"}"#,
     ),
-    (r#"{"sub":"a","x":"y"}"#, "Additional tfa_method"),
-    (r#"{"sub":"a","tfa_method":1}"#, "Additional tfa_method"),
+    (
+        r#"{"sub":"a","exp":1,"tenant":"b"}"#,
+        "Additional tenant name",
+    ),
+    (r#"{"sub":"a","tenant":1}"#, "Additional tenant name"),
 ];
 
 #[test]
-fn additional_claims_of_user_info_may_have_to_be_there(rt: HostRuntime) -> Result<(), Fail> {
-    for (text, want) in &OWN {
-        let line = claims_line(rt.alloc(), text)?;
-        assert_eq!(rt; line.as_str(), *want, "{text}");
+fn additional_claims_of_user_info_may_have_to_be_there(rt: HostRuntime) {
+    for (text, want) in &TENANTS {
+        assert_eq!(rt;
+            claims_line(&rt, rt.alloc(), text).as_str(),
+            *want,
+            "{text}"
+        );
     }
-    Ok(())
 }

@@ -5,13 +5,15 @@ ghost use Rattle.oidc_claims.specs.Home.{is_additional};
 
 use cases::{Case, CaseError, object, ok_form, refused_as};
 use oidc_claims::{
-    AdditionalClaims, AllOtherClaims, Home, PlacedError, USER_INFO_FIELDS, belongs, read_standard,
-    write_standard,
+    AdditionalClaims, AllOtherClaims, Home, PlacedError, StandardClaims, USER_INFO_FIELDS, belongs,
+    read_standard, write_standard,
 };
-use oidc_members::{Member, Members, OutMember, ParseError, Refusal};
+use oidc_members::{Member, Members, ParseError, Refusal};
 use oidc_pairs::FormText;
 use oidc_types::CoreGenderClaim;
 use std::alloc::{AllocError, Global};
+
+type Claims = StandardClaims<CoreGenderClaim>;
 
 /// `standard`: the claims of an object by the fields of user info, written again, and the additional
 /// ones that `AllOtherClaims` keeps.
@@ -26,11 +28,22 @@ pub(crate) fn standard(alloc: Global, case: &Case) -> Result<String, CaseError> 
 
 // The claims of these members, written again.
 fn read_and_written(alloc: Global, members: &Members) -> Result<String, CaseError> {
-    match standard_members(alloc, members) {
-        Ok(claims) => with_additional(alloc, members, &claims),
+    let read = read_standard(alloc, members);
+    let line = read_line(alloc, members, &read);
+    drop(read);
+    line
+}
+
+fn read_line(
+    alloc: Global,
+    members: &Members,
+    read: &Result<Claims, PlacedError>,
+) -> Result<String, CaseError> {
+    match read {
+        Ok(claims) => claims_line(alloc, members, claims),
         Err(PlacedError::Refused { place, refusal }) => {
             let place = format!(in alloc; "{place}")?;
-            refused_at(alloc, place.as_str(), &refusal)
+            refused_at(alloc, place.as_str(), refusal)
         }
         Err(PlacedError::Memory) => Err(CaseError::Memory),
     }
@@ -42,23 +55,19 @@ fn refused_at(alloc: Global, place: &str, refusal: &Refusal) -> Result<String, C
     refused_as(alloc, form, refusal)
 }
 
-// The standard claims, read and written.
-fn standard_members(alloc: Global, members: &Members) -> Result<Vec<OutMember>, PlacedError> {
-    let claims = read_standard::<CoreGenderClaim>(alloc, members)?;
-    write_standard(alloc, &claims).map_err(|_| PlacedError::Memory)
-}
-
-fn with_additional(
-    alloc: Global,
-    members: &Members,
-    claims: &[OutMember],
-) -> Result<String, CaseError> {
-    let claims = object(alloc, claims)?;
+fn claims_line(alloc: Global, members: &Members, claims: &Claims) -> Result<String, CaseError> {
+    let claims = written_claims(alloc, claims)?;
     let additional = additional(alloc, members)?;
     let mut form = FormText::new(alloc);
     form.push("claims", claims.as_str())?;
     form.push("additional", additional.as_str())?;
     ok_form(alloc, form)
+}
+
+// The text of the object that claims are written as.
+fn written_claims(alloc: Global, claims: &Claims) -> Result<String, CaseError> {
+    let members = write_standard(alloc, claims)?;
+    object(alloc, members.as_slice())
 }
 
 // The additional members, read and written.

@@ -38,36 +38,75 @@ pub(crate) enum Operation {
     TokenAnswer,
 }
 
-/// The operation of that name.
-pub(crate) fn operation_named(name: &str) -> Option<Operation>
-    ensures { result ≡ spec.operation_of name.now }
-{
-    match name {
-        "pairs" => Some(Operation::Pairs),
-        "members" => Some(Operation::Members),
-        "standard" => Some(Operation::Standard),
-        "url" => Some(Operation::Url),
-        "join" => Some(Operation::Join),
-        "word" => Some(Operation::Word),
-        "localized" => Some(Operation::Localized),
-        "random" => Some(Operation::Random),
-        "hmac" => Some(Operation::Hmac),
-        "verdict" => Some(Operation::Verdict),
-        "digest" => Some(Operation::Digest),
-        "challenge" => Some(Operation::Challenge),
-        "display" => Some(Operation::Display),
-        "token_response" => Some(Operation::TokenResponse),
-        "error_response" => Some(Operation::ErrorResponse),
-        "device_error" => Some(Operation::DeviceError),
-        "revocation_error" => Some(Operation::RevocationError),
-        "device_response" => Some(Operation::DeviceResponse),
-        "introspection" => Some(Operation::Introspection),
-        "token_type" => Some(Operation::TokenType),
-        "essence" => Some(Operation::Essence),
-        "bearer" => Some(Operation::Bearer),
-        "code_request" => Some(Operation::CodeRequest),
-        "token_answer" => Some(Operation::TokenAnswer),
-        _ => None,
+impl Operation {
+    /// Every operation.
+    const ALL: [Operation; 24] = [
+        Operation::Pairs,
+        Operation::Members,
+        Operation::Standard,
+        Operation::Url,
+        Operation::Join,
+        Operation::Word,
+        Operation::Localized,
+        Operation::Random,
+        Operation::Hmac,
+        Operation::Verdict,
+        Operation::Digest,
+        Operation::Challenge,
+        Operation::Display,
+        Operation::TokenResponse,
+        Operation::ErrorResponse,
+        Operation::DeviceError,
+        Operation::RevocationError,
+        Operation::DeviceResponse,
+        Operation::Introspection,
+        Operation::TokenType,
+        Operation::Essence,
+        Operation::Bearer,
+        Operation::CodeRequest,
+        Operation::TokenAnswer,
+    ];
+
+    // Its name, the value of `op`.
+    fn name(self) -> &'static str
+        ensures { result.now ≡ spec.operation_name self }
+    {
+        match self {
+            Operation::Pairs => "pairs",
+            Operation::Members => "members",
+            Operation::Standard => "standard",
+            Operation::Url => "url",
+            Operation::Join => "join",
+            Operation::Word => "word",
+            Operation::Localized => "localized",
+            Operation::Random => "random",
+            Operation::Hmac => "hmac",
+            Operation::Verdict => "verdict",
+            Operation::Digest => "digest",
+            Operation::Challenge => "challenge",
+            Operation::Display => "display",
+            Operation::TokenResponse => "token_response",
+            Operation::ErrorResponse => "error_response",
+            Operation::DeviceError => "device_error",
+            Operation::RevocationError => "revocation_error",
+            Operation::DeviceResponse => "device_response",
+            Operation::Introspection => "introspection",
+            Operation::TokenType => "token_type",
+            Operation::Essence => "essence",
+            Operation::Bearer => "bearer",
+            Operation::CodeRequest => "code_request",
+            Operation::TokenAnswer => "token_answer",
+        }
+    }
+
+    // The operation of that name.
+    fn of_name(name: &str) -> Option<Operation>
+        ensures { result ≡ spec.operation_of name.now }
+    {
+        Operation::ALL
+            .iter()
+            .copied()
+            .find(|operation| operation.name() == name)
     }
 }
 
@@ -75,7 +114,7 @@ impl CaseOperation for Operation {
     ghost operation_of = { spec.operation_of };
 
     fn named(name: &str) -> Option<Operation> {
-        operation_named(name)
+        Operation::of_name(name)
     }
 
     fn answer(self, alloc: Global, case: &Case) -> Result<String, CaseError> {

@@ -1,15 +1,15 @@
 //! Records of answers.
 
 use cases::{
-    Case, CaseError, ok_form, push_scopes, push_seconds, push_some, refused_reading,
+    Case, CaseError, Refused, ok_form, push_scopes, push_seconds, push_some, refused_reading,
     token_response_line, variant_name,
 };
 use jiff::Timestamp;
 use oidc_members::{FieldName, Members, ParseError};
 use oidc_oauth2::{
-    CoreDeviceAuthorizationResponse, CoreErrorResponseType, CoreTokenIntrospectionResponse,
-    DeviceCodeErrorResponseType, EmptyExtraTokenFields, ErrorResponse, RevocationErrorResponseType,
-    StandardErrorResponse, TokenIntrospectionResponse, TokenType,
+    CoreDeviceAuthorizationResponse, CoreRevocationErrorResponse, CoreTokenIntrospectionResponse,
+    DeviceCodeErrorResponse, EmptyExtraTokenFields, ErrorResponse, StandardErrorResponse,
+    TokenIntrospectionResponse, TokenType,
 };
 use oidc_pairs::FormText;
 use oidc_types::ErrorResponseType;
@@ -28,35 +28,40 @@ pub(crate) fn token_response(alloc: Global, case: &Case) -> Result<String, CaseE
 
 /// `error_response`: an error response of a token endpoint.
 pub(crate) fn error_response(alloc: Global, case: &Case) -> Result<String, CaseError> {
-    error_line::<CoreErrorResponseType>(alloc, case)
+    case.check(&["text"])?;
+    error_line(alloc, &error_in::<Refused>(alloc, case.value("text")))
 }
 
 /// `device_error`: an error response while a device waits.
 pub(crate) fn device_error(alloc: Global, case: &Case) -> Result<String, CaseError> {
-    error_line::<DeviceCodeErrorResponseType>(alloc, case)
+    case.check(&["text"])?;
+    error_line(
+        alloc,
+        &error_in::<DeviceCodeErrorResponse>(alloc, case.value("text")),
+    )
 }
 
 /// `revocation_error`: an error response of a revocation endpoint.
 pub(crate) fn revocation_error(alloc: Global, case: &Case) -> Result<String, CaseError> {
-    error_line::<RevocationErrorResponseType>(alloc, case)
+    case.check(&["text"])?;
+    error_line(
+        alloc,
+        &error_in::<CoreRevocationErrorResponse>(alloc, case.value("text")),
+    )
 }
 
-fn error_in<T: ErrorResponseType>(
-    alloc: Global,
-    text: &str,
-) -> Result<StandardErrorResponse<T>, ParseError> {
+fn error_in<R: ErrorResponse>(alloc: Global, text: &str) -> Result<R, ParseError> {
     let members = Members::split(alloc, text.as_bytes())?;
-    StandardErrorResponse::<T>::read(alloc, &members)
+    R::read(alloc, &members)
 }
 
 fn error_line<T: ErrorResponseType + fmt::Debug>(
     alloc: Global,
-    case: &Case,
+    read: &Result<StandardErrorResponse<T>, ParseError>,
 ) -> Result<String, CaseError> {
-    case.check(&["text"])?;
-    match error_in::<T>(alloc, case.value("text")) {
-        Ok(response) => shown_error(alloc, &response),
-        Err(error) => refused_reading(alloc, &error),
+    match read {
+        Ok(response) => shown_error(alloc, response),
+        Err(error) => refused_reading(alloc, error),
     }
 }
 

@@ -1,6 +1,7 @@
 //! What errors of logins print.
 
 use cases::{Case, CaseError, one_of};
+use oidc_cli::Failed;
 use oidc_login::{BeginError, LoginError, NewLoginsError, TooLong};
 use oidc_members::FieldName;
 use oidc_oauth2::{Fault, RequestTokenError};
@@ -27,6 +28,8 @@ const BEGINS: [BeginError; 7] = [
     BeginError::Memory,
 ];
 
+const CALLS: [Failed; 1] = [Failed];
+
 /// `display`: what the value of a variant prints. A variant that holds something holds what stands in
 /// the lists above, or in the function below.
 pub(crate) fn display(alloc: Global, case: &Case) -> Result<String, CaseError> {
@@ -34,6 +37,7 @@ pub(crate) fn display(alloc: Global, case: &Case) -> Result<String, CaseError> {
     let variant = case.value("variant");
     match case.value("type") {
         "BeginError" => one_of(alloc, &BEGINS, variant),
+        "Failed" => one_of(alloc, &CALLS, variant),
         "LoginError" => login_error(alloc, variant),
         "NewLoginsError" => one_of(alloc, &STORES, variant),
         "TooLong" => one_of(alloc, &PLACES, variant),

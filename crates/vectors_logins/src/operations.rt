@@ -14,14 +14,28 @@ pub(crate) enum Operation {
     Display,
 }
 
-/// The operation of that name.
-pub(crate) fn operation_named(name: &str) -> Option<Operation>
-    ensures { result ≡ spec.operation_of name.now }
-{
-    match name {
-        "run" => Some(Operation::Run),
-        "display" => Some(Operation::Display),
-        _ => None,
+impl Operation {
+    /// Every operation.
+    const ALL: [Operation; 2] = [Operation::Run, Operation::Display];
+
+    // Its name, the value of `op`.
+    fn name(self) -> &'static str
+        ensures { result.now ≡ spec.operation_name self }
+    {
+        match self {
+            Operation::Run => "run",
+            Operation::Display => "display",
+        }
+    }
+
+    // The operation of that name.
+    fn of_name(name: &str) -> Option<Operation>
+        ensures { result ≡ spec.operation_of name.now }
+    {
+        Operation::ALL
+            .iter()
+            .copied()
+            .find(|operation| operation.name() == name)
     }
 }
 
@@ -29,7 +43,7 @@ impl CaseOperation for Operation {
     ghost operation_of = { spec.operation_of };
 
     fn named(name: &str) -> Option<Operation> {
-        operation_named(name)
+        Operation::of_name(name)
     }
 
     fn answer(self, alloc: Global, case: &Case) -> Result<String, CaseError> {

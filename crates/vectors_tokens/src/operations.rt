@@ -26,26 +26,55 @@ pub(crate) enum Operation {
     Authorize,
 }
 
-/// The operation of that name.
-pub(crate) fn operation_named(name: &str) -> Option<Operation>
-    ensures { result ≡ spec.operation_of name.now }
-{
-    match name {
-        "display" => Some(Operation::Display),
-        "token_response" => Some(Operation::TokenResponse),
-        "token_answer" => Some(Operation::TokenAnswer),
-        "header" => Some(Operation::Header),
-        "id_claims" => Some(Operation::IdClaims),
-        "token" => Some(Operation::IdToken),
-        "verify" => Some(Operation::Verify),
-        "hash" => Some(Operation::Hash),
-        "issue" => Some(Operation::Issue),
-        "info_claims" => Some(Operation::InfoClaims),
-        "info_request" => Some(Operation::InfoRequest),
-        "info_answer" => Some(Operation::InfoAnswer),
-        "info_issue" => Some(Operation::InfoIssue),
-        "authorize" => Some(Operation::Authorize),
-        _ => None,
+impl Operation {
+    /// Every operation.
+    const ALL: [Operation; 14] = [
+        Operation::Display,
+        Operation::TokenResponse,
+        Operation::TokenAnswer,
+        Operation::Header,
+        Operation::IdClaims,
+        Operation::IdToken,
+        Operation::Verify,
+        Operation::Hash,
+        Operation::Issue,
+        Operation::InfoClaims,
+        Operation::InfoRequest,
+        Operation::InfoAnswer,
+        Operation::InfoIssue,
+        Operation::Authorize,
+    ];
+
+    // Its name, the value of `op`.
+    fn name(self) -> &'static str
+        ensures { result.now ≡ spec.operation_name self }
+    {
+        match self {
+            Operation::Display => "display",
+            Operation::TokenResponse => "token_response",
+            Operation::TokenAnswer => "token_answer",
+            Operation::Header => "header",
+            Operation::IdClaims => "id_claims",
+            Operation::IdToken => "token",
+            Operation::Verify => "verify",
+            Operation::Hash => "hash",
+            Operation::Issue => "issue",
+            Operation::InfoClaims => "info_claims",
+            Operation::InfoRequest => "info_request",
+            Operation::InfoAnswer => "info_answer",
+            Operation::InfoIssue => "info_issue",
+            Operation::Authorize => "authorize",
+        }
+    }
+
+    // The operation of that name.
+    fn of_name(name: &str) -> Option<Operation>
+        ensures { result ≡ spec.operation_of name.now }
+    {
+        Operation::ALL
+            .iter()
+            .copied()
+            .find(|operation| operation.name() == name)
     }
 }
 
@@ -53,7 +82,7 @@ impl CaseOperation for Operation {
     ghost operation_of = { spec.operation_of };
 
     fn named(name: &str) -> Option<Operation> {
-        operation_named(name)
+        Operation::of_name(name)
     }
 
     fn answer(self, alloc: Global, case: &Case) -> Result<String, CaseError> {

@@ -1,8 +1,8 @@
 //! The claim `address` (OpenID Connect Core 1.0 section 5.1.1).
 
-ghost use Rattle.std.specs.Prelude.{◌≡◌, IfOk};
+ghost use Rattle.std.specs.Prelude.{◌≡◌, IfOk, OnOk};
 
-use crate::claims::copies::copied_text;
+use crate::claims::copies::copy_text;
 use oidc_types::{
     AddressCountry, AddressLocality, AddressPostalCode, AddressRegion, FormattedAddress,
     StreetAddress,
@@ -31,14 +31,26 @@ impl AddressClaim {
     pub fn clone_in(&self, alloc: Global) -> Result<Self, AllocError>
         ensures copy { IfOk result (λ copy. copy ≡ self.now) }
     {
-        Ok(AddressClaim {
-            formatted: copied_text(alloc, &self.formatted)?,
-            street_address: copied_text(alloc, &self.street_address)?,
-            locality: copied_text(alloc, &self.locality)?,
-            region: copied_text(alloc, &self.region)?,
-            postal_code: copied_text(alloc, &self.postal_code)?,
-            country: copied_text(alloc, &self.country)?,
-        })
+        let mut copy = AddressClaim::default();
+        match copy.copy_parts(alloc, self) {
+            Ok(()) => Ok(copy),
+            Err(error) => {
+                drop(copy);
+                Err(error)
+            }
+        }
+    }
+
+    // Puts copies of all parts into the place of these.
+    fn copy_parts(&mut self, alloc: Global, address: &AddressClaim) -> Result<(), AllocError>
+        ensures { OnOk result (self.new ≡ address.now) }
+    {
+        copy_text(alloc, &mut self.formatted, &address.formatted)?;
+        copy_text(alloc, &mut self.street_address, &address.street_address)?;
+        copy_text(alloc, &mut self.locality, &address.locality)?;
+        copy_text(alloc, &mut self.region, &address.region)?;
+        copy_text(alloc, &mut self.postal_code, &address.postal_code)?;
+        copy_text(alloc, &mut self.country, &address.country)
     }
 }
 

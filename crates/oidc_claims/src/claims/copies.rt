@@ -1,13 +1,14 @@
-// Copies of optional claims.
-ghost use Rattle.std.specs.Prelude.{◌≡◌, IfOk};
+// Copies of optional claims, each put into the place of a claim. A copy that grows in place is one value,
+// which is let go by one call where memory is wanting.
+ghost use Rattle.std.specs.Prelude.{◌≡◌, IfOk, OnOk};
 
 use crate::claims::address::AddressClaim;
 use crate::gender::GenderClaim;
 use oidc_types::{LocalizedClaim, Marker, Text};
 use std::alloc::{AllocError, Global};
 
-/// A copy of a text, where there is one.
-pub(crate) fn copied_text<M: Marker>(
+// A copy of a text, where there is one.
+fn copied_text<M: Marker>(
     alloc: Global,
     text: &Option<Text<M>>,
 ) -> Result<Option<Text<M>>, AllocError>
@@ -19,21 +20,21 @@ pub(crate) fn copied_text<M: Marker>(
     }
 }
 
-/// A copy of a claim in several languages, where there is one.
-pub(crate) fn copied_localized<M: Marker>(
+// A copy of a claim in several languages, where there is one.
+fn copied_localized<M: Marker>(
     alloc: Global,
-    claim: &Option<LocalizedClaim<Text<M>>>,
+    localized: &Option<LocalizedClaim<Text<M>>>,
 ) -> Result<Option<LocalizedClaim<Text<M>>>, AllocError>
-    ensures { IfOk result (λ copy. copy ≡ claim.now) }
+    ensures { IfOk result (λ copy. copy ≡ localized.now) }
 {
-    match claim {
+    match localized {
         None => Ok(None),
-        Some(claim) => Ok(Some(claim.clone_in(alloc)?)),
+        Some(localized) => Ok(Some(localized.clone_in(alloc)?)),
     }
 }
 
-/// A copy of a gender, where there is one.
-pub(crate) fn copied_gender<GC: GenderClaim>(
+// A copy of a gender, where there is one.
+fn copied_gender<GC: GenderClaim>(
     alloc: Global,
     gender: &Option<GC>,
 ) -> Result<Option<GC>, AllocError>
@@ -45,8 +46,8 @@ pub(crate) fn copied_gender<GC: GenderClaim>(
     }
 }
 
-/// A copy of an address, where there is one.
-pub(crate) fn copied_address(
+// A copy of an address, where there is one.
+fn copied_address(
     alloc: Global,
     address: &Option<AddressClaim>,
 ) -> Result<Option<AddressClaim>, AllocError>
@@ -56,4 +57,52 @@ pub(crate) fn copied_address(
         None => Ok(None),
         Some(address) => Ok(Some(address.clone_in(alloc)?)),
     }
+}
+
+/// Puts a copy of a text, where there is one, into a place.
+pub(crate) fn copy_text<M: Marker>(
+    alloc: Global,
+    place: &mut Option<Text<M>>,
+    text: &Option<Text<M>>,
+) -> Result<(), AllocError>
+    ensures { OnOk result (place.new ≡ text.now) }
+{
+    *place = copied_text(alloc, text)?;
+    Ok(())
+}
+
+/// Puts a copy of a claim in several languages, where there is one, into a place.
+pub(crate) fn copy_localized<M: Marker>(
+    alloc: Global,
+    place: &mut Option<LocalizedClaim<Text<M>>>,
+    localized: &Option<LocalizedClaim<Text<M>>>,
+) -> Result<(), AllocError>
+    ensures { OnOk result (place.new ≡ localized.now) }
+{
+    *place = copied_localized(alloc, localized)?;
+    Ok(())
+}
+
+/// Puts a copy of a gender, where there is one, into a place.
+pub(crate) fn copy_gender<GC: GenderClaim>(
+    alloc: Global,
+    place: &mut Option<GC>,
+    gender: &Option<GC>,
+) -> Result<(), AllocError>
+    ensures { OnOk result (place.new ≡ gender.now) }
+{
+    *place = copied_gender(alloc, gender)?;
+    Ok(())
+}
+
+/// Puts a copy of an address, where there is one, into a place.
+pub(crate) fn copy_address(
+    alloc: Global,
+    place: &mut Option<AddressClaim>,
+    address: &Option<AddressClaim>,
+) -> Result<(), AllocError>
+    ensures { OnOk result (place.new ≡ address.now) }
+{
+    *place = copied_address(alloc, address)?;
+    Ok(())
 }

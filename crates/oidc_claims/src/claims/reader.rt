@@ -10,8 +10,8 @@ ghost use Rattle.oidc_claims.specs.Reader.{reader_of, finished_claims};
 ghost use Rattle.oidc_claims.specs.Standard.{claims_of, faultless_claims, subject_of, missing_subject, with_subject};
 
 use crate::claim::Claim;
+use crate::claims::gender_value::{GenderOf, gender_of};
 use crate::claims::slots::{Languages, take_once};
-use crate::claims::values::{GenderOf, gender_of};
 use crate::claims::{AddressClaim, StandardClaims};
 use crate::gender::GenderClaim;
 use oidc_members::{Member, Members, ParseError, ParseKind};
@@ -90,7 +90,10 @@ impl<GC: GenderClaim> ClaimsReader<GC> {
     {
         match self.subject.value.take() {
             Some(subject) => Ok(self.claims_with(subject)),
-            None => Err(refused(alloc, ParseKind::Missing, "sub")),
+            None => {
+                drop(self);
+                Err(refused(alloc, ParseKind::Missing, "sub"))
+            }
         }
     }
 

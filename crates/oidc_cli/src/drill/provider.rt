@@ -7,6 +7,7 @@ ghost use Rattle.oidc_jwt.specs.Issuing.{Issues};
 ghost use Rattle.oidc_cli.specs.Values.{url_of_text};
 ghost use Rattle.oidc_cli.specs.Drill as spec;
 
+use crate::beside::beside;
 use crate::events::{BeginLine, CallbackLine, ClientLine, LineError, ProviderUrls};
 use crate::report::client_of;
 use crate::script::answers::response_with;
@@ -52,12 +53,15 @@ pub fn issuer(alloc: Global) -> Result<IssuerUrl, AllocError>
 fn provider_urls(alloc: Global) -> Result<ProviderUrls, AllocError>
     ensures { IfOk result (λ urls. urls ≡ spec.client_line.provider) }
 {
-    let auth = url_at(alloc, "https://example/authorize")?;
-    let token = url_at(alloc, "https://example/token")?;
-    let user_info = url_at(alloc, "https://example/userinfo")?;
+    let issuer = issuer(alloc)?;
+    let issuers = beside(issuer, url_at(alloc, "https://example"))?;
+    let with_auth = beside(issuers, url_at(alloc, "https://example/authorize"))?;
+    let with_token = beside(with_auth, url_at(alloc, "https://example/token"))?;
+    let all = beside(with_token, url_at(alloc, "https://example/userinfo"))?;
+    let ((((issuer, jwks_uri), auth), token), user_info) = all;
     Ok(ProviderUrls {
-        issuer: issuer(alloc)?,
-        jwks_uri: url_at(alloc, "https://example")?,
+        issuer,
+        jwks_uri,
         auth,
         token,
         user_info: Some(user_info),

@@ -6,6 +6,7 @@ ghost use Rattle.oidc_oauth2.specs.Recorded.{seen_answer};
 ghost use Rattle.oidc_cli.specs.Values.{Reads, pair_value};
 ghost use Rattle.oidc_cli.specs.Script as spec;
 
+use crate::beside::beside;
 use crate::events::{AnswerTo, LineError};
 use crate::script::values::{lacks, only_text, optional_content_type, optional_text, pair_status};
 use http::response::Parts;
@@ -173,7 +174,10 @@ fn in_order(
     match (token, info) {
         (Some(token), info) => Ok(listed(alloc, token, info)?),
         (None, None) => Ok(Vec::new(alloc)),
-        (None, Some(_)) => Err(LineError::NoEvent),
+        (None, Some(info)) => {
+            drop(info);
+            Err(LineError::NoEvent)
+        }
     }
 }
 
@@ -183,6 +187,6 @@ pub fn read_answers(alloc: Global, line: &Pairs) -> Result<Vec<Answer>, LineErro
     ensures { Reads (λ answers. map seen_answer answers.items) result (spec.answers_of line.now) }
 {
     let token = read_answer(alloc, line, AnswerTo::Token)?;
-    let info = read_answer(alloc, line, AnswerTo::UserInfo)?;
+    let (token, info) = beside(token, read_answer(alloc, line, AnswerTo::UserInfo))?;
     in_order(alloc, token, info)
 }

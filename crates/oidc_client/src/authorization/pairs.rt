@@ -6,7 +6,7 @@ ghost use Rattle.std.specs.Option.{option_copied};
 ghost use Rattle.std.specs.String.{string_bytes};
 ghost use Rattle.oidc_pairs.specs.Pairs.{IsTextPair};
 ghost use Rattle.oidc_oauth2.specs.TokenResponse.{whole_seconds};
-ghost use Rattle.oidc_user_info.specs.Urls.{named_value, Builds};
+ghost use Rattle.oidc_user_info.specs.QueryPairs.{named_value, Builds};
 ghost use Rattle.oidc_client.specs.Authorization.{auth_list, auth_url, given_after_extra, given_before_extra, pairs_after_extra, pairs_before_extra, response_type_of, seen_flow, text_if};
 ghost use Rattle.oidc_client.specs.Texts.{texts_of};
 

@@ -1,20 +1,14 @@
-// The requests that a client makes, and what it expects of an ID token.
+// What any client makes: what it expects of an ID token, and its requests at an endpoint that is given.
 
-ghost use Rattle.std.specs.Prelude.{◌≡◌, None, Some, IfOk, IfErr, IsSomeAnd, codes};
-ghost use Rattle.std.specs.Option.{option_copied};
-ghost use Rattle.oidc_client.specs.Client.{code_request_at, info_request_at, user_info_verifier_of, verifier_of, IsMissing};
-ghost use Rattle.oidc_client.specs.Authorization.{new_request, seen_flow};
+ghost use Rattle.std.specs.Prelude.{◌≡◌, None, IfOk};
+ghost use Rattle.oidc_client.specs.Client.{code_request_at, info_request_at, verifier_of};
 
-use crate::authorization::{AuthenticationFlow, AuthorizationRequest, Parties, openid_scopes};
 use crate::client::Client;
-use oidc_claims::{AdditionalClaims, GenderClaim};
 use oidc_keys::JsonWebKey;
-use oidc_oauth2::{ClientAuth, CodeTokenRequest, ConfigurationError, ErrorResponse};
-use oidc_tokens::{IdTokenVerifier, TokenResponse, UserInfoVerifier};
+use oidc_oauth2::{ClientAuth, CodeTokenRequest};
+use oidc_tokens::{IdTokenVerifier, UserInfoVerifier};
 use oidc_types::{
-    AccessToken, AuthDisplay, AuthPrompt, AuthorizationCode, CsrfToken, EndpointMaybeSet,
-    EndpointSet, EndpointState, JweContentEncryptionAlgorithm, Nonce, ResponseType,
-    SubjectIdentifier, TokenUrl, UserInfoUrl,
+    AccessToken, AuthorizationCode, EndpointState, SubjectIdentifier, TokenUrl, UserInfoUrl,
 };
 use oidc_user_info::UserInfoRequest;
 use std::alloc::{AllocError, Global};
@@ -92,7 +86,7 @@ impl<
     }
 
     // The exchange of a code at an endpoint.
-    fn code_request_at<'a, E, R>(
+    pub(super) fn code_request_at<'a, E, R>(
         &'a self,
         alloc: Global,
         endpoint: &'a TokenUrl,
@@ -113,7 +107,7 @@ impl<
     }
 
     // The request for user info at an endpoint.
-    fn info_request_at<'a, J>(
+    pub(super) fn info_request_at<'a, J>(
         &'a self,
         endpoint: &'a UserInfoUrl,
         access_token: AccessToken,
@@ -128,288 +122,5 @@ impl<
             expected_subject,
         );
         UserInfoRequest::new(endpoint, access_token, verifier)
-    }
-}
-
-impl<
-    AC,
-    AD: AuthDisplay,
-    GC,
-    JE,
-    K: JsonWebKey,
-    P: AuthPrompt,
-    TE,
-    TR,
-    TIR,
-    RT,
-    TRE,
-    Device: EndpointState,
-    Introspection: EndpointState,
-    Revocation: EndpointState,
-    Token: EndpointState,
-    UserInfo: EndpointState,
-> Client<
-    AC,
-    AD,
-    GC,
-    JE,
-    K,
-    P,
-    TE,
-    TR,
-    TIR,
-    RT,
-    TRE,
-    EndpointSet,
-    Device,
-    Introspection,
-    Revocation,
-    Token,
-    UserInfo,
-> {
-    /// A request of this flow, whose state and nonce the two functions answer (RFC 6749 section 10.12, OpenID
-    /// Connect Core 1.0 section 3.1.2.1). It has the client's redirect, and asks for the scope `openid` where
-    /// the client does. Memory is taken first; then each function is called once, that of the state before
-    /// that of the nonce. `AllocError` is want of memory, the one error.
-    pub fn authorize_url<NF: FnOnce() -> Nonce, RS: ResponseType, SF: FnOnce() -> CsrfToken>(
-        &self,
-        alloc: Global,
-        flow: AuthenticationFlow<RS>,
-        state_fn: SF,
-        nonce_fn: NF,
-    ) -> Result<AuthorizationRequest<'_, AD, P, RS>, AllocError>
-    where
-        NF: Drop,
-        SF: Drop,
-        requires state_fn { SF.pre state_fn }
-        requires nonce_fn { NF.pre nonce_fn }
-        ensures state { IfOk result (λ request. SF.post state_fn request.state) }
-        ensures nonce { IfOk result (λ request. NF.post nonce_fn request.nonce) }
-        ensures endpoint { IfOk result (λ request. Some request.endpoint ≡ self.now.auth_uri) }
-        ensures rest { IfOk result (λ request. request ≡ new_request self.now request.endpoint
-            (seen_flow flow) request.state request.nonce) }
-    {
-        let scopes = openid_scopes(alloc, self.own.openid_scope)?;
-        let state = state_fn();
-        let nonce = nonce_fn();
-        let own = &self.own;
-        let parties = Parties {
-            endpoint: self.auth_uri(),
-            client_id: &own.client_id,
-            redirect_uri: own.redirect_uri.as_ref(),
-        };
-        Ok(AuthorizationRequest::new(alloc, parties, flow, state, nonce, scopes))
-    }
-}
-
-impl<
-    AC: AdditionalClaims,
-    AD,
-    GC: GenderClaim,
-    JE: JweContentEncryptionAlgorithm,
-    K: JsonWebKey,
-    P,
-    TE: ErrorResponse,
-    TR: TokenResponse<AC, GC, JE, K::SigningAlgorithm>,
-    TIR,
-    RT,
-    TRE,
-    Auth: EndpointState,
-    Device: EndpointState,
-    Introspection: EndpointState,
-    Revocation: EndpointState,
-    UserInfo: EndpointState,
-> Client<
-    AC,
-    AD,
-    GC,
-    JE,
-    K,
-    P,
-    TE,
-    TR,
-    TIR,
-    RT,
-    TRE,
-    Auth,
-    Device,
-    Introspection,
-    Revocation,
-    EndpointSet,
-    UserInfo,
-> {
-    /// The request that exchanges a code at the token endpoint (RFC 6749 section 4.1.3), with the client's
-    /// redirect, where it has one. It takes no memory.
-    pub fn exchange_code(
-        &self,
-        alloc: Global,
-        code: AuthorizationCode,
-    ) -> CodeTokenRequest<'_, TE, TR>
-        ensures request { IsSomeAnd self.now.token_uri
-            (λ endpoint. result ≡ code_request_at self.now code endpoint) }
-    {
-        self.code_request_at(alloc, self.token_uri(), code)
-    }
-}
-
-impl<
-    AC: AdditionalClaims,
-    AD,
-    GC: GenderClaim,
-    JE: JweContentEncryptionAlgorithm,
-    K: JsonWebKey,
-    P,
-    TE: ErrorResponse,
-    TR: TokenResponse<AC, GC, JE, K::SigningAlgorithm>,
-    TIR,
-    RT,
-    TRE,
-    Auth: EndpointState,
-    Device: EndpointState,
-    Introspection: EndpointState,
-    Revocation: EndpointState,
-    UserInfo: EndpointState,
-> Client<
-    AC,
-    AD,
-    GC,
-    JE,
-    K,
-    P,
-    TE,
-    TR,
-    TIR,
-    RT,
-    TRE,
-    Auth,
-    Device,
-    Introspection,
-    Revocation,
-    EndpointMaybeSet,
-    UserInfo,
-> {
-    /// The request that exchanges a code at the token endpoint (RFC 6749 section 4.1.3), with the client's
-    /// redirect, where it has one. `MissingUrl("token")` exactly where that endpoint isn't set. It takes no
-    /// memory.
-    pub fn exchange_code(
-        &self,
-        alloc: Global,
-        code: AuthorizationCode,
-    ) -> Result<CodeTokenRequest<'_, TE, TR>, ConfigurationError>
-        ensures request { IfOk result (λ request. IsSomeAnd self.now.token_uri
-            (λ endpoint. request ≡ code_request_at self.now code endpoint)) }
-        ensures unset { IfErr result (λ error. self.now.token_uri ≡ None) }
-        ensures missing { IfErr result (IsMissing (codes "token")) }
-    {
-        match self.token_uri() {
-            Some(endpoint) => Ok(self.code_request_at(alloc, endpoint, code)),
-            None => Err(ConfigurationError::MissingUrl("token")),
-        }
-    }
-}
-
-impl<
-    AC,
-    AD,
-    GC,
-    JE: JweContentEncryptionAlgorithm,
-    K: JsonWebKey,
-    P,
-    TE,
-    TR,
-    TIR,
-    RT,
-    TRE,
-    Auth: EndpointState,
-    Device: EndpointState,
-    Introspection: EndpointState,
-    Revocation: EndpointState,
-    Token: EndpointState,
-> Client<
-    AC,
-    AD,
-    GC,
-    JE,
-    K,
-    P,
-    TE,
-    TR,
-    TIR,
-    RT,
-    TRE,
-    Auth,
-    Device,
-    Introspection,
-    Revocation,
-    Token,
-    EndpointSet,
-> {
-    /// The request for user info (OpenID Connect Core 1.0 section 5.3.1) with an access token, for answers that
-    /// needn't be signed and are about the expected subject, where there is one. It takes no memory.
-    pub fn user_info(
-        &self,
-        access_token: AccessToken,
-        expected_subject: Option<SubjectIdentifier>,
-    ) -> UserInfoRequest<'_, JE, K>
-        ensures request { IsSomeAnd self.now.user_info_url
-            (λ url. result ≡ info_request_at self.now access_token expected_subject url) }
-    {
-        self.info_request_at(self.user_info_url(), access_token, expected_subject)
-    }
-}
-
-impl<
-    AC,
-    AD,
-    GC,
-    JE: JweContentEncryptionAlgorithm,
-    K: JsonWebKey,
-    P,
-    TE,
-    TR,
-    TIR,
-    RT,
-    TRE,
-    Auth: EndpointState,
-    Device: EndpointState,
-    Introspection: EndpointState,
-    Revocation: EndpointState,
-    Token: EndpointState,
-> Client<
-    AC,
-    AD,
-    GC,
-    JE,
-    K,
-    P,
-    TE,
-    TR,
-    TIR,
-    RT,
-    TRE,
-    Auth,
-    Device,
-    Introspection,
-    Revocation,
-    Token,
-    EndpointMaybeSet,
-> {
-    /// The request for user info (OpenID Connect Core 1.0 section 5.3.1) with an access token, for answers that
-    /// needn't be signed and are about the expected subject, where there is one. `MissingUrl("user info")`
-    /// exactly where that endpoint isn't set. It takes no memory.
-    pub fn user_info(
-        &self,
-        access_token: AccessToken,
-        expected_subject: Option<SubjectIdentifier>,
-    ) -> Result<UserInfoRequest<'_, JE, K>, ConfigurationError>
-        ensures request { IfOk result (λ request. IsSomeAnd self.now.user_info_url
-            (λ url. request ≡ info_request_at self.now access_token expected_subject url)) }
-        ensures unset { IfErr result (λ error. self.now.user_info_url ≡ None) }
-        ensures missing { IfErr result (IsMissing (codes "user info")) }
-    {
-        match self.user_info_url() {
-            Some(endpoint) => { Ok(self.info_request_at(endpoint, access_token, expected_subject)) }
-            None => Err(ConfigurationError::MissingUrl("user info")),
-        }
     }
 }

@@ -13,7 +13,7 @@ ghost use Rattle.oidc_tokens.specs.Hashes as spec;
 ghost use Rattle.oidc_tokens.specs.Hashes.{GivesHash, hashing};
 ghost use Rattle.oidc_tokens.specs.Verification.{Accepts};
 ghost use Rattle.oidc_tokens.specs.Signatures.{SeenVerifier, meanings};
-ghost use Rattle.oidc_id_token_claims.specs.RoundTrip.{IsInRange};
+ghost use Rattle.oidc_id_token_claims.specs.RoundTrip.{IsTokenInRange};
 ghost use Rattle.oidc_tokens.specs.Issuing.{IsUnissued, Expects};
 
 use crate::hashes::{from_code, from_token};
@@ -39,7 +39,8 @@ impl<
     /// Where the additional claims hold no float, the whole token or refusal is the one that the
     /// definitions say. Whatever they hold, it is refused as `UnsupportedAlg` where a hash is wanted that
     /// doesn't exist under the verification key, else as the signer refuses a message with the token's
-    /// header, or as `Memory`.
+    /// header, or as `Memory`. The text is read back as this token where the claims are in range and the
+    /// algorithm is read back from its own text, which isn't `none`.
     pub fn new<S: PrivateSigningKey>(
         alloc: Global,
         claims: IdTokenClaims<AC, GC>,
@@ -82,8 +83,9 @@ impl<
             let header = written_header (JS.as_ref alg) (S.VerificationKey.key_id checker) in
             IfErr result (IsUnissued hashed header (S.signs key.now alg)) }
 
-        // What is issued is read back as it is, and whoever expects these claims accepts it.
-        ensures reads_back { IsNamed JS.as_ref JS.from_str alg → IsInRange AC.write_of claims
+        // What is issued is read back where its algorithm is, and whoever expects these claims
+        // accepts it.
+        ensures reads_back { IsNamed JS.as_ref JS.from_str alg → IsTokenInRange AC.write_of claims
             → IfOk result (λ token. token_of JE.from_str JS.from_str
             (id_token_claims_of AC.read_of GC.read_of) token.text ≡ Ok token) }
         ensures accepted { let k = meanings S.VerificationKey.JsonWebKey

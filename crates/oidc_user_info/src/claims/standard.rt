@@ -37,17 +37,12 @@ impl<AC: AdditionalClaims, GC: GenderClaim> UserInfoClaims<AC, GC> {
     }
 
     /// Changes `name` alone.
-    pub fn set_name(self, name: Option<LocalizedClaim<EndUserName>>) -> Self
+    pub fn set_name(mut self, name: Option<LocalizedClaim<EndUserName>>) -> Self
         ensures { let standard = record self.standard_claims { name = name } in
             result ≡ record self { standard_claims = standard } }
     {
-        let standard_claims = self.standard_claims.set_name(name);
-        UserInfoClaims {
-            issuer: self.issuer,
-            audiences: self.audiences,
-            standard_claims,
-            additional_claims: self.additional_claims,
-        }
+        self.standard_claims = self.standard_claims.set_name(name);
+        self
     }
 
     /// `given_name`: the given names.
@@ -58,17 +53,12 @@ impl<AC: AdditionalClaims, GC: GenderClaim> UserInfoClaims<AC, GC> {
     }
 
     /// Changes `given_name` alone.
-    pub fn set_given_name(self, given_name: Option<LocalizedClaim<EndUserGivenName>>) -> Self
+    pub fn set_given_name(mut self, given_name: Option<LocalizedClaim<EndUserGivenName>>) -> Self
         ensures { let standard = record self.standard_claims { given_name = given_name } in
             result ≡ record self { standard_claims = standard } }
     {
-        let standard_claims = self.standard_claims.set_given_name(given_name);
-        UserInfoClaims {
-            issuer: self.issuer,
-            audiences: self.audiences,
-            standard_claims,
-            additional_claims: self.additional_claims,
-        }
+        self.standard_claims = self.standard_claims.set_given_name(given_name);
+        self
     }
 
     /// `family_name`: the family names.
@@ -79,17 +69,12 @@ impl<AC: AdditionalClaims, GC: GenderClaim> UserInfoClaims<AC, GC> {
     }
 
     /// Changes `family_name` alone.
-    pub fn set_family_name(self, family_name: Option<LocalizedClaim<EndUserFamilyName>>) -> Self
+    pub fn set_family_name(mut self, family_name: Option<LocalizedClaim<EndUserFamilyName>>) -> Self
         ensures { let standard = record self.standard_claims { family_name = family_name } in
             result ≡ record self { standard_claims = standard } }
     {
-        let standard_claims = self.standard_claims.set_family_name(family_name);
-        UserInfoClaims {
-            issuer: self.issuer,
-            audiences: self.audiences,
-            standard_claims,
-            additional_claims: self.additional_claims,
-        }
+        self.standard_claims = self.standard_claims.set_family_name(family_name);
+        self
     }
 
     /// `middle_name`: the middle names.
@@ -100,17 +85,12 @@ impl<AC: AdditionalClaims, GC: GenderClaim> UserInfoClaims<AC, GC> {
     }
 
     /// Changes `middle_name` alone.
-    pub fn set_middle_name(self, middle_name: Option<LocalizedClaim<EndUserMiddleName>>) -> Self
+    pub fn set_middle_name(mut self, middle_name: Option<LocalizedClaim<EndUserMiddleName>>) -> Self
         ensures { let standard = record self.standard_claims { middle_name = middle_name } in
             result ≡ record self { standard_claims = standard } }
     {
-        let standard_claims = self.standard_claims.set_middle_name(middle_name);
-        UserInfoClaims {
-            issuer: self.issuer,
-            audiences: self.audiences,
-            standard_claims,
-            additional_claims: self.additional_claims,
-        }
+        self.standard_claims = self.standard_claims.set_middle_name(middle_name);
+        self
     }
 
     /// `nickname`: a casual name.
@@ -121,17 +101,12 @@ impl<AC: AdditionalClaims, GC: GenderClaim> UserInfoClaims<AC, GC> {
     }
 
     /// Changes `nickname` alone.
-    pub fn set_nickname(self, nickname: Option<LocalizedClaim<EndUserNickname>>) -> Self
+    pub fn set_nickname(mut self, nickname: Option<LocalizedClaim<EndUserNickname>>) -> Self
         ensures { let standard = record self.standard_claims { nickname = nickname } in
             result ≡ record self { standard_claims = standard } }
     {
-        let standard_claims = self.standard_claims.set_nickname(nickname);
-        UserInfoClaims {
-            issuer: self.issuer,
-            audiences: self.audiences,
-            standard_claims,
-            additional_claims: self.additional_claims,
-        }
+        self.standard_claims = self.standard_claims.set_nickname(nickname);
+        self
     }
 
     /// `preferred_username`: the short name by which the user wants to be called. It need not be unique.
@@ -142,7 +117,7 @@ impl<AC: AdditionalClaims, GC: GenderClaim> UserInfoClaims<AC, GC> {
     }
 
     /// Changes `preferred_username` alone.
-    pub fn set_preferred_username(self, preferred_username: Option<EndUserUsername>) -> Self
+    pub fn set_preferred_username(mut self, preferred_username: Option<EndUserUsername>) -> Self
         ensures { let standard =
             record self.standard_claims { preferred_username = preferred_username } in
             result ≡ record self { standard_claims = standard } }
@@ -166,17 +141,12 @@ impl<AC: AdditionalClaims, GC: GenderClaim> UserInfoClaims<AC, GC> {
     }
 
     /// Changes `profile` alone.
-    pub fn set_profile(self, profile: Option<LocalizedClaim<EndUserProfileUrl>>) -> Self
+    pub fn set_profile(mut self, profile: Option<LocalizedClaim<EndUserProfileUrl>>) -> Self
         ensures { let standard = record self.standard_claims { profile = profile } in
             result ≡ record self { standard_claims = standard } }
     {
-        let standard_claims = self.standard_claims.set_profile(profile);
-        UserInfoClaims {
-            issuer: self.issuer,
-            audiences: self.audiences,
-            standard_claims,
-            additional_claims: self.additional_claims,
-        }
+        self.standard_claims = self.standard_claims.set_profile(profile);
+        self
     }
 
     /// `picture`: the address of the user's picture.
@@ -187,17 +157,12 @@ impl<AC: AdditionalClaims, GC: GenderClaim> UserInfoClaims<AC, GC> {
     }
 
     /// Changes `picture` alone.
-    pub fn set_picture(self, picture: Option<LocalizedClaim<EndUserPictureUrl>>) -> Self
+    pub fn set_picture(mut self, picture: Option<LocalizedClaim<EndUserPictureUrl>>) -> Self
         ensures { let standard = record self.standard_claims { picture = picture } in
             result ≡ record self { standard_claims = standard } }
     {
-        let standard_claims = self.standard_claims.set_picture(picture);
-        UserInfoClaims {
-            issuer: self.issuer,
-            audiences: self.audiences,
-            standard_claims,
-            additional_claims: self.additional_claims,
-        }
+        self.standard_claims = self.standard_claims.set_picture(picture);
+        self
     }
 
     /// `website`: the address of the user's web page.
@@ -208,17 +173,12 @@ impl<AC: AdditionalClaims, GC: GenderClaim> UserInfoClaims<AC, GC> {
     }
 
     /// Changes `website` alone.
-    pub fn set_website(self, website: Option<LocalizedClaim<EndUserWebsiteUrl>>) -> Self
+    pub fn set_website(mut self, website: Option<LocalizedClaim<EndUserWebsiteUrl>>) -> Self
         ensures { let standard = record self.standard_claims { website = website } in
             result ≡ record self { standard_claims = standard } }
     {
-        let standard_claims = self.standard_claims.set_website(website);
-        UserInfoClaims {
-            issuer: self.issuer,
-            audiences: self.audiences,
-            standard_claims,
-            additional_claims: self.additional_claims,
-        }
+        self.standard_claims = self.standard_claims.set_website(website);
+        self
     }
 
     /// `email`: the e-mail address. It need not be unique.
@@ -229,17 +189,12 @@ impl<AC: AdditionalClaims, GC: GenderClaim> UserInfoClaims<AC, GC> {
     }
 
     /// Changes `email` alone.
-    pub fn set_email(self, email: Option<EndUserEmail>) -> Self
+    pub fn set_email(mut self, email: Option<EndUserEmail>) -> Self
         ensures { let standard = record self.standard_claims { email = email } in
             result ≡ record self { standard_claims = standard } }
     {
-        let standard_claims = self.standard_claims.set_email(email);
-        UserInfoClaims {
-            issuer: self.issuer,
-            audiences: self.audiences,
-            standard_claims,
-            additional_claims: self.additional_claims,
-        }
+        self.standard_claims = self.standard_claims.set_email(email);
+        self
     }
 
     /// `email_verified`: whether the provider has verified the e-mail address.
@@ -250,17 +205,12 @@ impl<AC: AdditionalClaims, GC: GenderClaim> UserInfoClaims<AC, GC> {
     }
 
     /// Changes `email_verified` alone.
-    pub fn set_email_verified(self, email_verified: Option<bool>) -> Self
+    pub fn set_email_verified(mut self, email_verified: Option<bool>) -> Self
         ensures { let standard = record self.standard_claims { email_verified = email_verified } in
             result ≡ record self { standard_claims = standard } }
     {
-        let standard_claims = self.standard_claims.set_email_verified(email_verified);
-        UserInfoClaims {
-            issuer: self.issuer,
-            audiences: self.audiences,
-            standard_claims,
-            additional_claims: self.additional_claims,
-        }
+        self.standard_claims = self.standard_claims.set_email_verified(email_verified);
+        self
     }
 
     /// `gender`: the gender.
@@ -271,17 +221,12 @@ impl<AC: AdditionalClaims, GC: GenderClaim> UserInfoClaims<AC, GC> {
     }
 
     /// Changes `gender` alone.
-    pub fn set_gender(self, gender: Option<GC>) -> Self
+    pub fn set_gender(mut self, gender: Option<GC>) -> Self
         ensures { let standard = record self.standard_claims { gender = gender } in
             result ≡ record self { standard_claims = standard } }
     {
-        let standard_claims = self.standard_claims.set_gender(gender);
-        UserInfoClaims {
-            issuer: self.issuer,
-            audiences: self.audiences,
-            standard_claims,
-            additional_claims: self.additional_claims,
-        }
+        self.standard_claims = self.standard_claims.set_gender(gender);
+        self
     }
 
     /// `birthday`: the day of birth, under the name that some providers send for `birthdate`.
@@ -292,17 +237,12 @@ impl<AC: AdditionalClaims, GC: GenderClaim> UserInfoClaims<AC, GC> {
     }
 
     /// Changes `birthday` alone.
-    pub fn set_birthday(self, birthday: Option<EndUserBirthday>) -> Self
+    pub fn set_birthday(mut self, birthday: Option<EndUserBirthday>) -> Self
         ensures { let standard = record self.standard_claims { birthday = birthday } in
             result ≡ record self { standard_claims = standard } }
     {
-        let standard_claims = self.standard_claims.set_birthday(birthday);
-        UserInfoClaims {
-            issuer: self.issuer,
-            audiences: self.audiences,
-            standard_claims,
-            additional_claims: self.additional_claims,
-        }
+        self.standard_claims = self.standard_claims.set_birthday(birthday);
+        self
     }
 
     /// `birthdate`: the day of birth, as `YYYY-MM-DD` or `YYYY`.
@@ -313,17 +253,12 @@ impl<AC: AdditionalClaims, GC: GenderClaim> UserInfoClaims<AC, GC> {
     }
 
     /// Changes `birthdate` alone.
-    pub fn set_birthdate(self, birthdate: Option<EndUserBirthday>) -> Self
+    pub fn set_birthdate(mut self, birthdate: Option<EndUserBirthday>) -> Self
         ensures { let standard = record self.standard_claims { birthdate = birthdate } in
             result ≡ record self { standard_claims = standard } }
     {
-        let standard_claims = self.standard_claims.set_birthdate(birthdate);
-        UserInfoClaims {
-            issuer: self.issuer,
-            audiences: self.audiences,
-            standard_claims,
-            additional_claims: self.additional_claims,
-        }
+        self.standard_claims = self.standard_claims.set_birthdate(birthdate);
+        self
     }
 
     /// `zoneinfo`: the time zone.
@@ -334,17 +269,12 @@ impl<AC: AdditionalClaims, GC: GenderClaim> UserInfoClaims<AC, GC> {
     }
 
     /// Changes `zoneinfo` alone.
-    pub fn set_zoneinfo(self, zoneinfo: Option<EndUserTimezone>) -> Self
+    pub fn set_zoneinfo(mut self, zoneinfo: Option<EndUserTimezone>) -> Self
         ensures { let standard = record self.standard_claims { zoneinfo = zoneinfo } in
             result ≡ record self { standard_claims = standard } }
     {
-        let standard_claims = self.standard_claims.set_zoneinfo(zoneinfo);
-        UserInfoClaims {
-            issuer: self.issuer,
-            audiences: self.audiences,
-            standard_claims,
-            additional_claims: self.additional_claims,
-        }
+        self.standard_claims = self.standard_claims.set_zoneinfo(zoneinfo);
+        self
     }
 
     /// `locale`: the locale.
@@ -355,17 +285,12 @@ impl<AC: AdditionalClaims, GC: GenderClaim> UserInfoClaims<AC, GC> {
     }
 
     /// Changes `locale` alone.
-    pub fn set_locale(self, locale: Option<LanguageTag>) -> Self
+    pub fn set_locale(mut self, locale: Option<LanguageTag>) -> Self
         ensures { let standard = record self.standard_claims { locale = locale } in
             result ≡ record self { standard_claims = standard } }
     {
-        let standard_claims = self.standard_claims.set_locale(locale);
-        UserInfoClaims {
-            issuer: self.issuer,
-            audiences: self.audiences,
-            standard_claims,
-            additional_claims: self.additional_claims,
-        }
+        self.standard_claims = self.standard_claims.set_locale(locale);
+        self
     }
 
     /// `phone_number`: the telephone number.
@@ -376,17 +301,12 @@ impl<AC: AdditionalClaims, GC: GenderClaim> UserInfoClaims<AC, GC> {
     }
 
     /// Changes `phone_number` alone.
-    pub fn set_phone_number(self, phone_number: Option<EndUserPhoneNumber>) -> Self
+    pub fn set_phone_number(mut self, phone_number: Option<EndUserPhoneNumber>) -> Self
         ensures { let standard = record self.standard_claims { phone_number = phone_number } in
             result ≡ record self { standard_claims = standard } }
     {
-        let standard_claims = self.standard_claims.set_phone_number(phone_number);
-        UserInfoClaims {
-            issuer: self.issuer,
-            audiences: self.audiences,
-            standard_claims,
-            additional_claims: self.additional_claims,
-        }
+        self.standard_claims = self.standard_claims.set_phone_number(phone_number);
+        self
     }
 
     /// `phone_number_verified`: whether the provider has verified the telephone number.
@@ -397,7 +317,7 @@ impl<AC: AdditionalClaims, GC: GenderClaim> UserInfoClaims<AC, GC> {
     }
 
     /// Changes `phone_number_verified` alone.
-    pub fn set_phone_number_verified(self, phone_number_verified: Option<bool>) -> Self
+    pub fn set_phone_number_verified(mut self, phone_number_verified: Option<bool>) -> Self
         ensures { let flag = phone_number_verified in
             let standard = record self.standard_claims { phone_number_verified = flag } in
             result ≡ record self { standard_claims = standard } }
@@ -421,17 +341,12 @@ impl<AC: AdditionalClaims, GC: GenderClaim> UserInfoClaims<AC, GC> {
     }
 
     /// Changes `address` alone.
-    pub fn set_address(self, address: Option<AddressClaim>) -> Self
+    pub fn set_address(mut self, address: Option<AddressClaim>) -> Self
         ensures { let standard = record self.standard_claims { address = address } in
             result ≡ record self { standard_claims = standard } }
     {
-        let standard_claims = self.standard_claims.set_address(address);
-        UserInfoClaims {
-            issuer: self.issuer,
-            audiences: self.audiences,
-            standard_claims,
-            additional_claims: self.additional_claims,
-        }
+        self.standard_claims = self.standard_claims.set_address(address);
+        self
     }
 
     /// `updated_at`: when the user's claims were last changed.
@@ -443,17 +358,12 @@ impl<AC: AdditionalClaims, GC: GenderClaim> UserInfoClaims<AC, GC> {
     }
 
     /// Changes `updated_at` alone.
-    pub fn set_updated_at(self, updated_at: Option<Timestamp>) -> Self
+    pub fn set_updated_at(mut self, updated_at: Option<Timestamp>) -> Self
         ensures { let moment = option_map (λ moment. moment.nanosecond) updated_at in
             let standard = record self.standard_claims { updated_at = moment } in
             result ≡ record self { standard_claims = standard } }
     {
-        let standard_claims = self.standard_claims.set_updated_at(updated_at);
-        UserInfoClaims {
-            issuer: self.issuer,
-            audiences: self.audiences,
-            standard_claims,
-            additional_claims: self.additional_claims,
-        }
+        self.standard_claims = self.standard_claims.set_updated_at(updated_at);
+        self
     }
 }

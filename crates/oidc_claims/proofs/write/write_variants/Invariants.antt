@@ -1,6 +1,7 @@
 use Rattle.std.proofs.Common.{◌≡◌, ◌++◌, map}
 use Rattle.oidc_types.specs.{entries_left}
-use Rattle.oidc_claims.specs.Write.{variant_member, KeepsUtf8}
+use Rattle.oidc_readers.specs.WrittenBack.{KeepsUtf8}
+use Rattle.oidc_claims.specs.Write.{variant_member}
 use Rattle.oidc_claims.proofs.write.write_variants.Given as goal
 
 abbrev pub invariant-loop-tag : goal.invariant-loop-tag

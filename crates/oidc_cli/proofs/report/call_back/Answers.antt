@@ -1,9 +1,10 @@
 use Rattle.std.proofs.Common.{◌≡◌, Some, refl, sym, ap, subst, ◌∙◌}
 use Rattle.oidc_oauth2.specs.Recorded.{SeenRecorded}
 use Rattle.oidc_oauth2.specs.Transport.{Log}
-use Rattle.oidc_login.specs.Errors.{reply_of}
+use Rattle.oidc_oauth2.specs.Exchanges.{Run}
+use Rattle.oidc_login.specs.Errors.{Error, seen_reply}
 use Rattle.oidc_login.specs.Events.{called_with}
-use Rattle.oidc_login.specs.Rows.{Run, outcome, callback_store}
+use Rattle.oidc_login.specs.Rows.{outcome, callback_store}
 use Rattle.oidc_login.specs.Runs.{attempt}
 use Rattle.oidc_cli.specs.Types.{types, SeenSignedIn}
 use Rattle.oidc_cli.specs.ReportLines.{HasNoFloats}
@@ -22,9 +23,9 @@ returns-clause-reply c =
     ≡ outcome types (called_with c.args.logins.now.client c.args.logins.now.pending (call_of_line c.args.line)) c.args.line.answers = rw (query, now, left) refl in
     let ran = c.callback-reply.ensures.ran in
     if_replied _ _ c.replied_with.ensures.reply c.replied_with.ensures.memory (λ replied is memory.
-    ap reply_of is
-    ∙ recorded_reply _ _ _ _ ran c.new-http.result.left refl (holds _ _ memory ran.all_sent) (holds _ _ memory ran.reply)
-    ∙ ap (λ (r : Run SeenSignedIn). r.reply) meant)
+    ap seen_reply is
+    ∙ recorded_reply _ _ _ _ ran c.new-http.result.left refl (holds _ _ memory ran.exchanged.all_sent) (holds _ _ memory ran.exchanged.reply)
+    ∙ ap (λ (r : Run SeenSignedIn Error). r.reply) meant)
 
 pub returns-clause-sent : goal.returns-clause-sent
 returns-clause-sent c =
@@ -39,14 +40,14 @@ returns-clause-sent c =
     if_replied _ _ c.replied_with.ensures.http c.replied_with.ensures.memory (λ replied is memory.
     ap (λ (h : SeenRecorded). h.requests) is
     ∙ recorded_sent _ _ _ _ ran c.new-http.result.left log refl (ap Some (λ i. record { requests = c.new-http.ensures.requests i; answers = c.new-http.ensures.given i })) refl
-    (holds _ _ memory ran.all_sent)
-    ∙ ap (λ (r : Run SeenSignedIn). r.sent) meant)
+    (holds _ _ memory ran.exchanged.all_sent)
+    ∙ ap (λ (r : Run SeenSignedIn Error). r.sent) meant)
 
 pub returns-clause-no_floats : goal.returns-clause-no_floats
 returns-clause-no_floats c =
     let ran = c.callback-reply.ensures.ran in
-    if_replied c.replied_with.result (λ replied. HasNoFloats (reply_of replied.reply)) c.replied_with.ensures.reply c.replied_with.ensures.memory (λ replied is memory.
-    subst HasNoFloats (sym (ap reply_of is)) (no_floats _ ran.answers c.callback-reply.result ran.signed_in))
+    if_replied c.replied_with.result (λ replied. HasNoFloats (seen_reply replied.reply)) c.replied_with.ensures.reply c.replied_with.ensures.memory (λ replied is memory.
+    subst HasNoFloats (sym (ap seen_reply is)) (no_floats _ ran.exchanged.answers c.callback-reply.result ran.signed_in))
 
 pub returns-clause-store : goal.returns-clause-store
 returns-clause-store c =

@@ -1,8 +1,5 @@
-use Rattle.std.proofs.Common.{◌<◌, ◌≤◌, length, codes, refl, arith}
-use Rattle.std.specs.FinMap as finite
-use Rattle.oidc_cli.specs.Script.{limit, lines, fault_from}
-use Rattle.oidc_cli.specs.Report.{client_of, rest_of_report}
-use Rattle.oidc_cli.proofs.Passing.{prefix_front, on_err, on_ok_behind, on_err_behind, risen_before}
+use Rattle.std.proofs.Common.{◌<◌, ◌≤◌, length, refl, arith}
+use Rattle.oidc_cli.specs.Script.{limit, lines}
 use Rattle.oidc_cli.proofs.Steps.{too_long_report, too_long_fault, fault_alone, no_lines_fault, no_client_fault, with_client_report, with_client_fault}
 use Rattle.oidc_cli.proofs.report.put_report.Goals as goal
 
@@ -53,40 +50,23 @@ returns-in_default-client_line_of-clause-begun g c =
     (c.in_default-client_line_of.ensures.none refl)))
     c.put_fault-in_default-client_line_of.ensures.begun
 
-pub returns-in_err-put_line-clause-begun : goal.returns-in_err-put_line-clause-begun
-returns-in_err-put_line-clause-begun g c =
-    let short : length c.args.script.now ≤ limit = omega arith in
-    let client = c.in-Some-client_line_of.client in
-    let e = with_client_report c.args.script.now c.in-Some.line.now (lines c.in-Some.rest.now) c.in_ok-read_line.field-0 client short c.in-Some.ensures.first c.in_ok-read_line.ensures
-    c.in-Some-client_line_of.ensures.found in
-    rw e (on_err _ _ (prefix_front _ _ (codes "client ok\n") (rest_of_report (client_of client) finite.empty 2 (lines c.in-Some.rest.now) (fault_from 2 (lines c.in-Some.rest.now))) c.in_err-put_line.ensures.begun))
-
 pub returns-clause-ending : goal.returns-clause-ending
 returns-clause-ending g c =
     let short : length c.args.script.now ≤ limit = omega arith in
     rw (with_client_fault c.args.script.now c.in-Some.line.now (lines c.in-Some.rest.now) c.in_ok-read_line.field-0 c.in-Some-client_line_of.client short c.in-Some.ensures.first
     c.in_ok-read_line.ensures c.in-Some-client_line_of.ensures.found)
-    c.put_steps.ensures.ending
+    c.put_client-put.ensures.ending
 
 pub returns-clause-whole : goal.returns-clause-whole
 returns-clause-whole g c =
     let short : length c.args.script.now ≤ limit = omega arith in
-    let client = c.in-Some-client_line_of.client in
-    let e = with_client_report c.args.script.now c.in-Some.line.now (lines c.in-Some.rest.now) c.in_ok-read_line.field-0 client short c.in-Some.ensures.first c.in_ok-read_line.ensures
-    c.in-Some-client_line_of.ensures.found in
-    rw e (on_ok_behind c.put_steps.result (g.O.Sink.written c.args.sink.now) (g.O.Sink.written c.put_line.new.sink) (g.O.Sink.written c.put_steps.new.sink)
-    (codes "client ok\n") (rest_of_report (client_of client) finite.empty 2 (lines c.in-Some.rest.now) (fault_from 2 (lines c.in-Some.rest.now))) c.in_ok-put_line.ensures.whole
-    (rw c.client_of-client.ensures at c.put_steps.ensures.whole))
+    rw (with_client_report c.args.script.now c.in-Some.line.now (lines c.in-Some.rest.now) c.in_ok-read_line.field-0 c.in-Some-client_line_of.client short c.in-Some.ensures.first
+    c.in_ok-read_line.ensures c.in-Some-client_line_of.ensures.found)
+    (rw c.client_of-client.ensures at c.put_client-put.ensures.whole)
 
 pub returns-clause-begun : goal.returns-clause-begun
 returns-clause-begun g c =
     let short : length c.args.script.now ≤ limit = omega arith in
-    let client = c.in-Some-client_line_of.client in
-    let e = with_client_report c.args.script.now c.in-Some.line.now (lines c.in-Some.rest.now) c.in_ok-read_line.field-0 client short c.in-Some.ensures.first c.in_ok-read_line.ensures
-    c.in-Some-client_line_of.ensures.found in
-    rw e (on_err_behind c.put_steps.result (g.O.Sink.written c.args.sink.now) (g.O.Sink.written c.put_line.new.sink) (g.O.Sink.written c.put_steps.new.sink)
-    (codes "client ok\n") (rest_of_report (client_of client) finite.empty 2 (lines c.in-Some.rest.now) (fault_from 2 (lines c.in-Some.rest.now))) c.in_ok-put_line.ensures.whole
-    (rw c.client_of-client.ensures at c.put_steps.ensures.begun))
-
-pub returns-clause-blamed : goal.returns-clause-blamed
-returns-clause-blamed g c = λ fault. risen_before _ _ _ c.in_ok-put_line.ensures.counts (c.put_steps.ensures.blamed fault)
+    rw (with_client_report c.args.script.now c.in-Some.line.now (lines c.in-Some.rest.now) c.in_ok-read_line.field-0 c.in-Some-client_line_of.client short c.in-Some.ensures.first
+    c.in_ok-read_line.ensures c.in-Some-client_line_of.ensures.found)
+    (rw c.client_of-client.ensures at c.put_client-put.ensures.begun)

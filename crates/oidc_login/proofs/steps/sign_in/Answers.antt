@@ -1,17 +1,18 @@
-use Rattle.std.proofs.Common.{ap}
+use Rattle.std.proofs.Common.{refl, ap}
 use Rattle.oidc_login.specs.Logins.{SeenLogin}
+use Rattle.oidc_oauth2.proofs.Runs.{memory_first}
 use Rattle.oidc_login.proofs.Drives as drives
 use Rattle.oidc_login.proofs.steps.sign_in.Goals as goal
 
 pub returns-in_default-clause-follows : goal.returns-in_default-clause-follows
-returns-in_default-clause-follows g c = drives.memory_first _ _ _ c.in_default.ensures.exchanged
+returns-in_default-clause-follows g c = memory_first _ _ _ _ _ refl c.in_default.ensures.exchanged
 
-pub returns-in-Ok-after_token-clause-follows : goal.returns-in-Ok-after_token-clause-follows
-returns-in-Ok-after_token-clause-follows g c =
+pub returns-in-Ok-checked-clause-follows : goal.returns-in-Ok-checked-clause-follows
+returns-in-Ok-checked-clause-follows g c =
     drives.opened_followed _ _ _ _ _ _ _ _ _ _ c.opened.view_is _ c.in-Ok.ensures.exchanged
-    (drives.token_followed _ _ c.opened.inside.login _ _ _ _ _ _ c.in-Ok-after_token.ensures.gives (ap (λ (l : SeenLogin). l.user_info) c.login.view_is) c.ask_info.ensures.follows)
+    (drives.token_followed _ _ c.opened.inside.login _ _ _ _ _ _ c.in-Ok-checked.ensures.gives (ap (λ (l : SeenLogin). l.user_info) c.login.view_is) c.ask_info.ensures.follows)
 
-pub returns-clause-follows : goal.returns-clause-follows
-returns-clause-follows g c =
+pub returns-in-Err-clause-follows : goal.returns-in-Err-clause-follows
+returns-in-Err-clause-follows g c =
     drives.opened_followed _ _ _ _ _ _ _ _ _ _ c.opened.view_is _ c.in-Ok.ensures.exchanged
     (drives.token_refused _ _ c.opened.inside.login _ _ _ c.in-Err.ensures.gives)

@@ -1,8 +1,10 @@
+use Rattle.std.proofs.Common.{refl}
+use Rattle.oidc_oauth2.proofs.Runs.{memory_first}
 use Rattle.oidc_login.proofs.Drives as drives
 use Rattle.oidc_login.proofs.user_info.exchange_info.Goals as goal
 
 pub returns-in_default-clause-follows : goal.returns-in_default-clause-follows
-returns-in_default-clause-follows g c = drives.memory_first _ _ _ c.in_default.ensures.exchanged
+returns-in_default-clause-follows g c = memory_first _ _ _ _ _ refl c.in_default.ensures.exchanged
 
 pub returns-clause-follows : goal.returns-clause-follows
 returns-clause-follows g c =

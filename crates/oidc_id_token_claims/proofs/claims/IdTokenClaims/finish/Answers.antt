@@ -1,7 +1,7 @@
 use Rattle.std.proofs.Common.{Ok, Err}
 use Rattle.oidc_readers.specs.Records.{◌>>=◌}
 use Rattle.oidc_claims.specs.Standard.{faultless_claims}
-use Rattle.oidc_id_token_claims.specs.OwnClaims.{own_of}
+use Rattle.oidc_id_token_claims.specs.TokenFields.{own_of}
 use Rattle.oidc_id_token_claims.specs.IdTokenClaims.{additional_members, parts_in}
 use Rattle.oidc_id_token_claims.proofs.ReadSteps.{stops, gives}
 use Rattle.oidc_id_token_claims.proofs.claims.IdTokenClaims.finish.Goals as goal

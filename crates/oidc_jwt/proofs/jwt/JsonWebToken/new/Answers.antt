@@ -5,7 +5,7 @@ use Rattle.oidc_jwt.specs.Encoded.{Encodes, IsReady}
 use Rattle.oidc_jwt.specs.Issuing.{IsHeadedBy, compact, signed_with}
 use Rattle.oidc_jwt.proofs.IssuedToken.{ready_message, issued_is, message_at, token_is}
 use Rattle.oidc_jwt.proofs.TokenBack.{token_again}
-use Rattle.oidc_jwt.proofs.FloatFree.{standing_free}
+use Rattle.oidc_readers.proofs.Theorems.{standing_free}
 use Rattle.oidc_jwt.proofs.jwt.JsonWebToken.new.Goals as goal
 
 pub invariant_of-result : goal.invariant_of-result

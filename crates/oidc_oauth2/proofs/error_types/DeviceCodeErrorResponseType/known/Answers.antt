@@ -1,6 +1,6 @@
 use Rattle.std.proofs.Common.{rules, sym}
 use Rattle.oidc_oauth2.specs.Words.{device_error_text, device_errors}
-use Rattle.oidc_oauth2.proofs.Unknown.{none_found}
+use Rattle.oidc_types.proofs.Theorems.{none_found}
 use Rattle.oidc_oauth2.proofs.error_types.DeviceCodeErrorResponseType.known.Goals as goal
 
 pub returns-in_default : goal.returns-in_default

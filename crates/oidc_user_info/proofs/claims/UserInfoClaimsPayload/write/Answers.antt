@@ -1,7 +1,7 @@
 use Rattle.std.proofs.Common.{sym, ap, ◌∙◌, subst, All}
 use Rattle.oidc_members.specs.Write.{any_float}
 use Rattle.oidc_readers.specs.WrittenBack.{IsUtf8Member}
-use Rattle.oidc_user_info.specs.RoundTrip.{GivesClaims}
+use Rattle.oidc_user_info.specs.RoundTrip.{GivesInfoClaims}
 use Rattle.oidc_user_info.proofs.ClaimsBack.{gives_claims, members_free}
 use Rattle.oidc_user_info.proofs.claims.UserInfoClaimsPayload.write.Goals as goal
 
@@ -15,7 +15,7 @@ returns g c =
       texts = c.in_ok-out.ensures.texts;
       no_float = λ free. ap any_float members ∙ members_free g.AC.AdditionalClaims.write_of g.GC.GenderClaim.write_of gender.written_is_value c.args.self.now free;
       reads_back = λ range.
-          subst (λ ms. GivesClaims g.AC.AdditionalClaims.read_of g.GC.GenderClaim.read_of ms c.args.self.now) (sym members)
+          subst (λ ms. GivesInfoClaims g.AC.AdditionalClaims.read_of g.GC.GenderClaim.read_of ms c.args.self.now) (sym members)
           (gives_claims g.AC.AdditionalClaims.read_of g.AC.AdditionalClaims.write_of g.GC.GenderClaim.read_of g.GC.GenderClaim.write_of additional.reads_back additional.stays_additional gender.reads_back
           gender.written_is_value c.args.self.now range (subst (All IsUtf8Member) members c.in_ok-out.ensures.texts));
     }
