@@ -17,7 +17,7 @@ use oidc_types::{
 };
 use std::alloc::Global;
 use std::process::Abort;
-use toy_keys::{ToyRsaKey, ToyRsaSigner};
+use test_keys::{ToyRsaKey, ToyRsaSigner};
 
 fn text(rt: &impl Abort, alloc: Global, text: &str) -> String {
     String::from_str(alloc, text).expect(rt, "memory")
