@@ -1,6 +1,6 @@
 //! Very many logins that pend at once.
 
-use crate::tests::login::{CoreLogins, client_of, request_of, verifier};
+use crate::login::{CoreLogins, client_of, request_of, verifier};
 use oidc_client::AuthenticationFlow;
 use oidc_login::{BeginError, LoginClient, Logins};
 use std::alloc::Global;

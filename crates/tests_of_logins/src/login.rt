@@ -1,7 +1,7 @@
 //! Logins over transports of the test's own, and begins with requests of other clients and flows. The verifier is that
 //! of RFC 7636, appendix B.
 
-use crate::tests::transports::{Down, Fleeting, TOKEN, echo};
+use crate::transports::{Down, Fleeting, TOKEN, echo};
 use jiff::Timestamp;
 use oidc_claims::{AllOtherClaims, EmptyAdditionalClaims};
 use oidc_client::{
