@@ -44,6 +44,8 @@ fn many_pending(rt: &impl Abort, alloc: Global) -> String {
     let again = begin_numbered(rt, alloc, &client, &mut logins, 1);
     let count = logins.pending();
     let (last, none) = (logins.is_pending("s300000"), logins.is_pending("s0"));
+    drop(logins);
+    drop(client);
     format!(in alloc; "{count} {last} {none} {again:?}").expect(rt, "memory")
 }
 
