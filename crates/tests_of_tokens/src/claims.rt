@@ -227,12 +227,14 @@ fn object_text(rt: &impl Abort, alloc: Global, members: &[OutMember]) -> String 
 fn token_text(rt: &impl Abort, alloc: Global) -> String {
     let claims = token_claims(rt, alloc);
     let members = claims.write(alloc).expect(rt, "memory");
+    drop(claims);
     object_text(rt, alloc, members.as_slice())
 }
 
 fn user_info_text(rt: &impl Abort, alloc: Global) -> String {
     let claims = user_info_claims(rt, alloc);
     let members = claims.write(alloc).expect(rt, "memory");
+    drop(claims);
     object_text(rt, alloc, members.as_slice())
 }
 

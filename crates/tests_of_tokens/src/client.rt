@@ -6,7 +6,7 @@ use oidc_client::{
     CoreProviderMetadata,
 };
 use oidc_keys::JsonWebKeySet;
-use oidc_oauth2::{AuthType, HttpRequest};
+use oidc_oauth2::{AuthType, CodeTokenRequest, HttpRequest};
 use oidc_types::{
     AccessToken, AuthorizationCode, ClientId, ClientSecret, CoreAuthDisplay, CoreAuthPrompt,
     CoreJwsSigningAlgorithm, CoreResponseType, CsrfToken, EndpointMaybeSet, EndpointNotSet,
@@ -73,9 +73,13 @@ fn ordered<'a>(
 fn order_line(rt: &impl Abort, alloc: Global, calls: &AtomicU64) -> String {
     let client = client(rt, alloc);
     let request = ordered(rt, alloc, &client, calls);
-    places(rt, alloc, &request, calls)
+    let line = places(rt, alloc, &request, calls);
+    drop(request);
+    drop(client);
+    line
 }
 
+// What `order_line` says of a request.
 fn places(
     rt: &impl Abort,
     alloc: Global,
@@ -131,9 +135,13 @@ fn request_of<'a>(
 fn url_length(rt: &impl Abort, alloc: Global, letters: usize) -> Option<usize> {
     let client = client(rt, alloc);
     let built = request_of(rt, alloc, &client, letters).url(alloc);
-    length_of(rt, &built)
+    let length = length_of(rt, &built);
+    drop(built);
+    drop(client);
+    length
 }
 
+// The length of a URL that was built, or none where it is too long.
 fn length_of(
     rt: &impl Abort,
     built: &Result<(Url, CsrfToken, Nonce), BuildUrlError>,
@@ -183,9 +191,8 @@ fn full_client(rt: &impl Abort, alloc: Global) -> FullClient {
         .set_auth_type(AuthType::RequestBody)
 }
 
-// The addresses of its endpoints, without the front that all have.
-fn endpoints_line(rt: &impl Abort, alloc: Global) -> String {
-    let client = full_client(rt, alloc);
+// The addresses of a client's endpoints, without the front that all have.
+fn endpoints_of(rt: &impl Abort, alloc: Global, client: &FullClient) -> String {
     let mut line = String::new(alloc);
     for address in [
         client.auth_uri().as_str(),
@@ -202,6 +209,13 @@ fn endpoints_line(rt: &impl Abort, alloc: Global) -> String {
     line
 }
 
+fn endpoints_line(rt: &impl Abort, alloc: Global) -> String {
+    let client = full_client(rt, alloc);
+    let line = endpoints_of(rt, alloc, &client);
+    drop(client);
+    line
+}
+
 #[test]
 fn endpoints_are_those_that_were_set(rt: HostRuntime) {
     assert_eq!(rt;
@@ -211,10 +225,17 @@ fn endpoints_are_those_that_were_set(rt: HostRuntime) {
 }
 
 // A request's address and body.
-fn request_line(rt: &impl Abort, alloc: Global, request: &HttpRequest) -> String {
+fn prepared_line<E, R>(
+    rt: &impl Abort,
+    alloc: Global,
+    request: &CodeTokenRequest<'_, E, R>,
+) -> String {
+    let request: HttpRequest = request.prepare(alloc).expect(rt, "a request");
     let address = request.address();
     let body = str::from_utf8(request.body().as_slice()).unwrap_or("no text");
-    format!(in alloc; "{address} {body}").expect(rt, "memory")
+    let line = format!(in alloc; "{address} {body}").expect(rt, "memory");
+    drop(request);
+    line
 }
 
 // The request that exchanges a code at a set endpoint.
@@ -222,7 +243,10 @@ fn exchange_line(rt: &impl Abort, alloc: Global) -> String {
     let client = full_client(rt, alloc);
     let code = AuthorizationCode::new(text(rt, alloc, "c1"));
     let request = client.exchange_code(alloc, code);
-    request_line(rt, alloc, &request.prepare(alloc).expect(rt, "a request"))
+    let line = prepared_line(rt, alloc, &request);
+    drop(request);
+    drop(client);
+    line
 }
 
 // RFC 6749 sections 2.3.1 and 4.1.3
@@ -244,14 +268,18 @@ fn authorization_line(rt: &impl Abort, alloc: Global, client: &Client) -> String
 
 fn without_openid(rt: &impl Abort, alloc: Global) -> String {
     let client = client(rt, alloc).disable_openid_scope();
-    authorization_line(rt, alloc, &client)
+    let line = authorization_line(rt, alloc, &client);
+    drop(client);
+    line
 }
 
 fn with_openid_again(rt: &impl Abort, alloc: Global) -> String {
     let client = client(rt, alloc)
         .disable_openid_scope()
         .enable_openid_scope();
-    authorization_line(rt, alloc, &client)
+    let line = authorization_line(rt, alloc, &client);
+    drop(client);
+    line
 }
 
 // OpenID Connect Core 1.0 section 3.1.2.1
@@ -325,13 +353,26 @@ fn metadata_client(
     MetadataClient::from_provider_metadata(metadata(rt, alloc, token, info), id, Some(secret))
 }
 
+// The address of a request.
+fn address_of<E, R>(
+    rt: &impl Abort,
+    alloc: Global,
+    request: &CodeTokenRequest<'_, E, R>,
+) -> String {
+    let request = request.prepare(alloc).expect(rt, "a request");
+    let address = text(rt, alloc, request.address());
+    drop(request);
+    address
+}
+
 // Where such a client sends a code.
 fn exchange_address(rt: &impl Abort, alloc: Global, client: &MetadataClient) -> String {
     let code = AuthorizationCode::new(text(rt, alloc, "c1"));
     match client.exchange_code(alloc, code) {
         Ok(request) => {
-            let request = request.prepare(alloc).expect(rt, "a request");
-            text(rt, alloc, request.address())
+            let address = address_of(rt, alloc, &request);
+            drop(request);
+            address
         }
         Err(error) => format!(in alloc; "{error}").expect(rt, "memory"),
     }
@@ -349,9 +390,10 @@ fn info_line(rt: &impl Abort, alloc: Global, client: &MetadataClient) -> String 
 // What such a client makes of a code, and of an access token. It has a verifier.
 fn requests_line(rt: &impl Abort, alloc: Global, has_token: bool, has_info: bool) -> String {
     let client = metadata_client(rt, alloc, has_token, has_info);
-    let _verifier = client.id_token_verifier(alloc).expect(rt, "memory");
+    drop(client.id_token_verifier(alloc).expect(rt, "memory"));
     let exchange = exchange_address(rt, alloc, &client);
     let info = info_line(rt, alloc, &client);
+    drop(client);
     format!(in alloc; "{exchange}, {info}").expect(rt, "memory")
 }
 

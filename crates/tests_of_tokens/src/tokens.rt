@@ -72,9 +72,12 @@ fn verdict(
 ) -> String {
     let token = CoreIdToken::from_str(alloc, token).expect(rt, "a token");
     let verdict = token.claims(alloc, verifier, WithoutNonce, now);
-    verdict_word(rt, alloc, &verdict)
+    let word = verdict_word(rt, alloc, &verdict);
+    drop(token);
+    word
 }
 
+// Whom the claims are about, or the refusal.
 fn verdict_word(
     rt: &impl Abort,
     alloc: Global,
@@ -104,6 +107,8 @@ fn verdicts(rt: &impl Abort, alloc: Global, nanosecond: i128) -> String {
         line.push_str(verdict.as_str()).expect(rt, "memory");
         line.push(' ').expect(rt, "memory");
     }
+    drop(verifier);
+    drop(parties);
     line
 }
 
@@ -182,7 +187,9 @@ fn issued(
 
 fn issued_text(rt: &impl Abort, alloc: Global) -> String {
     let token = issued(alloc, claims(rt, alloc), None).expect(rt, "a token");
-    token.to_string(alloc).expect(rt, "memory")
+    let text = token.to_string(alloc).expect(rt, "memory");
+    drop(token);
+    text
 }
 
 // What is said of a token's text at half a second before the whole second that its expiration is written as.
@@ -196,7 +203,9 @@ fn judged_line(
     let token = CoreIdToken::from_str(alloc, text).expect(rt, "a token");
     let audiences = token.token().unverified_payload().audiences().len();
     let judged = token.into_claims(alloc, verifier, WithoutNonce, now);
-    claims_line(rt, alloc, &judged, audiences)
+    let line = claims_line(rt, alloc, &judged, audiences);
+    drop(judged);
+    line
 }
 
 fn claims_line(
@@ -220,7 +229,10 @@ fn verdict_by(rt: &impl Abort, alloc: Global, keys: &[Toy<'_>]) -> String {
     let id = ClientId::new(text(rt, alloc, "a"));
     let issuer = issuer(rt, alloc);
     let verifier = IdTokenVerifier::new_public_client(&id, &issuer, &keys);
-    judged_line(rt, alloc, &verifier, issued_text(rt, alloc).as_str())
+    let line = judged_line(rt, alloc, &verifier, issued_text(rt, alloc).as_str());
+    drop(verifier);
+    drop(keys);
+    line
 }
 
 static KEYS: [(&[Toy<'static>], &str); 6] = [
@@ -263,7 +275,9 @@ fn refusal_word(
 fn refused_beside(rt: &impl Abort, alloc: Global) -> String {
     let access_token = AccessToken::new(text(rt, alloc, "abc"));
     let issued = issued(alloc, claims(rt, alloc), Some(&access_token));
-    refusal_word(rt, alloc, &issued)
+    let word = refusal_word(rt, alloc, &issued);
+    drop(issued);
+    word
 }
 
 // The toy has no hash, so a token beside an access token isn't issued.
@@ -290,9 +304,12 @@ fn tenant_text(rt: &impl Abort, alloc: Global, claims: &TenantClaims) -> String 
 fn tenant_line(rt: &impl Abort, alloc: Global, text: &str) -> String {
     let members = Members::split(alloc, text.as_bytes()).expect(rt, "an object");
     let read = TenantClaims::read(alloc, &members);
-    read_line(rt, alloc, &read)
+    let line = read_line(rt, alloc, &read);
+    drop(read);
+    line
 }
 
+// What was read, written, or the kind and the field of a refusal.
 fn read_line(rt: &impl Abort, alloc: Global, read: &Result<TenantClaims, ParseError>) -> String {
     match read {
         Ok(claims) => tenant_text(rt, alloc, claims),

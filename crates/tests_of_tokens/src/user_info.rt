@@ -122,6 +122,9 @@ fn asked(rt: &impl Abort, alloc: Global, len: usize, token: &str, given: Given) 
     let mut http = recorded(rt, alloc, given);
     let reply = reply(alloc, &endpoint, &parties, token, &mut http);
     let (sent, line) = (http.requests().len(), refusal(rt, alloc, &reply));
+    drop(reply);
+    drop(http);
+    drop(parties);
     format!(in alloc; "{sent} {line}").expect(rt, "memory")
 }
 
@@ -191,9 +194,12 @@ fn claims_text(rt: &impl Abort, alloc: Global, claims: &TenantClaims) -> String 
 // The claims of an object, written, or the kind and the field of a refusal.
 fn claims_line(rt: &impl Abort, alloc: Global, text: &str) -> String {
     let read = TenantClaims::from_json::<Fault>(alloc, text.as_bytes(), None);
-    read_line(rt, alloc, &read)
+    let line = read_line(rt, alloc, &read);
+    drop(read);
+    line
 }
 
+// What was read, written, or the kind and the field of a refusal.
 fn read_line(
     rt: &impl Abort,
     alloc: Global,

@@ -143,6 +143,9 @@ fn login_line(rt: &impl Abort, alloc: Global, id_token: &str, user_info: &[u8]) 
     let now = Timestamp::from_second(1000).expect(rt, "a moment");
     let reply = logins.callback(b"code=c1&state=CSRF123".as_slice(), &mut http, now);
     let line = verdict_line(alloc, &reply).expect(rt, "memory");
+    drop(reply);
+    drop(logins);
+    drop(client);
     format!(in alloc; "{} {line}", http.requests().len()).expect(rt, "memory")
 }
 
