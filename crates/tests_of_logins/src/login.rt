@@ -314,7 +314,12 @@ fn begins_with_requests_of_other_clients_and_flows(rt: HostRuntime) {
 }
 
 // The body of the token request of a login in the store of this client, which began with a request of the other.
-fn body_sent(rt: &impl Abort, alloc: Global, own: &LoginClient, other: &LoginClient) -> String {
+fn body_sent<'c>(
+    rt: &impl Abort,
+    alloc: Global,
+    own: &'c LoginClient,
+    other: &'c LoginClient,
+) -> String {
     let mut logins = Logins::new(alloc, own).expect(rt, "a token endpoint");
     begin(rt, alloc, other, &mut logins, None);
     let mut http = Recorded::new(alloc, Vec::new(alloc));
