@@ -28,8 +28,10 @@ mod field_name;
 mod float;
 mod member;
 mod objects;
+mod read;
 mod refusal;
 mod scan;
+mod sight;
 mod space;
 mod write;
 
