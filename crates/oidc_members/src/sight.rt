@@ -20,13 +20,18 @@ pub(crate) enum Scalar<'a> {
 fn is_plain(byte: u8) -> bool
     ensures { result ≡ is_plain_byte byte }
 {
-    byte >= 0x20 && byte != b'"' && byte != b'\\'
+    (byte >= 0x20) & (byte != b'"') & (byte != b'\\')
 }
 
+// It goes on to the end, so that LLVM tests many bytes at once.
 fn is_plain_text(bytes: &[u8]) -> bool
     ensures { result ≡ list_all is_plain_byte bytes.now }
 {
-    bytes.iter().all(|byte| is_plain(*byte))
+    let mut plain = true;
+    for byte in bytes {
+        plain = plain & is_plain(*byte);
+    }
+    plain
 }
 
 // The text of a string without escapes, where the bytes are one.
