@@ -23,7 +23,7 @@ fn is_plain(byte: u8) -> bool
     (byte >= 0x20) & (byte != b'"') & (byte != b'\\')
 }
 
-// It goes on to the end, so that LLVM tests many bytes at once.
+// Whether all bytes are plain. It goes on to the end, so that LLVM tests many at once.
 fn is_plain_text(bytes: &[u8]) -> bool
     ensures { result ≡ list_all is_plain_byte bytes.now }
 {
