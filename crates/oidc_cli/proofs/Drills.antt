@@ -9,7 +9,7 @@ use Rattle.oidc_login.specs.Rows.{Attempt, LoginRun, Meant, SeenOpened, SeenAske
 use Rattle.oidc_oauth2.specs.Transport.{first_answer}
 use Rattle.oidc_login.specs.Errors.{Error, seen_reply}
 use Rattle.oidc_login.specs.Events as runs
-use Rattle.oidc_login.specs.declared.demand.UserInfoDemand.{UserInfoDemand}
+use Rattle.oidc_login.specs.declared.types.UserInfoDemand.{UserInfoDemand}
 use Rattle.oidc_login.specs.declared.errors.LoginError.{LoginError}
 use Rattle.oidc_login.specs.declared.errors.LoginError.TheVariants as login
 use Rattle.oidc_cli.specs.Types.{types, SeenScriptClient, SeenSignedIn}

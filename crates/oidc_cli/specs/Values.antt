@@ -11,7 +11,7 @@ use Rattle.oidc_readers.specs.Moments.{moment_at}
 use Rattle.oidc_pairs.specs.Pairs.{values_in, first_of, only_of}
 use Rattle.oidc_user_info.specs.declared.requests.UserInfoResponseType.{UserInfoResponseType}
 use Rattle.oidc_user_info.specs.declared.requests.UserInfoResponseType.TheVariants.{Json, Jwt}
-use Rattle.oidc_login.specs.declared.demand.UserInfoDemand.{UserInfoDemand}
+use Rattle.oidc_login.specs.declared.types.UserInfoDemand.{UserInfoDemand}
 use Rattle.oidc_cli.specs.declared.events.LineError.{LineError}
 use Rattle.oidc_cli.specs.declared.events.LineError.TheVariants.{NoEvent, Memory}
 

@@ -17,7 +17,7 @@ use Rattle.oidc_login.specs.IdTokens.{subject_of}
 use Rattle.oidc_login.specs.SignedIn.{SeenSignedIn}
 use Rattle.oidc_login.specs.UserInfo.{demanded, info_ask}
 use Rattle.oidc_login.specs.Rows.{Meant, SeenAsked, prepared, asking}
-use Rattle.oidc_login.specs.declared.demand.UserInfoDemand.{UserInfoDemand}
+use Rattle.oidc_login.specs.declared.types.UserInfoDemand.{UserInfoDemand}
 use Rattle.oidc_login.specs.declared.errors.LoginError.TheVariants.{UserInfo}
 
 -- ---- the rows of the request

@@ -32,7 +32,7 @@ use Rattle.oidc_login.specs.Causes.{Asks, Reads, Held, Holds, Accepted, own_hash
 use Rattle.oidc_login.specs.declared.errors.TooLong.{TooLong}
 use Rattle.oidc_login.specs.declared.errors.TooLong.TheVariants as place
 use Rattle.oidc_login.specs.declared.errors.LoginError.TheVariants as login
-use Rattle.oidc_login.specs.declared.demand.UserInfoDemand.{UserInfoDemand}
+use Rattle.oidc_login.specs.declared.types.UserInfoDemand.{UserInfoDemand}
 use Rattle.oidc_login.proofs.Asked.{bearer_back, uri_back, own_token, asking_of, asking_nowhere}
 use Rattle.oidc_login.proofs.Answers.{tokens_back, refusal_back}
 use Rattle.oidc_login.proofs.InfoAnswers.{found_back, unfound_back}

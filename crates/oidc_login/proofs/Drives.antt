@@ -15,7 +15,7 @@ use Rattle.oidc_login.specs.Errors.{Error, seen, wants_memory, login_errors}
 use Rattle.oidc_login.specs.Rows.{Attempt, Meant, SeenOpened, SeenAsked, LoginRun, rest_of, preceded_by, answered_alone, opening, after_token, asking, after_info, asked_run, info_run, token_run, opened_run, outcome}
 use Rattle.oidc_login.specs.Causes.{Asks, AsksNothing, Held, Cause, IsSignedIn}
 use Rattle.oidc_login.specs.Runs.{IsItsRequest, AreBothRequests, AreItsRequests, handed_over, Ran}
-use Rattle.oidc_login.specs.declared.demand.UserInfoDemand.{UserInfoDemand}
+use Rattle.oidc_login.specs.declared.types.UserInfoDemand.{UserInfoDemand}
 use Rattle.oidc_login.specs.declared.errors.LoginError.{LoginError}
 use Rattle.oidc_login.proofs.Walks.{Walk}
 use Rattle.oidc_login.proofs.NoMemory.{NeverWants}

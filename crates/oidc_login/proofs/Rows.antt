@@ -37,7 +37,7 @@ use Rattle.oidc_login.specs.UserInfo.{info_ask}
 use Rattle.oidc_login.specs.Errors.{Error}
 use Rattle.oidc_login.specs.Rows.{Attempt, Meant, SeenOpened, SeenAsked, error_word, login_named_by, error_in, code_in, rest_of, opening_by, opening, tokens_in, hash_rows, accepting, signing_in, after_token, prepared, asking, info_in, after_info, asked_run, info_run, token_run, opened_run, outcome}
 use Rattle.oidc_login.specs.Causes.{Names, HasCode, Asks, Held, Answered, Reads, Holds, Accepted, own_hash, Fits, Demands, AsksInfo, InfoAnswered, IsSignedIn, TokenCause, UserInfoCause, Cause}
-use Rattle.oidc_login.specs.declared.demand.UserInfoDemand.{UserInfoDemand}
+use Rattle.oidc_login.specs.declared.types.UserInfoDemand.{UserInfoDemand}
 use Rattle.oidc_login.specs.declared.errors.LoginError.TheVariants.{UserInfo}
 use Rattle.oidc_login.proofs.Walks.{Walk, at_or, at_meant, at_or_as, at_last, at_when, at_for, at_then, at_end, walked_err, walked_ok}
 use Rattle.oidc_login.proofs.Answers.{rests}

@@ -8,7 +8,7 @@ use Rattle.oidc_login.specs.SiteTypes.{SiteTypes}
 use Rattle.oidc_login.specs.Logins.{SeenLogin}
 use Rattle.oidc_login.specs.SignedIn.{SeenSignedIn}
 use Rattle.oidc_login.specs.Rows.{Attempt, Meant, SeenOpened, SeenAsked, rest_of, preceded_by, opening, after_token, asking, asked_run, info_run, token_run, opened_run, outcome}
-use Rattle.oidc_login.specs.declared.demand.UserInfoDemand.{UserInfoDemand}
+use Rattle.oidc_login.specs.declared.types.UserInfoDemand.{UserInfoDemand}
 pub use Rattle.oidc_login.proofs.NoFloat.{signed_free}
 pub use Rattle.oidc_login.proofs.Found.{info_answered}
 

@@ -16,7 +16,7 @@ use Rattle.oidc_login.specs.UserInfo.{demanded, info_ask}
 use Rattle.oidc_login.specs.Rows.{Attempt, rest_of}
 use Rattle.oidc_login.specs.Causes.{Names, HasCode, Asks, Held, Answered, Reads, Holds, Accepted, Fits, Demands, AsksInfo, InfoAnswered, HoldsInfo, IsSignedIn}
 use Rattle.oidc_login.specs.ValidLogin.{IsValidTokenAnswer, IsValidInfoAnswer, IsValidInfo, IsValidLogin}
-use Rattle.oidc_login.specs.declared.demand.UserInfoDemand.{UserInfoDemand}
+use Rattle.oidc_login.specs.declared.types.UserInfoDemand.{UserInfoDemand}
 use Rattle.oidc_login.proofs.Asked.{made}
 
 module _ {AC GC Key Use : Type 0} (types : SiteTypes AC GC Key Use) where

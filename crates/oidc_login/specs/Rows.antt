@@ -31,7 +31,7 @@ use Rattle.oidc_login.specs.TokenHash.{claimed_hash, hash_beside, refusal_of_cla
 use Rattle.oidc_login.specs.SignedIn.{SeenSignedIn, signed_by, with_user_info}
 use Rattle.oidc_login.specs.UserInfo.{info_ask}
 use Rattle.oidc_login.specs.Errors.{Error}
-use Rattle.oidc_login.specs.declared.demand.UserInfoDemand.{UserInfoDemand}
+use Rattle.oidc_login.specs.declared.types.UserInfoDemand.{UserInfoDemand}
 use Rattle.oidc_login.specs.declared.errors.TooLong.TheVariants as place
 use Rattle.oidc_login.specs.declared.errors.LoginError.TheVariants.{TooLong, State, Provider, Callback, Token, NoIdToken, Claims, Signing, TokenHash, UserInfo}
 

@@ -17,7 +17,7 @@ use Rattle.oidc_login.specs.TokenResponse.{Tokens, tokens_read}
 use Rattle.oidc_login.specs.IdTokens.{SeenIdToken, subject_of, IsAcceptedBy}
 use Rattle.oidc_login.specs.TokenHash.{FitsHash}
 use Rattle.oidc_login.specs.Rows.{Attempt, login_named_by, rest_of}
-use Rattle.oidc_login.specs.declared.demand.UserInfoDemand.{UserInfoDemand}
+use Rattle.oidc_login.specs.declared.types.UserInfoDemand.{UserInfoDemand}
 
 module _ {AC GC Key Use : Type 0} (types : SiteTypes AC GC Key Use) where
   -- a response of status 200 and media type JSON, or none, whose body of 1 to 1,048,576 bytes reads as these tokens

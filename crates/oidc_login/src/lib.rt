@@ -35,19 +35,16 @@
 //! Core 1.0 (sections 2, 3.1.2.1, 3.1.3.3, 3.1.3.6, 3.1.3.7, 5.3.2 and 5.3.4).
 #![tactic(auto)]
 
-mod begins;
-mod client;
-mod demand;
+mod begin;
+mod callback;
 mod errors;
 pub mod laws;
 mod logins;
 mod signed_in;
-mod steps;
 mod store;
-mod user_info;
+mod types;
 
-pub use client::{LoginClient, LoginRequest, MetadataClient};
-pub use demand::UserInfoDemand;
 pub use errors::{BeginError, LoginError, NewLoginsError, TooLong};
 pub use logins::Logins;
 pub use signed_in::{LoginIdToken, SignedIn};
+pub use types::{LoginClient, LoginRequest, MetadataClient, UserInfoDemand};

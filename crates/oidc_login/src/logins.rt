@@ -22,13 +22,12 @@ ghost use Rattle.oidc_login.specs.Runs.{Ran, Leaves, attempt};
 ghost use Rattle.oidc_oauth2.specs.declared.token_answers.OtherCause.TheVariants as other;
 ghost use Rattle.oidc_oauth2.specs.declared.token_answers.RequestTokenError.TheVariants as token;
 
-use crate::begins::start;
-use crate::client::{LoginRequest, MetadataClient};
-use crate::demand::UserInfoDemand;
+use crate::begin::start;
+use crate::callback::drive;
 use crate::errors::{BeginError, LoginError, NewLoginsError, TooLong};
 use crate::signed_in::SignedIn;
-use crate::steps::drive;
 use crate::store::Store;
+use crate::types::{LoginRequest, MetadataClient, UserInfoDemand};
 use jiff::Timestamp;
 use oidc_claims::{AdditionalClaims, GenderClaim};
 use oidc_keys::JsonWebKey;

@@ -1,22 +1,21 @@
-// The steps of a callback on user info, where a login demands it.
+// The steps on user info, where a login demands it: the request for it, and its answer.
 
-ghost use Rattle.std.specs.Prelude.{◌≡◌, ◌≤◌, Some, IfErr, IfOk, false, true};
+ghost use Rattle.std.specs.Prelude.{◌≡◌, IfErr, IfOk, false, true};
 ghost use Rattle.oidc_oauth2.specs.Messages.{seen_response};
 ghost use Rattle.oidc_oauth2.specs.Replies.{Gives};
-ghost use Rattle.oidc_oauth2.specs.Exchanges.{answer_of, known, Follows, IsRequestBlamed};
+ghost use Rattle.oidc_oauth2.specs.Exchanges.{answer_of};
 ghost use Rattle.oidc_login.specs.Errors.{faulted, is_spent_by, login_errors};
 ghost use Rattle.oidc_login.specs.SiteTypes.{site_types};
 ghost use Rattle.oidc_login.specs.UserInfo as spec;
 ghost use Rattle.oidc_login.specs.Rows as rows;
 ghost use Rattle.oidc_login.specs.Steps.{Faults};
 
-use crate::client::MetadataClient;
-use crate::demand::UserInfoDemand;
 use crate::errors::LoginError;
 use crate::signed_in::SignedIn;
+use crate::types::{MetadataClient, UserInfoDemand};
 use oidc_claims::{AdditionalClaims, GenderClaim};
 use oidc_keys::JsonWebKey;
-use oidc_oauth2::{HttpRequest, HttpResponse, SyncHttpClient, exchange};
+use oidc_oauth2::{HttpRequest, HttpResponse};
 use oidc_types::{
     AccessToken, CoreJweContentEncryptionAlgorithm, CoreJwsSigningAlgorithm, SubjectIdentifier,
 };
@@ -179,74 +178,5 @@ pub(crate) fn after_info<
             drop(user);
             Err(error)
         }
-    }
-}
-
-// Hands the user info request over, and judges its answer.
-fn exchange_info<
-    AC: AdditionalClaims,
-    GC: GenderClaim,
-    K: JsonWebKey<SigningAlgorithm = CoreJwsSigningAlgorithm>,
-    H: SyncHttpClient,
->(
-    alloc: Global,
-    http: &mut H,
-    asked: Asked<'_, K>,
-    user: SignedIn<AC, GC>,
-) -> Result<SignedIn<AC, GC>, LoginError<H::Error>>
-    requires { H.ready http.old }
-    ensures again { H.ready http.new }
-    ensures follows { let types = site_types AC.read_of GC.read_of
-        K.JsonWebKey K.KeyUse.JsonWebKeyUse in
-        let before = known (H.log http.old) (H.script http.old) in
-        let after = known (H.log http.new) (H.script http.new) in
-        Follows login_errors (λ answers. rows.asked_run types user answers (Ok asked.entry))
-        before after result }
-    ensures spent { is_spent_by result ≡ true }
-    ensures blamed { IsRequestBlamed login_errors (H.faults http.old) (H.faults http.new) result }
-    ensures never_falls { H.faults http.old ≤ H.faults http.new }
-{
-    let Asked { ask, request } = asked;
-    let Ok(answer) = exchange(alloc, http, request) else {
-        drop(ask);
-        drop(user);
-        return Err(LoginError::Memory { spent: true });
-    };
-    after_info(alloc, ask, user, answer)
-}
-
-// Asks for user info about a user who is signed in but for that, where the login demands it.
-pub(crate) fn ask_info<
-    AC: AdditionalClaims,
-    GC: GenderClaim,
-    K: JsonWebKey<SigningAlgorithm = CoreJwsSigningAlgorithm>,
-    H: SyncHttpClient,
->(
-    alloc: Global,
-    client: &MetadataClient<AC, GC, K>,
-    http: &mut H,
-    demand: Option<UserInfoDemand>,
-    user: SignedIn<AC, GC>,
-) -> Result<SignedIn<AC, GC>, LoginError<H::Error>>
-    requires { H.ready http.old }
-    ensures again { H.ready http.new }
-    ensures follows { let types = site_types AC.read_of GC.read_of
-        K.JsonWebKey K.KeyUse.JsonWebKeyUse in
-        let before = known (H.log http.old) (H.script http.old) in
-        let after = known (H.log http.new) (H.script http.new) in
-        Follows login_errors (rows.info_run types client.now demand user) before after result }
-    ensures spent { is_spent_by result ≡ true }
-    ensures blamed { IsRequestBlamed login_errors (H.faults http.old) (H.faults http.new) result }
-    ensures never_falls { H.faults http.old ≤ H.faults http.new }
-{
-    match demand {
-        None => Ok(user),
-        Some(demand) => match asking(alloc, client, demand, &user) {
-            Ok(asked) => exchange_info(alloc, http, asked, user),
-            Err(error) => {
-                drop(user);
-                Err(error)
-            }
-        },
     }
 }

@@ -8,10 +8,9 @@ ghost use Rattle.oidc_login.specs.Logins.{HasVerifiers};
 ghost use Rattle.oidc_login.specs.Begins as begins;
 ghost use Rattle.oidc_login.specs.Begins.{begin_of, reply_by, challenge_or_refusal, url_or_refusal, Begins, with_login};
 
-use crate::client::LoginRequest;
-use crate::demand::UserInfoDemand;
 use crate::errors::BeginError;
 use crate::store::{Login, Store};
+use crate::types::{LoginRequest, UserInfoDemand};
 use oidc_client::{AuthenticationFlow, CoreAuthenticationFlow};
 use oidc_oauth2::{PkceCodeChallenge, PkceError};
 use oidc_types::{ClientId, CsrfToken, Nonce, PkceCodeVerifier, RedirectUrl};

@@ -1,7 +1,7 @@
 use Rattle.std.proofs.Common.{refl}
 use Rattle.oidc_oauth2.proofs.Runs.{memory_first}
 use Rattle.oidc_login.proofs.Drives as drives
-use Rattle.oidc_login.proofs.user_info.exchange_info.Goals as goal
+use Rattle.oidc_login.proofs.callback.exchange_info.Goals as goal
 
 pub returns-in_default-clause-follows : goal.returns-in_default-clause-follows
 returns-in_default-clause-follows g c = memory_first _ _ _ _ _ refl c.in_default.ensures.exchanged

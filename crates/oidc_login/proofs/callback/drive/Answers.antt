@@ -1,5 +1,5 @@
 use Rattle.oidc_login.proofs.Drives as drives
-use Rattle.oidc_login.proofs.steps.drive.Goals as goal
+use Rattle.oidc_login.proofs.callback.drive.Goals as goal
 
 pub returns-in-Ok-clause-ran : goal.returns-in-Ok-clause-ran
 returns-in-Ok-clause-ran g c = drives.signed _ _ g.met.K.JsonWebKey.verdict_is_never_memory _ c.in-Ok.ensures.gives _ _ _ c.sign_in.ensures.follows

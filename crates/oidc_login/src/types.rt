@@ -1,4 +1,5 @@
-//! The client of a store of logins, and the requests that the store takes.
+//! What a site hands to a store of logins: the client, its authorization requests, and what a login demands of user
+//! info.
 
 use oidc_claims::AllOtherClaims;
 use oidc_client::{AuthorizationRequest, Client};
@@ -13,6 +14,7 @@ use oidc_types::{
     CoreAuthDisplay, CoreAuthPrompt, CoreGenderClaim, CoreJweContentEncryptionAlgorithm,
     CoreJwsSigningAlgorithm, CoreResponseType, EndpointMaybeSet, EndpointNotSet, EndpointSet,
 };
+use oidc_user_info::UserInfoResponseType;
 
 /// The client that `Client::from_provider_metadata` makes, over the vocabularies of the standards: its
 /// authorization endpoint is set, its token endpoint and its user info endpoint may be. `AC` is the type of
@@ -57,3 +59,17 @@ pub type LoginRequest<'a> = AuthorizationRequest<
     CoreAuthPrompt,
     CoreResponseType,
 >;
+
+/// What a login demands of user info (OpenID Connect Core 1.0 section 5.3). Its subject is always that of the ID
+/// token.
+#[derive(Clone, Copy, Debug, Drop, PartialEq, Eq)]
+pub struct UserInfoDemand {
+    /// Whether the answer has to be signed.
+    pub signed: bool,
+    /// Whether the claims of a signed answer have to name the issuer.
+    pub issuer_match: bool,
+    /// Whether the claims of a signed answer have to name the client, and nobody else, as their audience.
+    pub audience_match: bool,
+    /// The media type that is asked for.
+    pub response_type: UserInfoResponseType,
+}

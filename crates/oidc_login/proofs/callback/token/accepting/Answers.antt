@@ -2,7 +2,7 @@ use Rattle.std.proofs.Common.{sym, ap, ◌∙◌}
 use Rattle.oidc_login.specs.SiteTypes.{site_types}
 use Rattle.oidc_login.specs.Logins.{SeenLogin}
 use Rattle.oidc_login.proofs.Signing.{passed, refused_by, same_failure, same_hash, of_check_no_fault, of_check_spent}
-use Rattle.oidc_login.proofs.steps.accepting.Goals as goal
+use Rattle.oidc_login.proofs.callback.token.accepting.Goals as goal
 
 pub returns-in-Ok-claims-clause-gives : goal.returns-in-Ok-claims-clause-gives
 returns-in-Ok-claims-clause-gives g c =

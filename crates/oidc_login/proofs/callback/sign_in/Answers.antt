@@ -2,7 +2,7 @@ use Rattle.std.proofs.Common.{refl, ap}
 use Rattle.oidc_login.specs.Logins.{SeenLogin}
 use Rattle.oidc_oauth2.proofs.Runs.{memory_first}
 use Rattle.oidc_login.proofs.Drives as drives
-use Rattle.oidc_login.proofs.steps.sign_in.Goals as goal
+use Rattle.oidc_login.proofs.callback.sign_in.Goals as goal
 
 pub returns-in_default-clause-follows : goal.returns-in_default-clause-follows
 returns-in_default-clause-follows g c = memory_first _ _ _ _ _ refl c.in_default.ensures.exchanged

@@ -1,6 +1,6 @@
 use Rattle.std.proofs.Common.{◌≡◌, None, Some}
 use Rattle.oidc_login.proofs.Signing.{no_token, passes, refuses}
-use Rattle.oidc_login.proofs.steps.checking.Goals as goal
+use Rattle.oidc_login.proofs.callback.token.checking.Goals as goal
 
 pub returns-in_default-clause-refused : goal.returns-in_default-clause-refused
 returns-in_default-clause-refused g c =

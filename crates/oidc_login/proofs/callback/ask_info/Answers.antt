@@ -1,6 +1,6 @@
 use Rattle.oidc_login.specs.SiteTypes.{site_types}
 use Rattle.oidc_login.proofs.Drives as drives
-use Rattle.oidc_login.proofs.user_info.ask_info.Goals as goal
+use Rattle.oidc_login.proofs.callback.ask_info.Goals as goal
 
 pub returns-in-None-clause-follows : goal.returns-in-None-clause-follows
 returns-in-None-clause-follows g c =
