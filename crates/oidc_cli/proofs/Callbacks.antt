@@ -7,7 +7,7 @@ use Rattle.oidc_keys.specs.CoreJwk.{SymmetricKey}
 use Rattle.oidc_oauth2.specs.Replies.{Unless, OrMemory}
 use Rattle.oidc_login.specs.Errors.{Error, login_errors, seen_reply, wants_memory}
 use Rattle.oidc_oauth2.specs.Exchanges.{Known, Run}
-use Rattle.oidc_login.specs.Rows.{Attempt, outcome}
+use Rattle.oidc_login.specs.Callback.{Attempt, outcome}
 use Rattle.oidc_login.specs.Runs.{Ran, handed_over}
 use Rattle.oidc_login.proofs.Theorems.{outcome-of_script}
 use Rattle.oidc_login.specs.declared.errors.LoginError.{LoginError}

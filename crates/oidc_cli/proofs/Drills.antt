@@ -5,7 +5,7 @@ use Rattle.std.specs.FinMap as finite
 use Rattle.oidc_oauth2.specs.Messages.{SeenRequest, SeenAnswer}
 use Rattle.oidc_keys.specs.CoreJwk.{SymmetricKey}
 use Rattle.oidc_login.specs.Logins.{Pending, SeenLogin}
-use Rattle.oidc_login.specs.Rows.{Attempt, LoginRun, Meant, SeenOpened, SeenAsked, asked_run, info_run, token_run, opened_run, outcome, opening, after_token, asking, rest_of}
+use Rattle.oidc_login.specs.Callback.{Attempt, LoginRun, Meant, SeenTaken, SeenPreparedInfo, prepared_run, demand_run, token_run, taken_run, outcome, taken_login, user_of_answer, prepared_info, rest_of}
 use Rattle.oidc_oauth2.specs.Transport.{first_answer}
 use Rattle.oidc_login.specs.Errors.{Error, seen_reply}
 use Rattle.oidc_login.specs.Events as runs
@@ -104,13 +104,13 @@ repeated_as (Err (login.Memory spent)) = refl
 abbrev asked_few : LoginRun SeenSignedIn → ℕ → Type 0
 asked_few run most = length run.sent ≤ most
 
-few_asked : (user : SeenSignedIn) (answers : List SeenAnswer) (asked : Meant (SeenAsked SymmetricKey)) → asked_few (asked_run types user answers asked) 1
+few_asked : (user : SeenSignedIn) (answers : List SeenAnswer) (asked : Meant (SeenPreparedInfo SymmetricKey)) → asked_few (prepared_run types user answers asked) 1
 few_asked user answers (Err e) = omega arith
 few_asked user answers (Ok asked) = omega arith
 
-few_info : (client : SeenScriptClient) (demand : Option UserInfoDemand) (user : SeenSignedIn) (answers : List SeenAnswer) → asked_few (info_run types client demand user answers) 1
+few_info : (client : SeenScriptClient) (demand : Option UserInfoDemand) (user : SeenSignedIn) (answers : List SeenAnswer) → asked_few (demand_run types client demand user answers) 1
 few_info client None user answers = omega arith
-few_info client (Some demand) user answers = few_asked user answers (asking client demand user)
+few_info client (Some demand) user answers = few_asked user answers (prepared_info client demand user)
 
 few_behind : (client : SeenScriptClient) (l : SeenLogin) (answers : List SeenAnswer) (reply : Meant SeenSignedIn) → asked_few (token_run types client l answers reply) 1
 few_behind client l answers (Err e) = omega arith
@@ -119,14 +119,14 @@ few_behind client l answers (Ok user) = few_info client l.user_info user answers
 one_more : (n : ℕ) → n ≤ 1 → suc n ≤ 2
 one_more n few = omega arith
 
-few_opened : (a : Attempt SymmetricKey) (answers : List SeenAnswer) (opened : Meant SeenOpened) → asked_few (opened_run types a.client a.now answers opened) 2
+few_opened : (a : Attempt SymmetricKey) (answers : List SeenAnswer) (opened : Meant SeenTaken) → asked_few (taken_run types a.client a.now answers opened) 2
 few_opened a answers (Err e) = omega arith
 few_opened a answers (Ok opened) =
-    one_more _ (few_behind a.client opened.login (rest_of answers) (after_token types a.client a.now opened.login (first_answer answers)))
+    one_more _ (few_behind a.client opened.login (rest_of answers) (user_of_answer types a.client a.now opened.login (first_answer answers)))
 
 -- a callback sends at most two requests
 pub few_sent : (a : Attempt SymmetricKey) (answers : List SeenAnswer) → length (outcome types a answers).sent ≤ 2
-few_sent a answers = few_opened a answers (opening a.client a.pending a.query)
+few_sent a answers = few_opened a answers (taken_login a.client a.pending a.query)
 
 at_most_one : (holds : Bool) → one_if holds ≤ 2
 at_most_one true = omega arith

@@ -24,7 +24,7 @@ use Rattle.oidc_id_token_claims.specs.IdTokenClaims.{SeenIdTokenClaims, id_token
 use Rattle.oidc_tokens.specs.Hashes.{hashing, with_hashes}
 use Rattle.oidc_tokens.specs.IdTokenFields.{SeenIdTokenFields, response_fields_out}
 use Rattle.oidc_oauth2.specs.Replies.{◌>>=◌}
-use Rattle.oidc_login.specs.IdTokens.{SeenIdToken}
+use Rattle.oidc_login.specs.Token.{SeenIdToken}
 use Rattle.oidc_login.specs.Logins.{Pending}
 use Rattle.oidc_login.specs.Events as runs
 use Rattle.oidc_login.specs.declared.errors.LoginError.{LoginError}

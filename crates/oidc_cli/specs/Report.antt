@@ -6,7 +6,7 @@ use Rattle.oidc_types.specs.{TextAndUrl}
 use Rattle.oidc_client.specs.Client.{new_client}
 use Rattle.oidc_client.specs.Authorization.{new_request, Code}
 use Rattle.oidc_login.specs.Logins.{Pending}
-use Rattle.oidc_login.specs.Begins.{LoginRequest, Begin as BeginOf, begin_of}
+use Rattle.oidc_login.specs.Begin.{LoginRequest, Begin as BeginOf, begin_of}
 use Rattle.oidc_login.specs.Events as runs
 use Rattle.oidc_cli.specs.Types.{types, SeenScriptClient}
 use Rattle.oidc_cli.specs.Events.{SeenClientLine, SeenCallbackLine}

@@ -29,7 +29,7 @@ use Rattle.oidc_login.specs.declared.errors.BeginError.TheVariants as begin
 use Rattle.oidc_login.specs.declared.errors.TooLong.{TooLong}
 use Rattle.oidc_login.specs.declared.errors.TooLong.TheVariants as place
 use Rattle.oidc_login.specs.declared.errors.LoginError.TheVariants as login
-use Rattle.oidc_login.specs.TokenResponse.{TokenError}
+use Rattle.oidc_login.specs.Token.{TokenError}
 use Rattle.oidc_login.specs.Errors.{Error}
 use Rattle.oidc_login.specs.Logins.{Pending}
 use Rattle.oidc_login.specs.Events as runs

@@ -3,10 +3,10 @@ ghost use Rattle.std.specs.Prelude.{◌≡◌, ◌++◌, ◌+◌, ◌≤◌, ◌
 ghost use Rattle.std.specs.FinMap as finite;
 ghost use Rattle.std.specs.Option.{option_or};
 ghost use Rattle.std.specs.String.{string_bytes};
-ghost use Rattle.oidc_login.specs.Begins.{begin_reply};
+ghost use Rattle.oidc_login.specs.Begin.{begin_reply};
 ghost use Rattle.oidc_login.specs.Errors.{seen_reply, wants_memory};
 ghost use Rattle.oidc_login.specs.Events.{called_with};
-ghost use Rattle.oidc_login.specs.Rows.{callback_store, outcome};
+ghost use Rattle.oidc_login.specs.Callback.{callback_store, outcome};
 ghost use Rattle.oidc_cli.specs.Calls.{HasRisen};
 ghost use Rattle.oidc_cli.specs.Sinks.{Puts, PutsPrefix};
 ghost use Rattle.oidc_cli.specs.Types.{types};

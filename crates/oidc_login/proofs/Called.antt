@@ -28,13 +28,13 @@ use Rattle.oidc_user_info.specs.InfoRequests.{SeenInfoRequest}
 use Rattle.oidc_user_info.specs.InfoCauses as info_causes
 use Rattle.oidc_user_info.specs.declared.errors.UserInfoError.{UserInfoError}
 use Rattle.oidc_user_info.specs.declared.errors.UserInfoError.TheVariants as info_error
-use Rattle.oidc_login.specs.SiteTypes.{SiteTypes}
+use Rattle.oidc_login.specs.Types.{SiteTypes}
 use Rattle.oidc_login.specs.Logins.{SeenLogin}
-use Rattle.oidc_login.specs.IdTokens.{subject_of, verifier_of, IsAcceptedBy}
-use Rattle.oidc_login.specs.TokenHash.{FitsHash, HasOwnHash}
+use Rattle.oidc_login.specs.Token.{subject_of, verifier_of, IsAcceptedBy, FitsHash, HasOwnHash}
 use Rattle.oidc_login.specs.SignedIn.{SeenSignedIn}
 use Rattle.oidc_login.specs.Errors.{Error, seen, wants_memory, is_wanting, hides_memory, login_errors}
-use Rattle.oidc_login.specs.Rows.{Attempt, login_named_by, rest_of}
+use Rattle.oidc_login.specs.BeforeRequest.{login_named_by}
+use Rattle.oidc_login.specs.Callback.{Attempt, rest_of}
 use Rattle.oidc_login.specs.Causes.{HasError, LacksCode, HasNoRequest, Held, HoldsInfo, HasInfo, IsSignedIn, UserInfoCause, Cause}
 use Rattle.oidc_login.specs.Runs.{Ran}
 use Rattle.oidc_login.specs.declared.errors.LoginError.{LoginError}

@@ -3,8 +3,8 @@ use Rattle.std.proofs.Common.{◌≡◌, List, Ok}
 use Rattle.oidc_oauth2.specs.Messages.{SeenAnswer}
 use Rattle.oidc_user_info.specs.UserInfoClaims.{SeenUserInfoClaims}
 use Rattle.oidc_user_info.specs.InfoAnswers.{info_answer}
-use Rattle.oidc_login.specs.SiteTypes.{SiteTypes}
-use Rattle.oidc_login.specs.Rows.{Attempt, rest_of}
+use Rattle.oidc_login.specs.Types.{SiteTypes}
+use Rattle.oidc_login.specs.Callback.{Attempt, rest_of}
 use Rattle.oidc_login.specs.Causes.{Held, HoldsInfo}
 use Rattle.oidc_login.proofs.InfoAnswers.{found_back}
 

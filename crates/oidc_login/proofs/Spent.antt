@@ -12,16 +12,16 @@ use Rattle.url.specs.Parts.{Parts}
 use Rattle.oidc_pairs.specs.Pairs.{pairs}
 use Rattle.oidc_oauth2.specs.Messages.{SeenRequest, SeenAnswer}
 use Rattle.oidc_oauth2.specs.TokenAnswers.{is_over_long}
-use Rattle.oidc_login.specs.Client.{SeenLoginClient}
-use Rattle.oidc_login.specs.SiteTypes.{SiteTypes}
+use Rattle.oidc_login.specs.Types.{SeenLoginClient, SiteTypes}
 use Rattle.oidc_login.specs.Logins.{SeenLogin, Pending}
-use Rattle.oidc_login.specs.Begins.{Begin, Meant as BeginMeant, begin_reply, begin_store}
-use Rattle.oidc_login.specs.Rows.{Attempt, Meant, SeenOpened, state_in, login_named_by, opening, opened_run, outcome}
+use Rattle.oidc_login.specs.Begin.{Begin, Meant as BeginMeant, begin_reply, begin_store}
+use Rattle.oidc_login.specs.BeforeRequest.{state_in, login_named_by}
+use Rattle.oidc_login.specs.Callback.{Attempt, Meant, SeenTaken, taken_login, taken_run, outcome}
 use Rattle.oidc_login.specs.Causes.{Asks, Cause}
 use Rattle.oidc_login.specs.Events.{Event, begins, calls, Step, called_with, begin_step, callback_step, steps_from, store_of, is_accepted, is_of_state, has_any, begins_again, has_sent, SpentOnce}
 use Rattle.oidc_login.proofs.Turns.{turns_dropped}
 use Rattle.oidc_login.proofs.Walks.{Walk}
-use Rattle.oidc_login.proofs.Rows.{opening-walk}
+use Rattle.oidc_login.proofs.Rows.{taken_login-walk}
 
 -- ---- stores at one state
 
@@ -75,22 +75,22 @@ at_most_one (r ∷ later) = lit≤ tt
 -- ---- what a callback sends
 
 module _ {AC GC Key Use : Type 0} (types : SiteTypes AC GC Key Use) (a : Attempt Key) (answers : List SeenAnswer) where
-  abbrev Opens : Meant SeenOpened → Type 0
+  abbrev Opens : Meant SeenTaken → Type 0
   Opens m = Walk (λ o. Asks a o.login o.request) (Cause types a answers) m
 
-  none_sent : (m : Meant SeenOpened) → Opens m → login_named_by a.pending (pairs a.query) ≡ None → one_if_any (opened_run types a.client a.now answers m).sent ≡ 0
+  none_sent : (m : Meant SeenTaken) → Opens m → login_named_by a.pending (pairs a.query) ≡ None → one_if_any (taken_run types a.client a.now answers m).sent ≡ 0
   none_sent (Err e) walk none = refl
   none_sent (Ok o) walk none = let both : Some o.login ≡ None = sym walk.has_code.names.login_named ∙ none in absurd cc
 
   sent_none : login_named_by a.pending (pairs a.query) ≡ None → one_if_any (outcome types a answers).sent ≡ 0
-  sent_none none = none_sent (opening a.client a.pending a.query) (opening-walk types a answers) none
+  sent_none none = none_sent (taken_login a.client a.pending a.query) (taken_login-walk types a answers) none
 
-  sent_or_short : (m : Meant SeenOpened) → Opens m → (one_if_any (opened_run types a.client a.now answers m).sent ≡ 0) ⊎ (is_over_long a.query ≡ false)
+  sent_or_short : (m : Meant SeenTaken) → Opens m → (one_if_any (taken_run types a.client a.now answers m).sent ≡ 0) ⊎ (is_over_long a.query ≡ false)
   sent_or_short (Err e) walk = inl refl
   sent_or_short (Ok o) walk = inr walk.has_code.names.short_query
 
   unsent_or_short : (one_if_any (outcome types a answers).sent ≡ 0) ⊎ (is_over_long a.query ≡ false)
-  unsent_or_short = sent_or_short (opening a.client a.pending a.query) (opening-walk types a answers)
+  unsent_or_short = sent_or_short (taken_login a.client a.pending a.query) (taken_login-walk types a answers)
 
 -- ---- how many callbacks of a state send anything, before the next accepted begin of it
 

@@ -10,11 +10,10 @@ use Rattle.oidc_types.specs.declared.core_algorithms.CoreJwsSigningAlgorithm.{Co
 use Rattle.oidc_jwt.specs.declared.header.JsonWebTokenAlgorithm.TheVariants as algorithm
 use Rattle.oidc_tokens.specs.Hashes.{hashing, hash_or_refusal}
 use Rattle.oidc_tokens.specs.Signatures.{signing_alg, key_for}
-use Rattle.oidc_login.specs.SiteTypes.{SiteTypes}
-use Rattle.oidc_login.specs.IdTokens.{SeenIdToken, KeyVerifier}
-use Rattle.oidc_login.specs.TokenHash.{hash_under, hashing_found, or_no_hash, hash_beside}
+use Rattle.oidc_login.specs.Types.{SiteTypes}
+use Rattle.oidc_login.specs.Token.{SeenIdToken, KeyVerifier, hash_under, hashing_found, or_no_hash, hash_beside}
 use Rattle.oidc_oauth2.specs.Replies.{◌>>=◌, ◌when◌}
-use Rattle.oidc_login.specs.Rows.{Meant, hash_rows}
+use Rattle.oidc_login.specs.Callback.{Meant, checked_hash}
 use Rattle.oidc_login.specs.declared.errors.LoginError.TheVariants as login
 
 module _ {AC GC Key Use : Type 0} (types : SiteTypes AC GC Key Use) (v : KeyVerifier Key) (token : SeenIdToken AC GC) (alg : CoreJwsSigningAlgorithm) (key : Key)
@@ -52,9 +51,9 @@ abbrev when_other : Bool → Meant (Unit {0})
 when_other equal = login.TokenHash when not equal
 
 -- another hash is claimed
-pub other_claim : (claim hash : List ℕ) → hash ≢ claim → hash_rows (Some claim) (Ok hash) ≡ Err login.TokenHash
+pub other_claim : (claim hash : List ℕ) → hash ≢ claim → checked_hash (Some claim) (Ok hash) ≡ Err login.TokenHash
 other_claim claim hash other = ap when_other (differ hash claim other)
 
 -- the own hash is claimed
-pub own_claim : (claim : List ℕ) → hash_rows (Some claim) (Ok claim) ≡ Ok tt
+pub own_claim : (claim : List ℕ) → checked_hash (Some claim) (Ok claim) ≡ Ok tt
 own_claim claim = ap when_other ((bytes_eq-Decides claim claim).1 refl)

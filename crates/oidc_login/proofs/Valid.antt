@@ -8,12 +8,11 @@ use Rattle.oidc_user_info.specs.UserInfoClaims.{SeenUserInfoClaims}
 use Rattle.oidc_user_info.specs.InfoRequests.{SeenInfoRequest}
 use Rattle.oidc_user_info.specs.InfoCauses.{IsAsked, Fits as FitsAnswer, HoldsObject, ReadsObject, IsUserInfo}
 use Rattle.oidc_client.specs.Client.{info_request_at}
-use Rattle.oidc_login.specs.SiteTypes.{SiteTypes}
-use Rattle.oidc_login.specs.TokenResponse.{Tokens, error_read, tokens_read}
-use Rattle.oidc_login.specs.IdTokens.{subject_of}
+use Rattle.oidc_login.specs.Types.{SiteTypes}
+use Rattle.oidc_login.specs.Token.{Tokens, error_read, tokens_read, subject_of}
 use Rattle.oidc_login.specs.SignedIn.{SeenSignedIn}
 use Rattle.oidc_login.specs.UserInfo.{demanded, info_ask}
-use Rattle.oidc_login.specs.Rows.{Attempt, rest_of}
+use Rattle.oidc_login.specs.Callback.{Attempt, rest_of}
 use Rattle.oidc_login.specs.Causes.{Names, HasCode, Asks, Held, Answered, Reads, Holds, Accepted, Fits, Demands, AsksInfo, InfoAnswered, HoldsInfo, IsSignedIn}
 use Rattle.oidc_login.specs.ValidLogin.{IsValidTokenAnswer, IsValidInfoAnswer, IsValidInfo, IsValidLogin}
 use Rattle.oidc_login.specs.declared.types.UserInfoDemand.{UserInfoDemand}

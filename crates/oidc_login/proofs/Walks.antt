@@ -2,7 +2,7 @@
 use Rattle.std.proofs.Common.{◌≡◌, Bool, true, false, Option, None, Some, Result, Ok, Err, refl, subst}
 use Rattle.oidc_oauth2.specs.Replies.{◌>>=◌, ◌>>◌, ◌when◌, ◌for◌, ◌or◌, ◌or_as◌}
 use Rattle.oidc_login.specs.Errors.{Error}
-use Rattle.oidc_login.specs.Rows.{Meant}
+use Rattle.oidc_login.specs.Callback.{Meant}
 
 -- a value has P, or the refusal has Q
 abbrev pub Walk : {A : Type 0} → (A → Type 0) → (Error → Type 0) → Meant A → Type 0

@@ -20,16 +20,14 @@ use Rattle.oidc_user_info.specs.InfoRequests.{SeenInfoRequest, info_request}
 use Rattle.oidc_user_info.specs.InfoCauses as info_causes
 use Rattle.oidc_user_info.specs.declared.errors.InfoOther.TheVariants as info_other
 use Rattle.oidc_user_info.specs.declared.errors.UserInfoError.TheVariants as info_error
-use Rattle.oidc_login.specs.SiteTypes.{SiteTypes}
+use Rattle.oidc_login.specs.Types.{SiteTypes}
 use Rattle.oidc_login.specs.Logins.{SeenLogin}
-use Rattle.oidc_login.specs.TokenRequest.{token_request}
-use Rattle.oidc_login.specs.TokenResponse.{Tokens, TokenError, error_read, tokens_read}
-use Rattle.oidc_login.specs.IdTokens.{SeenIdToken, subject_of, IsAcceptedBy, failure_for, FailsFor}
-use Rattle.oidc_login.specs.TokenHash.{claimed_hash, hash_under, FitsHash}
+use Rattle.oidc_login.specs.BeforeRequest.{token_request, login_named_by, error_in}
+use Rattle.oidc_login.specs.Token.{Tokens, TokenError, error_read, tokens_read, SeenIdToken, subject_of, IsAcceptedBy, failure_for, FailsFor, claimed_hash, hash_under, FitsHash}
 use Rattle.oidc_login.specs.SignedIn.{SeenSignedIn}
 use Rattle.oidc_login.specs.UserInfo.{info_ask}
 use Rattle.oidc_login.specs.Errors.{Error}
-use Rattle.oidc_login.specs.Rows.{Attempt, login_named_by, error_in, rest_of}
+use Rattle.oidc_login.specs.Callback.{Attempt, rest_of}
 use Rattle.oidc_login.specs.declared.types.UserInfoDemand.{UserInfoDemand}
 use Rattle.oidc_login.specs.declared.errors.TooLong.{TooLong}
 use Rattle.oidc_login.specs.declared.errors.TooLong.TheVariants as place

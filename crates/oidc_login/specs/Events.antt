@@ -6,13 +6,13 @@ use Rattle.std.specs.Str.{bytes_eq}
 use Rattle.url.specs.Parts.{Parts}
 use Rattle.oidc_pairs.specs.Pairs.{pairs}
 use Rattle.oidc_oauth2.specs.Messages.{SeenRequest, SeenAnswer}
-use Rattle.oidc_login.specs.Client.{SeenLoginClient}
-use Rattle.oidc_login.specs.SiteTypes.{SiteTypes}
+use Rattle.oidc_login.specs.Types.{SeenLoginClient, SiteTypes}
 use Rattle.oidc_login.specs.Logins.{Pending}
-use Rattle.oidc_login.specs.Begins.{Begin, Meant as BeginMeant, begin_reply, begin_store}
+use Rattle.oidc_login.specs.Begin.{Begin, Meant as BeginMeant, begin_reply, begin_store}
 use Rattle.oidc_login.specs.SignedIn.{SeenSignedIn}
-use Rattle.oidc_login.specs.Rows.{Attempt, Meant, state_in, outcome, callback_store}
-use Rattle.oidc_login.specs.Runs.{start}
+use Rattle.oidc_login.specs.BeforeRequest.{state_in}
+use Rattle.oidc_login.specs.Callback.{Attempt, Meant, outcome, callback_store}
+use Rattle.oidc_login.specs.Runs.{attempt_by}
 use Rattle.oidc_login.specs.ValidLogin.{IsValidLogin}
 
 -- a callback: its query, its moment, and the answers that its requests get
@@ -36,7 +36,7 @@ pub record Step (AC GC : Type 0) : Type 0 where
   pub pending : Pending
 
 abbrev pub called_with : {Key : Type 0} → SeenLoginClient Key → Pending → Call → Attempt Key
-called_with client pending c = start client pending c.query c.now
+called_with client pending c = attempt_by client pending c.query c.now
 
 module _ {AC GC Key Use : Type 0} (types : SiteTypes AC GC Key Use) (client : SeenLoginClient Key) where
   abbrev pub begin_step : Pending → Begin → Step AC GC

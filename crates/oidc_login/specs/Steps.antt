@@ -9,14 +9,12 @@ use Rattle.oidc_tokens.specs.declared.verification.refusals.ClaimsVerificationEr
 use Rattle.oidc_tokens.specs.declared.verification.refusals.ClaimsVerificationError.TheVariants as check
 use Rattle.oidc_user_info.specs.declared.errors.UserInfoError.{UserInfoError}
 use Rattle.oidc_user_info.specs.declared.errors.UserInfoError.TheVariants as info
-use Rattle.oidc_login.specs.Client.{SeenLoginClient}
-use Rattle.oidc_login.specs.SiteTypes.{SiteTypes}
+use Rattle.oidc_login.specs.Types.{SeenLoginClient, SiteTypes}
 use Rattle.oidc_login.specs.Logins.{SeenLogin}
-use Rattle.oidc_login.specs.IdTokens.{SeenIdToken}
-use Rattle.oidc_login.specs.TokenResponse.{Tokens}
+use Rattle.oidc_login.specs.Token.{SeenIdToken, Tokens}
 use Rattle.oidc_login.specs.SignedIn.{signed_by}
 use Rattle.oidc_login.specs.Errors.{faulted}
-use Rattle.oidc_login.specs.Rows.{signing_in}
+use Rattle.oidc_login.specs.Callback.{user_of_tokens}
 use Rattle.oidc_login.specs.declared.errors.TooLong.TheVariants as place
 use Rattle.oidc_login.specs.declared.errors.LoginError.{LoginError}
 use Rattle.oidc_login.specs.declared.errors.LoginError.TheVariants as login
@@ -48,4 +46,4 @@ abbrev pub IsPassed : {AC GC Key Use : Type 0} → SiteTypes AC GC Key Use → S
     → Tokens AC GC → Type 0
 IsPassed {AC} {GC} types client now login tokens =
     (token : SeenIdToken AC GC) → tokens.extra_fields.id_token ≡ Some token
-    → signing_in types client now login tokens ≡ Ok (signed_by token tokens)
+    → user_of_tokens types client now login tokens ≡ Ok (signed_by token tokens)

@@ -10,13 +10,11 @@ use Rattle.oidc_oauth2.specs.TokenAnswers.{is_over_long, is_empty, may_be_json, 
 use Rattle.oidc_user_info.specs.UserInfoClaims.{SeenUserInfoClaims}
 use Rattle.oidc_user_info.specs.InfoAnswers.{claims_in}
 use Rattle.oidc_types.specs.{TextAndUrl}
-use Rattle.oidc_login.specs.SiteTypes.{SiteTypes}
+use Rattle.oidc_login.specs.Types.{SiteTypes}
 use Rattle.oidc_login.specs.Logins.{SeenLogin}
-use Rattle.oidc_login.specs.TokenRequest.{token_request}
-use Rattle.oidc_login.specs.TokenResponse.{Tokens, tokens_read}
-use Rattle.oidc_login.specs.IdTokens.{SeenIdToken, subject_of, IsAcceptedBy}
-use Rattle.oidc_login.specs.TokenHash.{FitsHash}
-use Rattle.oidc_login.specs.Rows.{Attempt, login_named_by, rest_of}
+use Rattle.oidc_login.specs.BeforeRequest.{token_request, login_named_by}
+use Rattle.oidc_login.specs.Token.{Tokens, tokens_read, SeenIdToken, subject_of, IsAcceptedBy, FitsHash}
+use Rattle.oidc_login.specs.Callback.{Attempt, rest_of}
 use Rattle.oidc_login.specs.declared.types.UserInfoDemand.{UserInfoDemand}
 
 module _ {AC GC Key Use : Type 0} (types : SiteTypes AC GC Key Use) where

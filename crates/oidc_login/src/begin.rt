@@ -5,8 +5,8 @@ ghost use Rattle.std.specs.FinMap as finite;
 ghost use Rattle.oidc_oauth2.specs.Pkce.{is_verifier, s256};
 ghost use Rattle.oidc_client.specs.Authorization.{seen_flow, HasChallenge, IsUnmanagedBeside, StandOnce};
 ghost use Rattle.oidc_login.specs.Logins.{HasVerifiers};
-ghost use Rattle.oidc_login.specs.Begins as begins;
-ghost use Rattle.oidc_login.specs.Begins.{begin_of, reply_by, challenge_or_refusal, url_or_refusal, Begins, with_login};
+ghost use Rattle.oidc_login.specs.Begin as begins;
+ghost use Rattle.oidc_login.specs.Begin.{begin_of, reply_by, challenge_or_refusal, url_or_refusal, Begins, with_login};
 
 use crate::errors::BeginError;
 use crate::store::{Login, Store};
@@ -37,7 +37,7 @@ fn lacks_endpoint(user_info: Option<UserInfoDemand>, has_endpoint: bool) -> bool
 }
 
 // The rows on request and verifier, of which comes the challenge.
-#[tactic(auto, unfolding(crate::specs::Begins::challenge_or_refusal))]
+#[tactic(auto, unfolding(crate::specs::Begin::challenge_or_refusal))]
 fn challenge_of(
     alloc: Global,
     client_id: &ClientId,
@@ -84,7 +84,7 @@ fn redirect_of(alloc: Global, request: &LoginRequest<'_>) -> Result<Option<Redir
 }
 
 // The row on the URL.
-#[tactic(auto, unfolding(crate::specs::Begins::url_or_refusal))]
+#[tactic(auto, unfolding(crate::specs::Begin::url_or_refusal))]
 fn url_of(
     alloc: Global,
     request: LoginRequest<'_>,
@@ -174,7 +174,7 @@ fn record(pending: &mut Store, url: Url, state: CsrfToken, login: Login) -> Resu
 }
 
 // The row on the URL; then the login is recorded.
-fn finish(
+fn recorded_url(
     alloc: Global,
     pending: &mut Store,
     request: LoginRequest<'_>,
@@ -216,7 +216,7 @@ fn finish(
 }
 
 // A begin, on the parts of a `Logins` and its client: the client's ID, and whether it has an endpoint for user info.
-pub(crate) fn start(
+pub(crate) fn begun_url(
     alloc: Global,
     client_id: &ClientId,
     has_endpoint: bool,
@@ -243,7 +243,7 @@ pub(crate) fn start(
         &verifier,
         user_info,
     ) {
-        Ok(kept) => finish(alloc, pending, request, verifier, user_info, kept),
+        Ok(kept) => recorded_url(alloc, pending, request, verifier, user_info, kept),
         Err(refusal) => {
             drop(request);
             drop(verifier);

@@ -1,7 +1,7 @@
 //! Laws of whole runs, each the contract of a function that does nothing; and the laws on the claims of ID tokens and
 //! of user info, passed on.
 
-ghost use Rattle.oidc_login.specs.SiteTypes.{site_types};
+ghost use Rattle.oidc_login.specs.Types.{site_types};
 ghost use Rattle.oidc_login.specs.Events.{SpentOnce, ValidSignsIn};
 
 use oidc_claims::{AdditionalClaims, GenderClaim};

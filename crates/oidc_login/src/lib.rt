@@ -19,7 +19,7 @@
 //! that for the code, and behind an accepted ID token that for user info. Unless the named login is gone
 //! afterwards, the transport is as it was. A callback leaves every other login as it was. Every refusal but want of
 //! memory has its cause, and a valid login is signed in, or the answer is want of memory. The contracts of `begin` and
-//! `callback` say so by the definitions in `specs/`: the table of a callback in `specs/Rows.antt`, what each reply
+//! `callback` say so by the definitions in `specs/`: the table of a callback in `specs/Callback.antt`, what each reply
 //! rests on in `specs/Causes.antt`, a valid login in `specs/ValidLogin.antt`, and all together as `Ran` in
 //! `specs/Runs.antt`; whole runs in `specs/Events.antt`.
 //!

@@ -8,9 +8,10 @@ ghost use Rattle.oidc_oauth2.specs.Requests.{code_request, Prepares};
 ghost use Rattle.oidc_oauth2.specs.Replies.{Gives, OrMemory};
 ghost use Rattle.oidc_login.specs.Errors.{faulted, is_spent_by, login_errors, spent_of};
 ghost use Rattle.oidc_login.specs.Logins.{HasVerifiers};
-ghost use Rattle.oidc_login.specs.TokenRequest as request;
-ghost use Rattle.oidc_login.specs.Rows as rows;
-ghost use Rattle.oidc_login.specs.Rows.{login_named_by, without_named, callback_store, SeenOpened};
+ghost use Rattle.oidc_login.specs.BeforeRequest as request;
+ghost use Rattle.oidc_login.specs.Callback as rows;
+ghost use Rattle.oidc_login.specs.BeforeRequest.{login_named_by};
+ghost use Rattle.oidc_login.specs.Callback.{without_named, callback_store, SeenTaken};
 
 use crate::errors::{LoginError, TooLong};
 use crate::signed_in::TokenResponse;
@@ -34,22 +35,22 @@ const MAX_QUERY: usize = 1_048_576;
 
 // A login that was taken out, and its token request.
 #[derive(Drop)]
-pub(crate) struct Opened {
+pub(crate) struct TakenLogin {
     pub(crate) login: Login,
     pub(crate) request: HttpRequest,
 }
 
-impl Model for Opened {
-    ghost use Rattle.oidc_login.specs.Rows.{SeenOpened};
+impl Model for TakenLogin {
+    ghost use Rattle.oidc_login.specs.Callback.{SeenTaken};
 
-    ghost Value = { SeenOpened };
+    ghost Value = { SeenTaken };
 
-    ghost view = { λ o. record { login = o.login; request = o.request } };
+    ghost view = { λ t. record { login = t.login; request = t.request } };
 }
 
 // Takes the login of a query's one state out.
 #[tactic(auto, using(crate::proofs::Entries::remove_absent))]
-fn take_named(pending: &mut Store, query: &Pairs) -> Option<Login>
+fn named_login(pending: &mut Store, query: &Pairs) -> Option<Login>
     ensures login { result ≡ login_named_by pending.old query.now }
     ensures verifier { IfSome result (λ l. IsTrue (is_verifier l.verifier)) }
     ensures rest { pending.new ≡ without_named pending.old query.now }
@@ -70,7 +71,7 @@ type CodeRequest<'a, AC, GC> = CodeTokenRequest<
 >;
 
 // What a request hands over, where it can be made. The request is let go.
-fn prepared<AC: AdditionalClaims, GC: GenderClaim>(
+fn http_request_of<AC: AdditionalClaims, GC: GenderClaim>(
     alloc: Global,
     request: CodeRequest<'_, AC, GC>,
 ) -> Result<HttpRequest, PrepareError>
@@ -82,7 +83,7 @@ fn prepared<AC: AdditionalClaims, GC: GenderClaim>(
 }
 
 // The request for a code, with the login's verifier and its redirect, to the client's token endpoint.
-#[tactic(auto, unfolding(crate::specs::TokenRequest::token_request))]
+#[tactic(auto, unfolding(crate::specs::BeforeRequest::token_request))]
 fn token_request<
     AC: AdditionalClaims,
     GC: GenderClaim,
@@ -109,16 +110,16 @@ fn token_request<
         alloc, endpoint, auth, code,
     ).set_pkce_verifier(verifier);
     match &login.redirect_uri {
-        None => prepared(alloc, request),
-        Some(redirect) => prepared(alloc, request.set_redirect_uri(redirect)),
+        None => http_request_of(alloc, request),
+        Some(redirect) => http_request_of(alloc, request.set_redirect_uri(redirect)),
     }
 }
 
 // The refusal of a query by its first `error`.
-#[tactic(auto, unfolding(crate::specs::Rows::error_word))]
+#[tactic(auto, unfolding(crate::specs::BeforeRequest::error_word))]
 fn provider_refusal<E>(alloc: Global, text: &str) -> LoginError<E>
-    ensures gives { Gives login_errors {A = SeenOpened} (Err result)
-        (Err (LoginError.Provider (rows.error_word text.now))) }
+    ensures gives { Gives login_errors {A = SeenTaken} (Err result)
+        (Err (LoginError.Provider (request.error_word text.now))) }
     ensures no_fault { faulted result ≡ false }
     ensures spent { spent_of result ≡ true }
 {
@@ -129,8 +130,8 @@ fn provider_refusal<E>(alloc: Global, text: &str) -> LoginError<E>
 }
 
 // The rows before the token request, of a query whose pairs are read.
-#[tactic(auto, unfolding(crate::specs::Rows::opening_by))]
-fn open<
+#[tactic(auto, unfolding(crate::specs::Callback::taken_login_by))]
+fn taken_login_by<
     AC: AdditionalClaims,
     GC: GenderClaim,
     K: JsonWebKey<SigningAlgorithm = CoreJwsSigningAlgorithm>,
@@ -140,8 +141,8 @@ fn open<
     client: &MetadataClient<AC, GC, K>,
     pending: &mut Store,
     query: &Pairs,
-) -> Result<Opened, LoginError<E>>
-    ensures gives { Gives login_errors result (rows.opening_by client.now pending.old query.now) }
+) -> Result<TakenLogin, LoginError<E>>
+    ensures gives { Gives login_errors result (rows.taken_login_by client.now pending.old query.now) }
     ensures no_fault { IfErr result (λ e. faulted e ≡ false) }
     ensures store { pending.new ≡ (if is_spent_by result
         then without_named pending.old query.now else pending.old) }
@@ -149,7 +150,7 @@ fn open<
     ensures removed { is_spent_by result ≡ true → IsSome (login_named_by pending.old query.now) }
     ensures verifiers { HasVerifiers pending.old → HasVerifiers pending.new }
 {
-    let Some(login) = take_named(pending, query) else {
+    let Some(login) = named_login(pending, query) else {
         return Err(LoginError::State);
     };
     if let Some(error) = query.first("error") {
@@ -161,7 +162,7 @@ fn open<
         return Err(LoginError::Callback);
     };
     match token_request(alloc, client, &login, code) {
-        Ok(request) => Ok(Opened { login, request }),
+        Ok(request) => Ok(TakenLogin { login, request }),
         Err(PrepareError::Uri) => {
             drop(login);
             Err(LoginError::Token(RequestTokenError::Other(OtherCause::Uri)))
@@ -181,8 +182,8 @@ fn is_too_long(query: &[u8]) -> bool
 }
 
 // The rows before the token request.
-#[tactic(auto, unfolding(crate::specs::Rows::opening))]
-pub(crate) fn opening<
+#[tactic(auto, unfolding(crate::specs::Callback::taken_login))]
+pub(crate) fn taken_login<
     AC: AdditionalClaims,
     GC: GenderClaim,
     K: JsonWebKey<SigningAlgorithm = CoreJwsSigningAlgorithm>,
@@ -192,8 +193,8 @@ pub(crate) fn opening<
     client: &MetadataClient<AC, GC, K>,
     pending: &mut Store,
     query: &[u8],
-) -> Result<Opened, LoginError<E>>
-    ensures gives { Gives login_errors result (rows.opening client.now pending.old query.now) }
+) -> Result<TakenLogin, LoginError<E>>
+    ensures gives { Gives login_errors result (rows.taken_login client.now pending.old query.now) }
     ensures no_fault { IfErr result (λ e. faulted e ≡ false) }
     ensures store { pending.new ≡ (if is_spent_by result
         then without_named pending.old (pairs query.now) else pending.old) }
@@ -210,5 +211,5 @@ pub(crate) fn opening<
     let Ok(pairs) = Pairs::parse(alloc, query) else {
         return Err(LoginError::Memory { spent: false });
     };
-    open(alloc, client, pending, &pairs)
+    taken_login_by(alloc, client, pending, &pairs)
 }

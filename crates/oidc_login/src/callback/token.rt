@@ -7,10 +7,10 @@ ghost use Rattle.oidc_oauth2.specs.Exchanges.{answer_of};
 ghost use Rattle.oidc_types.specs.declared.signing_error.SigningError.TheVariants.{UnsupportedAlg};
 ghost use Rattle.oidc_tokens.specs.Hashes.{GivesHash};
 ghost use Rattle.oidc_login.specs.Errors.{faulted, is_spent_by, login_errors, seen, wants_memory};
-ghost use Rattle.oidc_login.specs.SiteTypes.{site_types};
-ghost use Rattle.oidc_login.specs.TokenHash as hashes;
-ghost use Rattle.oidc_login.specs.TokenHash.{claimed_hash};
-ghost use Rattle.oidc_login.specs.Rows as rows;
+ghost use Rattle.oidc_login.specs.Types.{site_types};
+ghost use Rattle.oidc_login.specs.Token as hashes;
+ghost use Rattle.oidc_login.specs.Token.{claimed_hash};
+ghost use Rattle.oidc_login.specs.Callback as rows;
 ghost use Rattle.oidc_login.specs.Steps.{Faults, IsPassed};
 
 use crate::errors::LoginError;
@@ -28,8 +28,8 @@ use std::alloc::Global;
 use std::marker::Model;
 
 // The rows on the response to the token request.
-#[tactic(auto, unfolding(crate::specs::TokenResponse::tokens_or_refusal))]
-fn tokens_in<
+#[tactic(auto, unfolding(crate::specs::Token::tokens_or_refusal))]
+fn tokens_of<
     AC: AdditionalClaims,
     GC: GenderClaim,
     K: JsonWebKey<SigningAlgorithm = CoreJwsSigningAlgorithm>,
@@ -37,7 +37,7 @@ fn tokens_in<
 >(alloc: Global, response: HttpResponse) -> Result<TokenResponse<AC, GC>, LoginError<E>>
     ensures gives { let types = site_types AC.read_of GC.read_of
         K.JsonWebKey K.KeyUse.JsonWebKeyUse in
-        Gives login_errors result (rows.tokens_in types (seen_response response)) }
+        Gives login_errors result (rows.tokens_of types (seen_response response)) }
     ensures no_fault { IfErr result (λ e. faulted e ≡ false) }
     ensures spent { is_spent_by result ≡ true }
 {
@@ -55,7 +55,7 @@ fn no_hash(alloc: Global) -> SigningError
 }
 
 // The hash of an access token beside an ID token.
-#[tactic(auto, unfolding(crate::specs::TokenHash::hash_beside))]
+#[tactic(auto, unfolding(crate::specs::Token::hash_beside))]
 fn hash_beside<
     AC: AdditionalClaims,
     GC: GenderClaim,
@@ -80,7 +80,7 @@ fn hash_beside<
 }
 
 // The rows on the hash that an ID token may claim of the access token beside it.
-fn check_hash<
+fn checked_hash<
     AC: AdditionalClaims,
     GC: GenderClaim,
     K: JsonWebKey<SigningAlgorithm = CoreJwsSigningAlgorithm>,
@@ -94,7 +94,7 @@ fn check_hash<
     ensures gives { let types = site_types AC.read_of GC.read_of
         K.JsonWebKey K.KeyUse.JsonWebKeyUse in
         let hash = hashes.hash_beside types verifier.now token.now access_token.now in
-        Gives login_errors result (rows.hash_rows (claimed_hash token.now) hash) }
+        Gives login_errors result (rows.checked_hash (claimed_hash token.now) hash) }
     ensures no_fault { IfErr result (λ e. faulted e ≡ false) }
     ensures spent { is_spent_by result ≡ true }
 {
@@ -115,7 +115,7 @@ fn check_hash<
 }
 
 // The rows on the ID token, which came beside this access token.
-fn accepting<
+fn accepted_token<
     AC: AdditionalClaims,
     GC: GenderClaim,
     K: JsonWebKey<SigningAlgorithm = CoreJwsSigningAlgorithm>,
@@ -130,7 +130,7 @@ fn accepting<
 ) -> Result<(), LoginError<E>>
     ensures gives { let types = site_types AC.read_of GC.read_of
         K.JsonWebKey K.KeyUse.JsonWebKeyUse in
-        let meant = rows.accepting types client.now now.nanosecond login.now in
+        let meant = rows.accepted_token types client.now now.nanosecond login.now in
         Gives login_errors result (meant token.now access_token.now) }
     ensures no_fault { IfErr result (λ e. faulted e ≡ false) }
     ensures spent { is_spent_by result ≡ true }
@@ -139,13 +139,13 @@ fn accepting<
         return Err(LoginError::Memory { spent: true });
     };
     match token.claims(alloc, &verifier, &login.nonce, now) {
-        Ok(_) => check_hash(alloc, &verifier, token, access_token),
+        Ok(_) => checked_hash(alloc, &verifier, token, access_token),
         Err(error) => Err(LoginError::of_check(error)),
     }
 }
 
-// The rows on tokens that somebody else keeps.
-fn checking<
+// The rows on tokens that are lent.
+fn checked_tokens<
     AC: AdditionalClaims,
     GC: GenderClaim,
     K: JsonWebKey<SigningAlgorithm = CoreJwsSigningAlgorithm>,
@@ -163,7 +163,7 @@ fn checking<
         IfOk result (λ u. IsPassed types client.now now.nanosecond login.now tokens.now) }
     ensures refused { let types = site_types AC.read_of GC.read_of
         K.JsonWebKey K.KeyUse.JsonWebKeyUse in
-        let meant = rows.signing_in types client.now now.nanosecond login.now tokens.now in
+        let meant = rows.user_of_tokens types client.now now.nanosecond login.now tokens.now in
         IfErr result (λ e. Unless (wants_memory e) (meant ≡ Err (seen e))) }
     ensures no_fault { IfErr result (λ e. faulted e ≡ false) }
     ensures spent { is_spent_by result ≡ true }
@@ -171,11 +171,11 @@ fn checking<
     let Some(token) = tokens.extra_fields().id_token() else {
         return Err(LoginError::NoIdToken);
     };
-    accepting(alloc, client, now, login, token, tokens.access_token())
+    accepted_token(alloc, client, now, login, token, tokens.access_token())
 }
 
 // The rows on the tokens.
-fn signing_in<
+fn user_of_tokens<
     AC: AdditionalClaims,
     GC: GenderClaim,
     K: JsonWebKey<SigningAlgorithm = CoreJwsSigningAlgorithm>,
@@ -189,12 +189,12 @@ fn signing_in<
 ) -> Result<SignedIn<AC, GC>, LoginError<E>>
     ensures gives { let types = site_types AC.read_of GC.read_of
         K.JsonWebKey K.KeyUse.JsonWebKeyUse in
-        let meant = rows.signing_in types client.now now.nanosecond login.now tokens in
+        let meant = rows.user_of_tokens types client.now now.nanosecond login.now tokens in
         Gives login_errors result meant }
     ensures no_fault { IfErr result (λ e. faulted e ≡ false) }
     ensures spent { is_spent_by result ≡ true }
 {
-    match checking(alloc, client, now, login, &tokens) {
+    match checked_tokens(alloc, client, now, login, &tokens) {
         Ok(()) => Ok(SignedIn::new(tokens)),
         Err(error) => {
             drop(tokens);
@@ -204,8 +204,8 @@ fn signing_in<
 }
 
 // The rows after the token request, up to those on user info.
-#[tactic(auto, unfolding(crate::specs::Rows::after_token))]
-pub(crate) fn after_token<
+#[tactic(auto, unfolding(crate::specs::Callback::user_of_answer))]
+pub(crate) fn user_of_answer<
     AC: AdditionalClaims,
     GC: GenderClaim,
     K: JsonWebKey<SigningAlgorithm = CoreJwsSigningAlgorithm>,
@@ -219,7 +219,7 @@ pub(crate) fn after_token<
 ) -> Result<SignedIn<AC, GC>, LoginError<E>>
     ensures gives { let types = site_types AC.read_of GC.read_of
         K.JsonWebKey K.KeyUse.JsonWebKeyUse in
-        let meant = rows.after_token types client.now now.nanosecond login.now in
+        let meant = rows.user_of_answer types client.now now.nanosecond login.now in
         Gives login_errors result (meant (answer_of answer)) }
     ensures fault { Faults (answer_of answer) result }
     ensures spent { is_spent_by result ≡ true }
@@ -228,8 +228,8 @@ pub(crate) fn after_token<
         Ok(response) => response,
         Err(error) => return Err(LoginError::Token(RequestTokenError::Request(error))),
     };
-    match tokens_in::<AC, GC, K, E>(alloc, response) {
-        Ok(tokens) => signing_in(alloc, client, now, login, tokens),
+    match tokens_of::<AC, GC, K, E>(alloc, response) {
+        Ok(tokens) => user_of_tokens(alloc, client, now, login, tokens),
         Err(error) => Err(error),
     }
 }

@@ -5,9 +5,9 @@ ghost use Rattle.oidc_oauth2.specs.Messages.{seen_response};
 ghost use Rattle.oidc_oauth2.specs.Replies.{Gives};
 ghost use Rattle.oidc_oauth2.specs.Exchanges.{answer_of};
 ghost use Rattle.oidc_login.specs.Errors.{faulted, is_spent_by, login_errors};
-ghost use Rattle.oidc_login.specs.SiteTypes.{site_types};
+ghost use Rattle.oidc_login.specs.Types.{site_types};
 ghost use Rattle.oidc_login.specs.UserInfo as spec;
-ghost use Rattle.oidc_login.specs.Rows as rows;
+ghost use Rattle.oidc_login.specs.Callback as rows;
 ghost use Rattle.oidc_login.specs.Steps.{Faults};
 
 use crate::errors::LoginError;
@@ -28,17 +28,17 @@ type InfoRequest<'a, K> = UserInfoRequest<'a, CoreJweContentEncryptionAlgorithm,
 
 // What is asked for, and the request for it.
 #[derive(Drop)]
-pub(crate) struct Asked<'a, K: JsonWebKey> {
+pub(crate) struct PreparedInfo<'a, K: JsonWebKey> {
     pub(crate) ask: InfoRequest<'a, K>,
     pub(crate) request: HttpRequest,
 }
 
-impl<'a, K: JsonWebKey> Model for Asked<'a, K> {
-    ghost use Rattle.oidc_login.specs.Rows.{SeenAsked};
+impl<'a, K: JsonWebKey> Model for PreparedInfo<'a, K> {
+    ghost use Rattle.oidc_login.specs.Callback.{SeenPreparedInfo};
 
-    ghost Value = { SeenAsked K };
+    ghost Value = { SeenPreparedInfo K };
 
-    ghost view = { λ a. record { ask = a.ask; request = a.request } };
+    ghost view = { λ p. record { ask = p.ask; request = p.request } };
 }
 
 // A request with the four values of a demand.
@@ -69,16 +69,16 @@ fn copies<AC: AdditionalClaims, GC: GenderClaim>(
 }
 
 // The request, where it can be made.
-fn prepared<'a, K: JsonWebKey, E>(
+fn prepared_by<'a, K: JsonWebKey, E>(
     alloc: Global,
     ask: InfoRequest<'a, K>,
-) -> Result<Asked<'a, K>, LoginError<E>>
-    ensures gives { Gives login_errors result (rows.prepared ask.entry) }
+) -> Result<PreparedInfo<'a, K>, LoginError<E>>
+    ensures gives { Gives login_errors result (rows.prepared_by ask.entry) }
     ensures no_fault { IfErr result (λ e. faulted e ≡ false) }
     ensures spent { is_spent_by result ≡ true }
 {
     match ask.prepare(alloc) {
-        Ok(request) => Ok(Asked { ask, request }),
+        Ok(request) => Ok(PreparedInfo { ask, request }),
         Err(PrepareInfoError::Bearer) => {
             drop(ask);
             Err(LoginError::UserInfo(UserInfoError::Other(InfoOther::Bearer)))
@@ -95,8 +95,8 @@ fn prepared<'a, K: JsonWebKey, E>(
 }
 
 // The rows before the user info request.
-#[tactic(auto, unfolding(crate::specs::Rows::asking))]
-pub(crate) fn asking<
+#[tactic(auto, unfolding(crate::specs::Callback::prepared_info))]
+pub(crate) fn prepared_info<
     'a,
     AC: AdditionalClaims,
     GC: GenderClaim,
@@ -107,8 +107,8 @@ pub(crate) fn asking<
     client: &'a MetadataClient<AC, GC, K>,
     demand: UserInfoDemand,
     user: &SignedIn<AC, GC>,
-) -> Result<Asked<'a, K>, LoginError<E>>
-    ensures gives { Gives login_errors result (rows.asking client.now demand user.now) }
+) -> Result<PreparedInfo<'a, K>, LoginError<E>>
+    ensures gives { Gives login_errors result (rows.prepared_info client.now demand user.now) }
     ensures no_fault { IfErr result (λ e. faulted e ≡ false) }
     ensures spent { is_spent_by result ≡ true }
 {
@@ -116,14 +116,14 @@ pub(crate) fn asking<
         return Err(LoginError::Memory { spent: true });
     };
     match client.user_info(access_token, Some(subject)) {
-        Ok(ask) => prepared(alloc, demanded(demand, ask)),
+        Ok(ask) => prepared_by(alloc, demanded(demand, ask)),
         Err(_) => Err(LoginError::UserInfo(UserInfoError::Other(InfoOther::Uri))),
     }
 }
 
 // The rows on the response to the user info request.
-#[tactic(auto, unfolding(crate::specs::Rows::info_in))]
-fn info_in<
+#[tactic(auto, unfolding(crate::specs::Callback::info_of))]
+fn info_of<
     AC: AdditionalClaims,
     GC: GenderClaim,
     K: JsonWebKey<SigningAlgorithm = CoreJwsSigningAlgorithm>,
@@ -135,7 +135,7 @@ fn info_in<
 ) -> Result<UserInfoClaims<AC, GC>, LoginError<E>>
     ensures gives { let types = site_types AC.read_of GC.read_of
         K.JsonWebKey K.KeyUse.JsonWebKeyUse in
-        Gives login_errors result (rows.info_in types ask.entry.demand (seen_response response)) }
+        Gives login_errors result (rows.info_of types ask.entry.demand (seen_response response)) }
     ensures no_fault { IfErr result (λ e. faulted e ≡ false) }
     ensures spent { is_spent_by result ≡ true }
 {
@@ -146,8 +146,8 @@ fn info_in<
 }
 
 // The rows after the user info request.
-#[tactic(auto, unfolding(crate::specs::Rows::after_info))]
-pub(crate) fn after_info<
+#[tactic(auto, unfolding(crate::specs::Callback::user_with_info))]
+pub(crate) fn user_with_info<
     AC: AdditionalClaims,
     GC: GenderClaim,
     K: JsonWebKey<SigningAlgorithm = CoreJwsSigningAlgorithm>,
@@ -160,7 +160,7 @@ pub(crate) fn after_info<
 ) -> Result<SignedIn<AC, GC>, LoginError<E>>
     ensures gives { let types = site_types AC.read_of GC.read_of
         K.JsonWebKey K.KeyUse.JsonWebKeyUse in
-        Gives login_errors result (rows.after_info types ask.entry.demand user (answer_of answer)) }
+        Gives login_errors result (rows.user_with_info types ask.entry.demand user (answer_of answer)) }
     ensures fault { Faults (answer_of answer) result }
     ensures spent { is_spent_by result ≡ true }
 {
@@ -172,7 +172,7 @@ pub(crate) fn after_info<
             return Err(LoginError::UserInfo(UserInfoError::Request(error)));
         }
     };
-    match info_in(alloc, ask, response) {
+    match info_of(alloc, ask, response) {
         Ok(found) => Ok(user.with_user_info(found)),
         Err(error) => {
             drop(user);

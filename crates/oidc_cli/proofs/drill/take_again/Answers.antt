@@ -1,6 +1,6 @@
 use Rattle.std.proofs.Common.{[], length, ap, ◌∙◌}
 use Rattle.oidc_login.specs.Events as runs
-use Rattle.oidc_login.specs.Rows.{outcome}
+use Rattle.oidc_login.specs.Callback.{outcome}
 use Rattle.oidc_cli.specs.Types.{types}
 use Rattle.oidc_cli.specs.Report.{call_of_line}
 use Rattle.oidc_cli.specs.Drill.{one_if, is_refused_as_state}

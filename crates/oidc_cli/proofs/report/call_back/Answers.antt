@@ -4,7 +4,7 @@ use Rattle.oidc_oauth2.specs.Transport.{Log}
 use Rattle.oidc_oauth2.specs.Exchanges.{Run}
 use Rattle.oidc_login.specs.Errors.{Error, seen_reply}
 use Rattle.oidc_login.specs.Events.{called_with}
-use Rattle.oidc_login.specs.Rows.{outcome, callback_store}
+use Rattle.oidc_login.specs.Callback.{outcome, callback_store}
 use Rattle.oidc_login.specs.Runs.{attempt}
 use Rattle.oidc_cli.specs.Types.{types, SeenSignedIn}
 use Rattle.oidc_cli.specs.ReportLines.{HasNoFloats}

@@ -11,7 +11,7 @@ use Rattle.oidc_types.specs.declared.core_authorization.CoreResponseType.{CoreRe
 use Rattle.oidc_oauth2.specs.Pkce.{is_verifier, s256}
 use Rattle.oidc_oauth2.specs.Replies.{◌>>=◌, ◌>>◌, ◌when◌}
 use Rattle.oidc_client.specs.Authorization.{SeenAuthorization, Flow, Code, Implicit, Hybrid, auth_url}
-use Rattle.oidc_login.specs.Client.{SeenLoginClient}
+use Rattle.oidc_login.specs.Types.{SeenLoginClient}
 use Rattle.oidc_login.specs.Logins.{Pending}
 use Rattle.oidc_login.specs.declared.types.UserInfoDemand.{UserInfoDemand}
 use Rattle.oidc_login.specs.declared.errors.BeginError.{BeginError}

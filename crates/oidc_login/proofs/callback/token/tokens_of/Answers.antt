@@ -1,6 +1,6 @@
-use Rattle.oidc_login.specs.SiteTypes.{site_types}
+use Rattle.oidc_login.specs.Types.{site_types}
 use Rattle.oidc_login.proofs.Answers.{tokens_given, refusal_given, no_fault_given, of_token_spent}
-use Rattle.oidc_login.proofs.callback.token.tokens_in.Goals as goal
+use Rattle.oidc_login.proofs.callback.token.tokens_of.Goals as goal
 
 pub returns-in-Ok-clause-gives : goal.returns-in-Ok-clause-gives
 returns-in-Ok-clause-gives g c = tokens_given _ _ _ c.in-Ok.ensures.answer

@@ -1,5 +1,5 @@
 use Rattle.oidc_login.proofs.InfoAnswers.{info_given, info_refusal_given, info_no_fault, of_info_spent}
-use Rattle.oidc_login.proofs.callback.user_info.info_in.Goals as goal
+use Rattle.oidc_login.proofs.callback.user_info.info_of.Goals as goal
 
 pub returns-in-Ok-clause-gives : goal.returns-in-Ok-clause-gives
 returns-in-Ok-clause-gives g c = info_given _ _ _ _ c.in-Ok.ensures.answer

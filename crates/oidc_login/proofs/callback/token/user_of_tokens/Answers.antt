@@ -1,5 +1,5 @@
 use Rattle.oidc_login.proofs.Signing.{signs}
-use Rattle.oidc_login.proofs.callback.token.signing_in.Goals as goal
+use Rattle.oidc_login.proofs.callback.token.user_of_tokens.Goals as goal
 
 pub returns-in-Ok-clause-gives : goal.returns-in-Ok-clause-gives
 returns-in-Ok-clause-gives g c =
