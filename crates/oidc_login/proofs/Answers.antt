@@ -14,8 +14,8 @@ use Rattle.oidc_oauth2.proofs.Theorems.{IsJudged, status_worth-judged, StatusRes
 use Rattle.oidc_login.specs.Types.{SiteTypes}
 use Rattle.oidc_login.specs.Token.{Tokens, TokenError, error_read, tokens_read, tokens_or_refusal}
 use Rattle.oidc_login.specs.Errors.{login_errors, faulted, spent_of}
-use Rattle.oidc_login.specs.Steps.{of_token}
-use Rattle.oidc_login.specs.Callback.{Meant, tokens_of}
+use Rattle.oidc_login.specs.Steps.{of_token, tokens_of}
+use Rattle.oidc_login.specs.Callback.{Meant}
 use Rattle.oidc_login.specs.declared.errors.TooLong.TheVariants as place
 use Rattle.oidc_login.specs.declared.errors.LoginError.TheVariants as login
 

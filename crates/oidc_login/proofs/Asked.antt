@@ -16,7 +16,8 @@ use Rattle.oidc_login.specs.Types.{SeenLoginClient}
 use Rattle.oidc_login.specs.Token.{subject_of}
 use Rattle.oidc_login.specs.SignedIn.{SeenSignedIn}
 use Rattle.oidc_login.specs.UserInfo.{demanded, info_ask}
-use Rattle.oidc_login.specs.Callback.{Meant, SeenPreparedInfo, prepared_by, prepared_info}
+use Rattle.oidc_login.specs.Callback.{Meant, SeenPreparedInfo, prepared_info}
+use Rattle.oidc_login.specs.Steps.{prepared_by}
 use Rattle.oidc_login.specs.declared.types.UserInfoDemand.{UserInfoDemand}
 use Rattle.oidc_login.specs.declared.errors.LoginError.TheVariants.{UserInfo}
 

@@ -11,7 +11,8 @@ use Rattle.oidc_login.specs.Types.{SeenLoginClient, SiteTypes}
 use Rattle.oidc_login.specs.Logins.{SeenLogin}
 use Rattle.oidc_login.specs.SignedIn.{SeenSignedIn, signed_by}
 use Rattle.oidc_login.specs.Errors.{Error, seen, wants_memory, login_errors}
-use Rattle.oidc_login.specs.Callback.{Attempt, Meant, SeenTaken, SeenPreparedInfo, LoginRun, rest_of, preceded_by, answered_alone, taken_login, user_of_answer, prepared_info, user_with_info, prepared_run, demand_run, token_run, taken_run, outcome}
+use Rattle.oidc_login.specs.Callback.{Attempt, Meant, SeenTaken, SeenPreparedInfo, LoginRun, replied, taken_login, user_of_answer, prepared_info, user_with_info, demand_run, outcome}
+use Rattle.oidc_login.specs.Steps.{preceded_by, prepared_run, token_run, taken_run}
 use Rattle.oidc_login.specs.Causes.{Asks, AsksNothing, Held, Cause, IsSignedIn}
 use Rattle.oidc_login.specs.Runs.{IsItsRequest, AreBothRequests, AreItsRequests, handed_over, Ran}
 use Rattle.oidc_login.specs.declared.types.UserInfoDemand.{UserInfoDemand}
@@ -66,7 +67,7 @@ plays_twice (Some script) mid left x later first second =
 
 module _ {A E : Type 0} where
   -- a step before any request refused
-  pub refused : {B : Type 0} (run : List SeenAnswer → Meant B → LoginRun A) (old : Known) (e : LoginError E) (m : Meant B) → ((x : Error) → run [] (Err x) ≡ answered_alone (Err x))
+  pub refused : {B : Type 0} (run : List SeenAnswer → Meant B → LoginRun A) (old : Known) (e : LoginError E) (m : Meant B) → ((x : Error) → run [] (Err x) ≡ replied (Err x) [])
       → Gives login_errors {A = B} (Err e) m → Follows login_errors (λ answers. run answers m) old old (Err e)
   refused run old e m alone gives =
       settled login_errors (λ answers. run answers m) old (Err e)
@@ -75,7 +76,7 @@ module _ {A E : Type 0} where
 
   -- one request, and what follows it
   pub continued : (whole : SeenAnswer → List SeenAnswer → LoginRun A) (request : SeenRequest) (old mid new : Known) (x : SeenAnswer) (result : Result A (LoginError E))
-      → Exchanged old mid request x → Follows login_errors (whole x) mid new result → Follows login_errors (λ answers. preceded_by request (whole (first_answer answers) (rest_of answers))) old new result
+      → Exchanged old mid request x → Follows login_errors (whole x) mid new result → Follows login_errors (λ answers. preceded_by request (whole (first_answer answers) (drop 1 answers))) old new result
   continued whole request old mid new x result sent later = record {
     answers = x ∷ later.answers;
     logged = later.logged
@@ -158,25 +159,25 @@ module _ {AC GC Key Use : Type 0} (types : SiteTypes AC GC Key Use) (a : Attempt
 
   module _ (answers : List SeenAnswer) where
     -- none, the token request, or both
-    abbrev Sendable : List SeenRequest → Type 0
+    abbrev pub Sendable : List SeenRequest → Type 0
     Sendable sent = (sent ≡ []) ⊎ AreItsRequests types a answers sent
 
     both_sent : (h : Held AC GC) (first : SeenRequest) → Asks a h.login first → (m : Meant (SeenPreparedInfo Key)) → Walk (rows.IsAskedOf types a answers h) (Cause types a answers) m
-        → AreItsRequests types a answers (first ∷ (prepared_run types (signed_by h.token h.tokens) (rest_of answers) m).sent)
+        → AreItsRequests types a answers (first ∷ (prepared_run types (signed_by h.token h.tokens) (drop 1 answers) m).sent)
     both_sent h first asked (Err e) walk = inl (record { login = h.login; request = first; asked = asked; alone = refl })
     both_sent h first asked (Ok x) walk =
         inr (record { held = h; first = first; asked = asked; ask = x.ask; second = x.request; asked_info = walk; both = refl })
 
     info_sent : (l : SeenLogin) (first : SeenRequest) → Asks a l first → (user : SeenSignedIn AC GC) → rows.IsHeld types a answers l user → (demand : Option UserInfoDemand) → l.user_info ≡ demand
-        → AreItsRequests types a answers (first ∷ (demand_run types a.client demand user (rest_of answers)).sent)
+        → AreItsRequests types a answers (first ∷ (demand_run types a.client demand user (drop 1 answers)).sent)
     info_sent l first asked user x None none = inl (record { login = l; request = first; asked = asked; alone = refl })
     info_sent l first asked user x (Some demand) is =
         let h = rows.held types a answers l x.tokens x.token in
-        subst (λ u. AreItsRequests types a answers (first ∷ (prepared_run types u (rest_of answers) (prepared_info a.client demand u)).sent)) x.own
+        subst (λ u. AreItsRequests types a answers (first ∷ (prepared_run types u (drop 1 answers) (prepared_info a.client demand u)).sent)) x.own
         (both_sent h first asked (prepared_info a.client demand (signed_by x.token x.tokens)) (rows.prepared_info-walk types a answers h x.fits demand is))
 
     token_sent : (l : SeenLogin) (first : SeenRequest) → Asks a l first → (m : Meant (SeenSignedIn AC GC)) → Walk (rows.IsHeld types a answers l) (Cause types a answers) m
-        → AreItsRequests types a answers (first ∷ (token_run types a.client l (rest_of answers) m).sent)
+        → AreItsRequests types a answers (first ∷ (token_run types a.client l (drop 1 answers) m).sent)
     token_sent l first asked (Err e) walk = inl (record { login = l; request = first; asked = asked; alone = refl })
     token_sent l first asked (Ok user) walk = info_sent l first asked user walk l.user_info refl
 
@@ -184,7 +185,7 @@ module _ {AC GC Key Use : Type 0} (types : SiteTypes AC GC Key Use) (a : Attempt
     opened_sent (Err e) walk = inl refl
     opened_sent (Ok o) walk = inr (token_sent o.login o.request walk _ (rows.user_of_answer-walk types a answers o.login o.request walk))
 
-    sendable : Sendable (outcome types a answers).sent
+    pub sendable : Sendable (outcome types a answers).sent
     sendable = opened_sent opens (rows.taken_login-walk types a answers)
 
     -- ---- the first of them
@@ -228,7 +229,7 @@ module _ {AC GC Key Use : Type 0} (types : SiteTypes AC GC Key Use) (a : Attempt
     both_counted : (sent : List SeenRequest) → AreBothRequests types a answers sent → length sent ≤ 2
     both_counted sent b = subst (λ (s : List SeenRequest). length s ≤ 2) (sym b.both) (lit≤ tt)
 
-    at_most_two : (sent : List SeenRequest) → (sent ≡ []) ⊎ AreItsRequests types a answers sent → length sent ≤ 2
+    pub at_most_two : (sent : List SeenRequest) → (sent ≡ []) ⊎ AreItsRequests types a answers sent → length sent ≤ 2
     at_most_two sent may = ⊎_elim (none_counted sent) (λ its. ⊎_elim (one_counted sent) (both_counted sent) its) may
 
     take_all : (sent : List SeenRequest) → take (length sent) sent ≡ sent

@@ -26,8 +26,8 @@ use Rattle.oidc_user_info.specs.declared.errors.UserInfoError.{UserInfoError}
 use Rattle.oidc_user_info.specs.declared.errors.UserInfoError.TheVariants as info
 use Rattle.oidc_login.specs.Types.{SiteTypes}
 use Rattle.oidc_login.specs.Errors.{login_errors, faulted, spent_of}
-use Rattle.oidc_login.specs.Steps.{of_info}
-use Rattle.oidc_login.specs.Callback.{Meant, info_of}
+use Rattle.oidc_login.specs.Steps.{of_info, info_of}
+use Rattle.oidc_login.specs.Callback.{Meant}
 use Rattle.oidc_login.specs.declared.errors.TooLong.TheVariants as place
 use Rattle.oidc_login.specs.declared.errors.LoginError.TheVariants as login
 use Rattle.oidc_login.proofs.NoMemory.{NeverWants}

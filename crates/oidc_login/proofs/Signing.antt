@@ -11,10 +11,10 @@ use Rattle.oidc_login.specs.Logins.{SeenLogin}
 use Rattle.oidc_login.specs.Token.{SeenIdToken, KeyVerifier, verifier_of, is_nonce, failure_for, claimed_hash, hash_beside, Tokens}
 use Rattle.oidc_login.specs.SignedIn.{SeenSignedIn, signed_by}
 use Rattle.oidc_login.specs.Errors.{seen, wants_memory, faulted, spent_of, login_errors}
-use Rattle.oidc_login.specs.Callback.{Meant, checked_hash, accepted_token, user_of_tokens}
+use Rattle.oidc_login.specs.Callback.{Meant}
 use Rattle.oidc_login.specs.declared.errors.LoginError.{LoginError}
 use Rattle.oidc_login.specs.declared.errors.LoginError.TheVariants as login
-use Rattle.oidc_login.specs.Steps.{of_check, IsPassed}
+use Rattle.oidc_login.specs.Steps.{of_check, IsPassed, checked_hash, accepted_token, user_of_tokens}
 
 -- ---- the checks
 

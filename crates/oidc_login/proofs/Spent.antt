@@ -16,7 +16,8 @@ use Rattle.oidc_login.specs.Types.{SeenLoginClient, SiteTypes}
 use Rattle.oidc_login.specs.Logins.{SeenLogin, Pending}
 use Rattle.oidc_login.specs.Begin.{Begin, Meant as BeginMeant, begin_reply, begin_store}
 use Rattle.oidc_login.specs.BeforeRequest.{state_in, login_named_by}
-use Rattle.oidc_login.specs.Callback.{Attempt, Meant, SeenTaken, taken_login, taken_run, outcome}
+use Rattle.oidc_login.specs.Callback.{Attempt, Meant, SeenTaken, taken_login, outcome}
+use Rattle.oidc_login.specs.Steps.{taken_run}
 use Rattle.oidc_login.specs.Causes.{Asks, Cause}
 use Rattle.oidc_login.specs.Events.{Event, begins, calls, Step, called_with, begin_step, callback_step, steps_from, store_of, is_accepted, is_of_state, has_any, begins_again, has_sent, SpentOnce}
 use Rattle.oidc_login.proofs.Turns.{turns_dropped}

@@ -1,15 +1,18 @@
--- What crates above may cite: a transport that plays a script gives what the script gives; user info that an answer holds is
--- what the answer is worth; and where all additional claims are kept, those of a user who is signed in hold no float.
-use Rattle.std.proofs.Common.{◌≡◌, ℕ, ℤ, zero, suc, List, [], ◌∷◌, Option, None, Some, Ok, Err, length, drop, refl, ap, ◌∙◌, arith}
+-- What crates above may cite: a transport that plays a script gives what the script gives; a callback sends at most two
+-- requests; user info that an answer holds is what the answer is worth; and where all additional claims are kept, those of
+-- a user who is signed in hold no float.
+use Rattle.std.proofs.Common.{◌≡◌, ◌≤◌, ℕ, ℤ, zero, suc, List, [], ◌∷◌, Option, None, Some, Ok, Err, length, drop, refl, ap, ◌∙◌, arith}
 use Rattle.oidc_oauth2.specs.Messages.{SeenAnswer}
 use Rattle.oidc_oauth2.specs.Transport.{played, first_answer}
 use Rattle.oidc_login.specs.Types.{SeenLoginClient, SiteTypes}
 use Rattle.oidc_login.specs.Logins.{SeenLogin}
 use Rattle.oidc_login.specs.SignedIn.{SeenSignedIn}
-use Rattle.oidc_login.specs.Callback.{Attempt, Meant, SeenTaken, SeenPreparedInfo, rest_of, preceded_by, taken_login, user_of_answer, prepared_info, prepared_run, demand_run, token_run, taken_run, outcome}
+use Rattle.oidc_login.specs.Callback.{Attempt, Meant, SeenTaken, SeenPreparedInfo, taken_login, user_of_answer, prepared_info, demand_run, outcome}
+use Rattle.oidc_login.specs.Steps.{preceded_by, prepared_run, token_run, taken_run}
 use Rattle.oidc_login.specs.declared.types.UserInfoDemand.{UserInfoDemand}
 pub use Rattle.oidc_login.proofs.NoFloat.{signed_free}
 pub use Rattle.oidc_login.proofs.Found.{info_answered}
+use Rattle.oidc_login.proofs.Drives.{at_most_two, sendable}
 
 -- answers that are the next ones of a script
 abbrev IsPlayed : List SeenAnswer → List SeenAnswer → Type 0
@@ -19,15 +22,11 @@ first_played : (answers script : List SeenAnswer) (n : ℕ) → IsPlayed answers
 first_played [] script n plays long = absurd (omega arith)
 first_played (x ∷ later) script n plays long = ap first_answer plays
 
-rest_dropped : (script : List SeenAnswer) → drop 1 script ≡ rest_of script
-rest_dropped [] = refl
-rest_dropped (x ∷ later) = refl
-
-rest_played : (answers script : List SeenAnswer) (n : ℕ) → IsPlayed answers script → length answers ≡ suc n → IsPlayed (rest_of answers) (rest_of script)
+rest_played : (answers script : List SeenAnswer) (n : ℕ) → IsPlayed answers script → length answers ≡ suc n → IsPlayed (drop 1 answers) (drop 1 script)
 rest_played [] script n plays long = absurd (omega arith)
-rest_played (x ∷ later) script n plays long = ap rest_of plays ∙ ap (λ s. played s (length later)) (rest_dropped script)
+rest_played (x ∷ later) script n plays long = ap (drop 1) plays
 
-one_less : (answers : List SeenAnswer) (n : ℕ) → length answers ≡ suc n → length (rest_of answers) ≡ n
+one_less : (answers : List SeenAnswer) (n : ℕ) → length answers ≡ suc n → length (drop 1 answers) ≡ n
 one_less [] n long = absurd (omega arith)
 one_less (x ∷ later) n long = omega arith
 
@@ -52,13 +51,17 @@ module _ {AC GC Key Use : Type 0} (types : SiteTypes AC GC Key Use) where
       → length answers ≡ length (taken_run types client now answers m).sent → taken_run types client now answers m ≡ taken_run types client now script m
   opened_by client now (Err e) answers script plays all = refl
   opened_by client now (Ok o) answers script plays all =
-      let later = token_run types client o.login (rest_of answers) (user_of_answer types client now o.login (first_answer answers)) in
+      let later = token_run types client o.login (drop 1 answers) (user_of_answer types client now o.login (first_answer answers)) in
       ap (preceded_by o.request)
-      (token_by client o.login (user_of_answer types client now o.login (first_answer answers)) (rest_of answers) (rest_of script)
+      (token_by client o.login (user_of_answer types client now o.login (first_answer answers)) (drop 1 answers) (drop 1 script)
       (rest_played answers script (length later.sent) plays all) (one_less answers (length later.sent) all)
-      ∙ ap (λ x. token_run types client o.login (rest_of script) (user_of_answer types client now o.login x)) (first_played answers script (length later.sent) plays all))
+      ∙ ap (λ x. token_run types client o.login (drop 1 script) (user_of_answer types client now o.login x)) (first_played answers script (length later.sent) plays all))
 
   -- answers that are the next ones of a script, one for each request, give what the script gives
   pub outcome-of_script : (a : Attempt Key) (answers script : List SeenAnswer) → answers ≡ played script (length answers)
       → length answers ≡ length (outcome types a answers).sent → outcome types a answers ≡ outcome types a script
   outcome-of_script a answers script plays all = opened_by a.client a.now (taken_login a.client a.pending a.query) answers script plays all
+
+  -- a callback sends at most two requests
+  pub few_sent : (a : Attempt Key) (answers : List SeenAnswer) → length (outcome types a answers).sent ≤ 2
+  few_sent a answers = at_most_two types a answers (outcome types a answers).sent (sendable types a answers)

@@ -163,3 +163,13 @@ abbrev pub claims_another : Option (List ℕ) → Result (List ℕ) SigningError
 claims_another None hash = false
 claims_another (Some claim) (Ok hash) = not (bytes_eq hash claim)
 claims_another (Some claim) (Err refusal) = false
+
+module _ {AC GC Key Use : Type 0} (types : SiteTypes AC GC Key Use) where
+  -- the same of the `at_hash` of a token and the hash of the access token beside it
+  abbrev pub hash_refusal : SeenLoginClient Key → SeenIdToken AC GC → List ℕ → Option SigningError
+  hash_refusal client token access_token =
+      refusal_of_claim (claimed_hash token) (hash_beside types (verifier_of types client) token access_token)
+
+  abbrev pub has_another_hash : SeenLoginClient Key → SeenIdToken AC GC → List ℕ → Bool
+  has_another_hash client token access_token =
+      claims_another (claimed_hash token) (hash_beside types (verifier_of types client) token access_token)

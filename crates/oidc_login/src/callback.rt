@@ -13,6 +13,7 @@ ghost use Rattle.oidc_login.specs.BeforeRequest.{login_named_by};
 ghost use Rattle.oidc_login.specs.Callback.{callback_store};
 ghost use Rattle.oidc_login.specs.Causes.{AsksNothing};
 ghost use Rattle.oidc_login.specs.Runs.{Ran, Leaves, attempt_by};
+ghost use Rattle.oidc_login.specs.Steps as steps;
 
 mod before_request;
 mod token;
@@ -51,7 +52,7 @@ fn prepared_reply<
         K.JsonWebKey K.KeyUse.JsonWebKeyUse in
         let before = known (H.log http.old) (H.script http.old) in
         let after = known (H.log http.new) (H.script http.new) in
-        Follows login_errors (λ answers. rows.prepared_run types user answers (Ok prepared.entry))
+        Follows login_errors (λ answers. steps.prepared_run types user answers (Ok prepared.entry))
         before after result }
     ensures spent { is_spent_by result ≡ true }
     ensures blamed { IsRequestBlamed login_errors (H.faults http.old) (H.faults http.new) result }
@@ -119,7 +120,7 @@ fn taken_reply<
     ensures again { H.ready http.new }
     ensures follows { let types = site_types AC.read_of GC.read_of
         K.JsonWebKey K.KeyUse.JsonWebKeyUse in
-        let run = rows.taken_run types client.now now.nanosecond in
+        let run = steps.taken_run types client.now now.nanosecond in
         let before = known (H.log http.old) (H.script http.old) in
         let after = known (H.log http.new) (H.script http.new) in
         Follows login_errors (λ answers. run answers (Ok taken)) before after result }

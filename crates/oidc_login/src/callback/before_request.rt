@@ -12,6 +12,7 @@ ghost use Rattle.oidc_login.specs.BeforeRequest as request;
 ghost use Rattle.oidc_login.specs.Callback as rows;
 ghost use Rattle.oidc_login.specs.BeforeRequest.{login_named_by};
 ghost use Rattle.oidc_login.specs.Callback.{without_named, callback_store, SeenTaken};
+ghost use Rattle.oidc_login.specs.Steps as steps;
 
 use crate::errors::{LoginError, TooLong};
 use crate::signed_in::TokenResponse;
@@ -130,7 +131,7 @@ fn provider_refusal<E>(alloc: Global, text: &str) -> LoginError<E>
 }
 
 // The rows before the token request, of a query whose pairs are read.
-#[tactic(auto, unfolding(crate::specs::Callback::taken_login_by))]
+#[tactic(auto, unfolding(crate::specs::Steps::taken_login_by))]
 fn taken_login_by<
     AC: AdditionalClaims,
     GC: GenderClaim,
@@ -142,7 +143,7 @@ fn taken_login_by<
     pending: &mut Store,
     query: &Pairs,
 ) -> Result<TakenLogin, LoginError<E>>
-    ensures gives { Gives login_errors result (rows.taken_login_by client.now pending.old query.now) }
+    ensures gives { Gives login_errors result (steps.taken_login_by client.now pending.old query.now) }
     ensures no_fault { IfErr result (λ e. faulted e ≡ false) }
     ensures store { pending.new ≡ (if is_spent_by result
         then without_named pending.old query.now else pending.old) }
@@ -182,7 +183,7 @@ fn is_too_long(query: &[u8]) -> bool
 }
 
 // The rows before the token request.
-#[tactic(auto, unfolding(crate::specs::Callback::taken_login))]
+#[tactic(auto, unfolding(crate::specs::Callback::taken_login, crate::specs::Steps::taken_login_by))]
 pub(crate) fn taken_login<
     AC: AdditionalClaims,
     GC: GenderClaim,

@@ -11,6 +11,7 @@ ghost use Rattle.oidc_login.specs.Types.{site_types};
 ghost use Rattle.oidc_login.specs.Token as hashes;
 ghost use Rattle.oidc_login.specs.Token.{claimed_hash};
 ghost use Rattle.oidc_login.specs.Callback as rows;
+ghost use Rattle.oidc_login.specs.Steps as steps;
 ghost use Rattle.oidc_login.specs.Steps.{Faults, IsPassed};
 
 use crate::errors::LoginError;
@@ -37,7 +38,7 @@ fn tokens_of<
 >(alloc: Global, response: HttpResponse) -> Result<TokenResponse<AC, GC>, LoginError<E>>
     ensures gives { let types = site_types AC.read_of GC.read_of
         K.JsonWebKey K.KeyUse.JsonWebKeyUse in
-        Gives login_errors result (rows.tokens_of types (seen_response response)) }
+        Gives login_errors result (steps.tokens_of types (seen_response response)) }
     ensures no_fault { IfErr result (λ e. faulted e ≡ false) }
     ensures spent { is_spent_by result ≡ true }
 {
@@ -94,7 +95,7 @@ fn checked_hash<
     ensures gives { let types = site_types AC.read_of GC.read_of
         K.JsonWebKey K.KeyUse.JsonWebKeyUse in
         let hash = hashes.hash_beside types verifier.now token.now access_token.now in
-        Gives login_errors result (rows.checked_hash (claimed_hash token.now) hash) }
+        Gives login_errors result (steps.checked_hash (claimed_hash token.now) hash) }
     ensures no_fault { IfErr result (λ e. faulted e ≡ false) }
     ensures spent { is_spent_by result ≡ true }
 {
@@ -130,7 +131,7 @@ fn accepted_token<
 ) -> Result<(), LoginError<E>>
     ensures gives { let types = site_types AC.read_of GC.read_of
         K.JsonWebKey K.KeyUse.JsonWebKeyUse in
-        let meant = rows.accepted_token types client.now now.nanosecond login.now in
+        let meant = steps.accepted_token types client.now now.nanosecond login.now in
         Gives login_errors result (meant token.now access_token.now) }
     ensures no_fault { IfErr result (λ e. faulted e ≡ false) }
     ensures spent { is_spent_by result ≡ true }
@@ -163,7 +164,7 @@ fn checked_tokens<
         IfOk result (λ u. IsPassed types client.now now.nanosecond login.now tokens.now) }
     ensures refused { let types = site_types AC.read_of GC.read_of
         K.JsonWebKey K.KeyUse.JsonWebKeyUse in
-        let meant = rows.user_of_tokens types client.now now.nanosecond login.now tokens.now in
+        let meant = steps.user_of_tokens types client.now now.nanosecond login.now tokens.now in
         IfErr result (λ e. Unless (wants_memory e) (meant ≡ Err (seen e))) }
     ensures no_fault { IfErr result (λ e. faulted e ≡ false) }
     ensures spent { is_spent_by result ≡ true }
@@ -189,7 +190,7 @@ fn user_of_tokens<
 ) -> Result<SignedIn<AC, GC>, LoginError<E>>
     ensures gives { let types = site_types AC.read_of GC.read_of
         K.JsonWebKey K.KeyUse.JsonWebKeyUse in
-        let meant = rows.user_of_tokens types client.now now.nanosecond login.now tokens in
+        let meant = steps.user_of_tokens types client.now now.nanosecond login.now tokens in
         Gives login_errors result meant }
     ensures no_fault { IfErr result (λ e. faulted e ≡ false) }
     ensures spent { is_spent_by result ≡ true }

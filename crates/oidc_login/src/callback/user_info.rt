@@ -8,6 +8,7 @@ ghost use Rattle.oidc_login.specs.Errors.{faulted, is_spent_by, login_errors};
 ghost use Rattle.oidc_login.specs.Types.{site_types};
 ghost use Rattle.oidc_login.specs.UserInfo as spec;
 ghost use Rattle.oidc_login.specs.Callback as rows;
+ghost use Rattle.oidc_login.specs.Steps as steps;
 ghost use Rattle.oidc_login.specs.Steps.{Faults};
 
 use crate::errors::LoginError;
@@ -73,7 +74,7 @@ fn prepared_by<'a, K: JsonWebKey, E>(
     alloc: Global,
     ask: InfoRequest<'a, K>,
 ) -> Result<PreparedInfo<'a, K>, LoginError<E>>
-    ensures gives { Gives login_errors result (rows.prepared_by ask.entry) }
+    ensures gives { Gives login_errors result (steps.prepared_by ask.entry) }
     ensures no_fault { IfErr result (λ e. faulted e ≡ false) }
     ensures spent { is_spent_by result ≡ true }
 {
@@ -122,7 +123,7 @@ pub(crate) fn prepared_info<
 }
 
 // The rows on the response to the user info request.
-#[tactic(auto, unfolding(crate::specs::Callback::info_of))]
+#[tactic(auto, unfolding(crate::specs::Steps::info_of))]
 fn info_of<
     AC: AdditionalClaims,
     GC: GenderClaim,
@@ -135,7 +136,7 @@ fn info_of<
 ) -> Result<UserInfoClaims<AC, GC>, LoginError<E>>
     ensures gives { let types = site_types AC.read_of GC.read_of
         K.JsonWebKey K.KeyUse.JsonWebKeyUse in
-        Gives login_errors result (rows.info_of types ask.entry.demand (seen_response response)) }
+        Gives login_errors result (steps.info_of types ask.entry.demand (seen_response response)) }
     ensures no_fault { IfErr result (λ e. faulted e ≡ false) }
     ensures spent { is_spent_by result ≡ true }
 {
