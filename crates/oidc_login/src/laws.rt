@@ -10,8 +10,9 @@ pub use oidc_tokens::laws::claims_one_home;
 use oidc_types::CoreJwsSigningAlgorithm;
 pub use oidc_user_info::laws::info_claims_one_home;
 
-/// Of the callbacks of one begin, up to the next accepted begin of its state, at most one sends anything: in the run of
-/// every list of begins and callbacks, over every client.
+/// Of the callbacks of one begin, which are those of its state up to the next accepted begin of that, at most one sends
+/// anything: in the run of every list of begins and callbacks, over every client, and in that of the begin and these
+/// alone.
 #[tactic(auto, using(crate::proofs::Spent::spent_once))]
 pub fn spent_once<
     AC: AdditionalClaims,
