@@ -1,5 +1,5 @@
 //! The lines of a report.
-ghost use Rattle.std.specs.Prelude.{◌≡◌, ℕ, List, [], ◌∷◌, ◌++◌, decimal, codes, false, IfOk, IfSome, OnOk, Ok, Err};
+ghost use Rattle.std.specs.Prelude.{◌≡◌, ℕ, List, [], ◌∷◌, ◌++◌, decimal, codes, Bool, false, IfOk, IfSome, IsErr, OnOk, Ok, Err};
 ghost use Rattle.std.specs.Option.{option_copied};
 ghost use Rattle.std.specs.String.{string_bytes};
 ghost use Rattle.form_urlencoded.specs.Form.{serialize_pair};
@@ -95,7 +95,8 @@ fn push_body(text: &mut String, request: &HttpRequest) -> Result<(), AllocError>
 /// The line of what a begin answered. For want of memory there is none.
 #[tactic(auto, unfolding(crate::specs::ReportLines::begin_line))]
 pub fn begin_line(alloc: Global, reply: &Result<Url, BeginError>) -> Result<String, AllocError>
-    ensures { IfOk result (λ text. string_bytes text ≡ line_of_begin reply.now) }
+    ensures line { IfOk result (λ text. string_bytes text ≡ line_of_begin reply.now) }
+    ensures memory { reply.now ≡ Err BeginError.Memory → IsErr result }
 {
     match reply {
         Ok(url) => begin_ok_line(alloc, url),
@@ -143,8 +144,9 @@ pub fn verdict_line(
     alloc: Global,
     reply: &Result<User, LoginError<Fault>>,
 ) -> Result<String, AllocError>
-    ensures { HasNoFloats (seen_reply reply.now)
+    ensures line { HasNoFloats (seen_reply reply.now)
         → IfOk result (λ text. string_bytes text ≡ line_of_verdict (seen_reply reply.now)) }
+    ensures memory { (spent : Bool) → reply.now ≡ Err (LoginError.Memory spent) → IsErr result }
 {
     match reply {
         Ok(signed) => signed_line(alloc, signed),

@@ -95,21 +95,10 @@ module _ {AC GC Key Use : Type 0} (types : SiteTypes AC GC Key Use) (a : Attempt
   -- a refusal that has its cause
   caused_wanted : (ask : SeenInfoRequest Key) (answers : List SeenAnswer) (e : ClaimsVerificationError)
       → info_causes.Cause ask answers types (info_error.ClaimsVerification e) → is_wanting e ≡ false
-  caused_wanted ask answers check.Unsupported cause = refl
-  caused_wanted ask answers check.InvalidIssuer cause = refl
-  caused_wanted ask answers check.InvalidAudience cause = refl
-  caused_wanted ask answers (check.SignatureVerification signature.AmbiguousKeyId) cause = refl
-  caused_wanted ask answers (check.SignatureVerification signature.CryptoError) cause = refl
-  caused_wanted ask answers (check.SignatureVerification signature.DisallowedAlg) cause = refl
-  caused_wanted ask answers (check.SignatureVerification signature.InvalidKey) cause = refl
-  caused_wanted ask answers (check.SignatureVerification signature.NoMatchingKey) cause = refl
-  caused_wanted ask answers (check.SignatureVerification signature.NoSignature) cause = refl
-  caused_wanted ask answers (check.SignatureVerification signature.UnsupportedAlg) cause = refl
-  caused_wanted ask answers check.Expired cause = refl
-  caused_wanted ask answers check.InvalidNonce cause = refl
-  caused_wanted ask answers check.InvalidSubject cause = refl
-  caused_wanted ask answers (check.SignatureVerification signature.Memory) cause = absurd cause
-  caused_wanted ask answers check.Memory cause = absurd cause
+  caused_wanted ask answers e cause =
+      let caused : (k : ClaimsVerificationError) → e ≡ k → info_causes.Cause ask answers types (info_error.ClaimsVerification k) =
+      λ k is. subst (λ k. info_causes.Cause ask answers types (info_error.ClaimsVerification k)) is cause in
+      never_wanted e (caused check.Memory) (caused wanting)
 
   module _ (answers : List SeenAnswer) where
     info_subject : (signed : SeenSignedIn AC GC) (is : IsSignedIn types a answers signed) (found : SeenUserInfoClaims AC GC) → HoldsInfo types a answers is.held found
@@ -117,7 +106,7 @@ module _ {AC GC Key Use : Type 0} (types : SiteTypes AC GC Key Use) (a : Attempt
     info_subject signed is found x =
         let d = x.answered.asked.demands in
         let subject = about a.client d.demand is.held.tokens.access_token (subject_of is.held.token) x.ask d.own_ask in
-        subst (IsOwn (IsAbout types x.ask.demand) (NeverWants types)) (info_answered types a answers is.held found x) (info_own types x.ask.demand x.response x.answered.not_too_long) (subject_of is.held.token) subject
+        subst (IsOwn (IsAbout types x.ask.demand)) (info_answered types a answers is.held found x) (info_own types x.ask.demand x.response x.answered.not_too_long) (subject_of is.held.token) subject
         ∙ ap subject_of (sym is.own_id_token)
 
     by_info : (signed : SeenSignedIn AC GC) (is : IsSignedIn types a answers signed) (found : Option (SeenUserInfoClaims AC GC)) → HasInfo types a answers is.held found

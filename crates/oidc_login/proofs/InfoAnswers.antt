@@ -1,10 +1,9 @@
 -- What a response to a user info request is worth is never a fault of the transport, a request that isn't made, want of
 -- memory, or too long; claims in it are about the expected subject; and what the steps answer by it.
-use Rattle.std.proofs.Common.{◌≡◌, ◌≢◌, ◌==◌, ℕ, List, Bool, true, false, Option, None, Some, Result, Ok, Err, refl, sym, ap, subst, ◌∙◌}
+use Rattle.std.proofs.Common.{◌≡◌, ◌==◌, ℕ, List, Bool, true, false, Option, None, Some, Result, Ok, Err, refl, sym, ap, subst, ◌∙◌}
 use Rattle.std.specs.Prelude.{not, if◌then◌else◌, codes}
 use Rattle.std.specs.Str.{is_utf8}
 use Rattle.oidc_members.specs.declared.refusal.Refusal.{Refusal}
-use Rattle.oidc_keys.specs.declared.refusals.SignatureVerificationError.TheVariants as signature
 use Rattle.oidc_oauth2.specs.Messages.{SeenRequest, SeenResponse, SeenAnswer}
 use Rattle.oidc_oauth2.specs.Transport.{first_answer}
 use Rattle.oidc_oauth2.specs.HttpUtils.{may_be}
@@ -12,8 +11,7 @@ use Rattle.oidc_oauth2.specs.Replies.{◌>>=◌, ◌>>◌, ◌when◌, ◌for◌
 use Rattle.oidc_oauth2.specs.TokenAnswers.{is_over_long}
 use Rattle.oidc_tokens.specs.UserInfoVerification.{is_expected_subject}
 use Rattle.oidc_tokens.specs.declared.verification.refusals.ClaimsVerificationError.{ClaimsVerificationError}
-use Rattle.oidc_tokens.specs.declared.verification.refusals.ClaimsVerificationError.TheVariants as check
-use Rattle.oidc_tokens.proofs.Theorems.{about, info_accepts, info_never_memory, info_never_memory_inside}
+use Rattle.oidc_tokens.proofs.Theorems.{about, info_accepts}
 use Rattle.oidc_user_info.specs.UserInfoClaims.{SeenUserInfoClaims, parties_of}
 use Rattle.oidc_user_info.specs.InfoErrors.{InfoRefusal, info_errors}
 use Rattle.oidc_user_info.specs.InfoAnswers.{Demand, claims_in, token_in, failure_of, from_json, of_object, of_token, by_media_type, info_answer}
@@ -35,52 +33,31 @@ use Rattle.oidc_user_info.proofs.Theorems.{Rests, rests, holds_reply, refused_re
 
 -- ---- refusals that a response alone can be worth, and what is known of the claims in it
 
--- under a law no check inside wants memory
-abbrev pub IsOwn : {A : Type 0} → (A → Type 0) → Type 0 → Result A InfoRefusal → Type 0
-IsOwn P Law (Ok x) = P x
-IsOwn P Law (Err (info.Request u)) = ⊥
-IsOwn P Law (Err (info.Other other.Bearer)) = ⊥
-IsOwn P Law (Err (info.Other other.Uri)) = ⊥
-IsOwn P Law (Err (info.TooLong body)) = ⊥
-IsOwn P Law (Err info.Memory) = ⊥
-IsOwn P Law (Err (info.ClaimsVerification check.Memory)) = ⊥
-IsOwn P Law (Err (info.ClaimsVerification (check.SignatureVerification signature.Memory))) = Law → ⊥
-IsOwn P Law (Err e) = Unit {0}
+abbrev pub IsOwn : {A : Type 0} → (A → Type 0) → Result A InfoRefusal → Type 0
+IsOwn P (Ok x) = P x
+IsOwn P (Err (info.Request u)) = ⊥
+IsOwn P (Err (info.Other other.Bearer)) = ⊥
+IsOwn P (Err (info.Other other.Uri)) = ⊥
+IsOwn P (Err (info.TooLong body)) = ⊥
+IsOwn P (Err info.Memory) = ⊥
+IsOwn P (Err e) = Unit {0}
 
-module _ {A : Type 0} (P : A → Type 0) (Law : Type 0) where
-  own_when : (e : InfoRefusal) (b : Bool) (next : Result A InfoRefusal) → IsOwn P Law (Err e) → (b ≡ false → IsOwn P Law next) → IsOwn P Law ((e when b) >> next)
+module _ {A : Type 0} (P : A → Type 0) where
+  own_when : (e : InfoRefusal) (b : Bool) (next : Result A InfoRefusal) → IsOwn P (Err e) → (b ≡ false → IsOwn P next) → IsOwn P ((e when b) >> next)
   own_when e true next own later = own
   own_when e false next own later = later refl
 
-  own_read : {B : Type 0} (read : Result B Refusal) (f : B → Result A InfoRefusal) → ((x : B) → IsOwn P Law (f x)) → IsOwn P Law ((read or_as info.Parse) >>= f)
+  own_read : {B : Type 0} (read : Result B Refusal) (f : B → Result A InfoRefusal) → ((x : B) → IsOwn P (f x)) → IsOwn P ((read or_as info.Parse) >>= f)
   own_read (Ok x) f later = later x
   own_read (Err refusal) f later = tt
 
-  own_if : (b : Bool) (x y : Result A InfoRefusal) → IsOwn P Law x → IsOwn P Law y → IsOwn P Law (if b then x else y)
+  own_if : (b : Bool) (x y : Result A InfoRefusal) → IsOwn P x → IsOwn P y → IsOwn P (if b then x else y)
   own_if true x y here there = here
   own_if false x y here there = there
 
-  own_check : (kind : ClaimsVerificationError) → kind ≢ check.Memory → (Law → kind ≢ check.SignatureVerification signature.Memory) → IsOwn P Law (Err (info.ClaimsVerification kind))
-  own_check check.Unsupported own inside = tt
-  own_check check.InvalidIssuer own inside = tt
-  own_check check.InvalidAudience own inside = tt
-  own_check (check.SignatureVerification signature.AmbiguousKeyId) own inside = tt
-  own_check (check.SignatureVerification signature.CryptoError) own inside = tt
-  own_check (check.SignatureVerification signature.DisallowedAlg) own inside = tt
-  own_check (check.SignatureVerification signature.InvalidKey) own inside = tt
-  own_check (check.SignatureVerification signature.NoMatchingKey) own inside = tt
-  own_check (check.SignatureVerification signature.NoSignature) own inside = tt
-  own_check (check.SignatureVerification signature.UnsupportedAlg) own inside = tt
-  own_check check.Expired own inside = tt
-  own_check check.InvalidNonce own inside = tt
-  own_check check.InvalidSubject own inside = tt
-  own_check (check.SignatureVerification signature.Memory) own inside = λ law. inside law refl
-  own_check check.Memory own inside = absurd (own refl)
-
-  own_for : (failure : Option ClaimsVerificationError) (x : A) → ((kind : ClaimsVerificationError) → failure ≡ Some kind → IsOwn P Law (Err (info.ClaimsVerification kind)))
-      → (failure ≡ None → P x) → IsOwn P Law ((info.ClaimsVerification for failure) >> Ok x)
-  own_for None x fails passes = passes refl
-  own_for (Some kind) x fails passes = fails kind refl
+  own_for : (failure : Option ClaimsVerificationError) (x : A) → (failure ≡ None → P x) → IsOwn P ((info.ClaimsVerification for failure) >> Ok x)
+  own_for None x passes = passes refl
+  own_for (Some kind) x passes = tt
 
 not_false : (b : Bool) → not b ≡ false → b ≡ true
 not_false true is = refl
@@ -94,42 +71,39 @@ module _ {AC GC Key Use : Type 0} (types : SiteTypes AC GC Key Use) (demand : De
   IsAbout found = (expected : List ℕ) → demand.verifier.expected_subject ≡ Some expected → found.standard_claims.subject ≡ expected
 
   abbrev pub Own : Result (SeenUserInfoClaims AC GC) InfoRefusal → Type 0
-  Own = IsOwn IsAbout (NeverWants types)
+  Own = IsOwn IsAbout
 
   json_own : (body : List ℕ) → Own (from_json types.additional types.gender demand.verifier.expected_subject body)
   unfolding from_json
   json_own body =
-      own_read IsAbout (NeverWants types) (claims_in types.additional types.gender body) _ (λ found.
-      own_when IsAbout (NeverWants types) _ (not (is_expected_subject demand.verifier.expected_subject found.standard_claims.subject)) _ tt (λ passes.
+      own_read IsAbout (claims_in types.additional types.gender body) _ (λ found.
+      own_when IsAbout _ (not (is_expected_subject demand.verifier.expected_subject found.standard_claims.subject)) _ tt (λ passes.
       about demand.verifier.expected_subject found.standard_claims.subject (not_false _ passes)))
 
   object_own : (body : List ℕ) → Own (of_object types.additional types.gender demand body)
   unfolding of_object
-  object_own body = own_when IsAbout (NeverWants types) _ demand.signed _ tt (λ unsigned. json_own body)
+  object_own body = own_when IsAbout _ demand.signed _ tt (λ unsigned. json_own body)
 
   token_own : (body : List ℕ) → Own (of_token types demand.verifier body)
   unfolding of_token
   token_own body =
-      own_when IsAbout (NeverWants types) _ (not (is_utf8 body)) _ tt (λ text.
-      own_read IsAbout (NeverWants types) (token_in types body) _ (λ token.
-      own_for IsAbout (NeverWants types) (failure_of types demand.verifier token) token.payload
-      (λ kind is. own_check IsAbout (NeverWants types) kind
-      (λ own. info_never_memory types.keys demand.verifier token (parties_of token.payload) (subst (λ k. failure_of types demand.verifier token ≡ Some k) own is))
-      (λ law inside. info_never_memory_inside types.keys law demand.verifier token (parties_of token.payload) (subst (λ k. failure_of types demand.verifier token ≡ Some k) inside is)))
+      own_when IsAbout _ (not (is_utf8 body)) _ tt (λ text.
+      own_read IsAbout (token_in types body) _ (λ token.
+      own_for IsAbout (failure_of types demand.verifier token) token.payload
       (λ none. (info_accepts types.keys demand.verifier token (parties_of token.payload) none).subject)))
 
   media_own : (r : SeenResponse) → Own (by_media_type types demand r)
   unfolding by_media_type
   media_own r =
-      own_if IsAbout (NeverWants types) (may_be r.content_type (codes "application/json")) _ _ (object_own r.body)
-      (own_if IsAbout (NeverWants types) (may_be r.content_type (codes "application/jwt")) _ _ (token_own r.body) tt)
+      own_if IsAbout (may_be r.content_type (codes "application/json")) _ _ (object_own r.body)
+      (own_if IsAbout (may_be r.content_type (codes "application/jwt")) _ _ (token_own r.body) tt)
 
   -- a response whose body isn't too long
   abbrev short_worth : SeenResponse → Result (SeenUserInfoClaims AC GC) InfoRefusal
   short_worth r = (info.Response r.status r.body Status when not (r.status == 200)) >> by_media_type types demand r
 
   short_own : (r : SeenResponse) → Own (short_worth r)
-  short_own r = own_when IsAbout (NeverWants types) _ (not (r.status == 200)) _ tt (λ success. media_own r)
+  short_own r = own_when IsAbout _ (not (r.status == 200)) _ tt (λ success. media_own r)
 
   short_answer : (r : SeenResponse) → is_over_long r.body ≡ false → info_answer types demand r ≡ short_worth r
   unfolding info_answer
@@ -140,7 +114,7 @@ module _ {AC GC Key Use : Type 0} (types : SiteTypes AC GC Key Use) (demand : De
 
 -- ---- the step on a response
 
-module _ {A : Type 0} (P : A → Type 0) (Law : Type 0) where
+module _ {A : Type 0} (P : A → Type 0) where
   abbrev sized : Bool → List ℕ → Result A InfoRefusal → Result A InfoRefusal
   sized long body short = (info.TooLong body when long) >> short
 
@@ -156,17 +130,17 @@ module _ {A : Type 0} (P : A → Type 0) (Law : Type 0) where
   own_row true body short e other is = absurd (other (ap (λ r. elim r as (λ _. InfoRefusal) [ Ok x ↦ e | Err y ↦ y ]) is))
   own_row false body short e other is = ap (λ m. m or_as login.UserInfo) is
 
-  long_row : (long : Bool) (body b : List ℕ) (short : Result A InfoRefusal) → IsOwn P Law short
+  long_row : (long : Bool) (body b : List ℕ) (short : Result A InfoRefusal) → IsOwn P short
       → sized long body short ≡ Err (info.TooLong b) → row long (sized long body short) ≡ Err (login.TooLong place.UserInfoAnswer)
   long_row true body b short own is = refl
-  long_row false body b short own is = absurd (subst (IsOwn P Law) is own)
+  long_row false body b short own is = absurd (subst (IsOwn P) is own)
 
-  never_fault : (long : Bool) (body : List ℕ) (short : Result A InfoRefusal) → IsOwn P Law short → sized long body short ≡ Err (info.Request tt) → ⊥
+  never_fault : (long : Bool) (body : List ℕ) (short : Result A InfoRefusal) → IsOwn P short → sized long body short ≡ Err (info.Request tt) → ⊥
   never_fault true body short own is = cc
-  never_fault false body short own is = subst (IsOwn P Law) is own
+  never_fault false body short own is = subst (IsOwn P) is own
 
   module _ {E : Type 0} where
-    err_row : (long : Bool) (body : List ℕ) (short : Result A InfoRefusal) (e : UserInfoError E) → IsOwn P Law short
+    err_row : (long : Bool) (body : List ℕ) (short : Result A InfoRefusal) (e : UserInfoError E) → IsOwn P short
         → Gives info_errors {A = A} (Err e) (sized long body short) → Gives login_errors {A = A} (Err (of_info e)) (row long (sized long body short))
     err_row long body short (info.ClaimsVerification kind) own is = own_row long body short _ (λ same. cc) is
     err_row long body short (info.Parse refusal) own is = own_row long body short _ (λ same. cc) is
@@ -176,7 +150,7 @@ module _ {A : Type 0} (P : A → Type 0) (Law : Type 0) where
     err_row long body short (info.TooLong b) own is = long_row long body b short own is
     err_row long body short info.Memory own is = tt
 
-    no_fault : (long : Bool) (body : List ℕ) (short : Result A InfoRefusal) (e : UserInfoError E) → IsOwn P Law short
+    no_fault : (long : Bool) (body : List ℕ) (short : Result A InfoRefusal) (e : UserInfoError E) → IsOwn P short
         → Gives info_errors {A = A} (Err e) (sized long body short) → faulted (of_info e) ≡ false
     no_fault long body short (info.ClaimsVerification kind) own is = refl
     no_fault long body short (info.Parse refusal) own is = refl
@@ -199,16 +173,16 @@ module _ {E : Type 0} where
 module _ {AC GC Key Use : Type 0} (types : SiteTypes AC GC Key Use) (demand : Demand Key) (r : SeenResponse) where
   pub info_given : (found : SeenUserInfoClaims AC GC) → info_answer types demand r ≡ Ok found → info_of types demand r ≡ Ok found
   unfolding info_answer info_of
-  info_given found is = ok_row (IsAbout types demand) (NeverWants types) (is_over_long r.body) r.body (short_worth types demand r) found is
+  info_given found is = ok_row (IsAbout types demand) (is_over_long r.body) r.body (short_worth types demand r) found is
 
   module _ {E : Type 0} (e : UserInfoError E) (is : Gives info_errors {A = SeenUserInfoClaims AC GC} (Err e) (info_answer types demand r)) where
     pub info_refusal_given : Gives login_errors {A = SeenUserInfoClaims AC GC} (Err (of_info e)) (info_of types demand r)
     unfolding info_answer info_of
-    info_refusal_given = err_row (IsAbout types demand) (NeverWants types) (is_over_long r.body) r.body (short_worth types demand r) e (short_own types demand r) is
+    info_refusal_given = err_row (IsAbout types demand) (is_over_long r.body) r.body (short_worth types demand r) e (short_own types demand r) is
 
     pub info_no_fault : faulted (of_info e) ≡ false
     unfolding info_answer
-    info_no_fault = no_fault (IsAbout types demand) (NeverWants types) (is_over_long r.body) r.body (short_worth types demand r) e (short_own types demand r) is
+    info_no_fault = no_fault (IsAbout types demand) (is_over_long r.body) r.body (short_worth types demand r) e (short_own types demand r) is
 
 -- ---- what a response rests on, by the rows on it, and back
 

@@ -195,10 +195,10 @@ module _ {AC GC Key Use : Type 0} (types : SiteTypes AC GC Key Use) (a : Attempt
 
   module _ (h : Held AC GC) (ask : SeenInfoRequest Key) (r : SeenResponse) (answered : InfoAnswered types a answers h ask r) where
     abbrev Own : InfoRefusal → Type 0
-    Own e = IsOwn (IsAbout types ask.demand) (NeverWants types) (Err e)
+    Own e = IsOwn (IsAbout types ask.demand) (Err e)
 
     own_row : (e : InfoRefusal) → info_answer types ask.demand r ≡ Err e → Own e
-    own_row e is = subst (IsOwn (IsAbout types ask.demand) (NeverWants types)) is (info_own types ask.demand r answered.not_too_long)
+    own_row e is = subst (IsOwn (IsAbout types ask.demand)) is (info_own types ask.demand r answered.not_too_long)
 
     info_row : (e : InfoRefusal) → info_answer types ask.demand r ≡ Err e → info_causes.Cause ask (drop 1 answers) types e → UserInfoCause types a answers e
     info_row (info_error.Request cause) is why = absurd (own_row (info_error.Request cause) is)

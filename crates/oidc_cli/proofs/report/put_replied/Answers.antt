@@ -14,12 +14,12 @@ returns-in_err-text-clause-begun g c = λ free.
 
 pub returns-in_err-put-clause-begun : goal.returns-in_err-put-clause-begun
 returns-in_err-put-clause-begun g c = λ free.
-    let piece : c.as_bytes.result.now ≡ verdict_line (seen_reply c.args.replied.now.reply) = c.as_bytes.ensures.value ∙ c.as_str.ensures.value ∙ c.in_ok-text.ensures free in
+    let piece : c.as_bytes.result.now ≡ verdict_line (seen_reply c.args.replied.now.reply) = c.as_bytes.ensures.value ∙ c.as_str.ensures.value ∙ c.in_ok-text.ensures.line free in
     on_err _ _ (prefix_behind _ _ _ (request_lines c.args.replied.now.http.requests) (verdict_line (seen_reply c.args.replied.now.reply))
     (rw c.requests.ensures.requests at c.in_ok-put_requests.ensures.whole) (rw piece at c.in_err-put.ensures.keeps))
 
 pub returns-clause-whole : goal.returns-clause-whole
 returns-clause-whole g c = λ free.
-    let piece : c.as_bytes.result.now ≡ verdict_line (seen_reply c.args.replied.now.reply) = c.as_bytes.ensures.value ∙ c.as_str.ensures.value ∙ c.in_ok-text.ensures free in
+    let piece : c.as_bytes.result.now ≡ verdict_line (seen_reply c.args.replied.now.reply) = c.as_bytes.ensures.value ∙ c.as_str.ensures.value ∙ c.in_ok-text.ensures.line free in
     Puts-append _ _ _ (request_lines c.args.replied.now.http.requests) (verdict_line (seen_reply c.args.replied.now.reply))
     (rw c.requests.ensures.requests at c.in_ok-put_requests.ensures.whole) (rw piece at c.in_ok-put.ensures.puts)
