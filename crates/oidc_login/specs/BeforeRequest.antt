@@ -1,8 +1,7 @@
 -- What the query of a callback names, and the request that exchanges its code: RFC 6749 sections 2.3.1, 4.1.2 and 4.1.3,
 -- RFC 7636 section 4.5, OpenID Connect Core 1.0 sections 3.1.2.5 and 3.1.2.6.
-use Rattle.std.specs.Prelude.{ℕ, List, [], Option, Some, option_map, option_and_then, codes}
+use Rattle.std.specs.Prelude.{ℕ, List, Option, Some, option_map, option_and_then, codes}
 use Rattle.std.specs.FinMap as finite
-use Rattle.url.specs.Parts.{serialize}
 use Rattle.oidc_pairs.specs.Pairs.{values_in, only_of, first_of as first_value}
 use Rattle.oidc_types.specs.{TextAndUrl}
 use Rattle.oidc_types.specs.Vocabulary.{word_or}
@@ -11,6 +10,7 @@ use Rattle.oidc_types.specs.declared.core_authorization.CoreAuthErrorResponseTyp
 use Rattle.oidc_types.specs.declared.core_authorization.CoreAuthErrorResponseType.TheVariants.{Extension}
 use Rattle.oidc_oauth2.specs.Messages.{SeenRequest}
 use Rattle.oidc_oauth2.specs.Requests.{SeenCodeRequest, code_request}
+use Rattle.oidc_client.specs.Client.{code_request_at}
 use Rattle.oidc_login.specs.Types.{SeenLoginClient}
 use Rattle.oidc_login.specs.Logins.{SeenLogin, Pending}
 
@@ -20,7 +20,7 @@ use Rattle.oidc_login.specs.Logins.{SeenLogin, Pending}
 abbrev pub state_in : List (List ℕ × List ℕ) → Option (List ℕ)
 state_in query = only_of (values_in query (codes "state"))
 
--- the word of an error's text (section 4.1.2.1, OpenID Connect Core 1.0 section 3.1.2.6)
+-- the word of an error's text (RFC 6749 section 4.1.2.1, OpenID Connect Core 1.0 section 3.1.2.6)
 unfoldable pub error_word : List ℕ → CoreAuthErrorResponseType
 error_word text = word_or auth_error_text auth_errors Extension text
 
@@ -37,20 +37,12 @@ login_named_by pending query = option_and_then (finite.get pending) (state_in qu
 -- ---- the token request
 
 module _ {Key : Type 0} where
-  -- The code with the verifier and the redirect of its login, to the text of an endpoint's URL. Where the
-  -- login has no redirect none is sent, whatever the client has.
+  -- The client's own request for the code, with the verifier and the redirect of the login. Where the login has no
+  -- redirect none is sent, whatever the client has.
   abbrev pub request_to : TextAndUrl → SeenLoginClient Key → SeenLogin → List ℕ → SeenCodeRequest
-  request_to endpoint client login code = record {
-    address = serialize endpoint.url;
-    client = record {
-      client_id = client.client_id;
-      client_secret = client.client_secret;
-      auth_type = client.auth_type;
-    };
-    code = code;
+  request_to endpoint client login code = record (code_request_at client code endpoint) {
     verifier = Some login.verifier;
     redirect_uri = option_map (λ u. u.text) login.redirect_uri;
-    extra = [];
   }
 
   -- The request to the client's token endpoint, where its address is one that is sent to. A client
