@@ -13,7 +13,7 @@ use Rattle.oidc_login.proofs.Theorems.{outcome-of_script}
 use Rattle.oidc_login.specs.declared.errors.LoginError.{LoginError}
 use Rattle.oidc_login.specs.declared.errors.LoginError.TheVariants as login
 use Rattle.oidc_cli.specs.Types.{types, SeenSignedIn}
-use Rattle.oidc_cli.specs.ReportLines.{request_line, request_lines}
+use Rattle.oidc_cli.specs.Report.{request_line, request_lines}
 
 pub lines_at : (requests : List SeenRequest) (i : ℕ) (request : SeenRequest) → i < length requests → request ≡ get_or requests i request
     → request_lines (drop i requests) ≡ request_line request ++ request_lines (drop (i + 1) requests)

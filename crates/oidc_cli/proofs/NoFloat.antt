@@ -37,7 +37,7 @@ use Rattle.oidc_login.specs.Errors.{seen_reply}
 use Rattle.oidc_login.specs.declared.errors.LoginError.{LoginError}
 use Rattle.oidc_login.proofs.Theorems.{signed_free, info_answered}
 use Rattle.oidc_cli.specs.Types.{types, SeenSignedIn, SeenUserInfo}
-use Rattle.oidc_cli.specs.ReportLines.{HasNoFloats}
+use Rattle.oidc_cli.specs.Report.{HasNoFloats}
 
 -- ---- a step that gave a value stands on one
 

@@ -1,7 +1,8 @@
 //! The lines of a script, and what they say.
 ghost use Rattle.std.specs.Prelude.{◌≡◌, ◌==◌, ◌∷◌, ◌<◌, ◌≤◌, [], length, position, codes, IfOk, IfSome, IsNone, Some, ◌↔◌};
 ghost use Rattle.std.specs.Option.{option_copied};
-ghost use Rattle.oidc_cli.specs.Values.{Reads, optional_value};
+ghost use Rattle.oidc_cli.specs.Values.{optional_value};
+ghost use Rattle.oidc_cli.specs.Readers.{Reads};
 ghost use Rattle.std.specs.List.{list_all};
 ghost use Rattle.oidc_cli.specs.Script as spec;
 ghost use Rattle.oidc_cli.specs.Script.{lines, kind_of as kind_in, provider_urls, client_event_of, begin_event_of, callback_event_of, event_of_pairs, event_of};
