@@ -1,4 +1,5 @@
 pub mod Listed
+pub mod Names
 pub mod Taking
 pub mod Writing
 pub mod Passing
