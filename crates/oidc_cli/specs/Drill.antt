@@ -1,6 +1,6 @@
 -- The drill: a given number of logins of one client, from end to end, over a provider that issues a token for each.
 -- All are begun, in order; then each is called back, and called back once more.
-use Rattle.std.specs.Prelude.{ℕ, ℤ, pos, ◌+◌, ◌-◌, ◌*◌, zero, suc, List, [], ◌∷◌, ◌++◌, map, length, replicate, Option, None, Some, Result, Ok, Err, Bool, true, false, if◌then◌else◌, codes, decimal}
+use Rattle.std.specs.Prelude.{ℕ, ℤ, pos, ◌+◌, ◌-◌, ◌*◌, zero, suc, List, [], ◌∷◌, ◌++◌, map, length, replicate, None, Some, Result, Ok, Err, Bool, true, false, if◌then◌else◌, codes, decimal}
 use Rattle.std.specs.List.{zip}
 use Rattle.std.specs.FinMap as finite
 use Rattle.serde_json.specs.Data.{string}

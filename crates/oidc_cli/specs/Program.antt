@@ -1,5 +1,5 @@
 -- The statuses that the program ends with.
-use Rattle.std.specs.Prelude.{◌≡◌, ℕ, ◌++◌, List, Some, Result, Ok, Err}
+use Rattle.std.specs.Prelude.{◌≡◌, ℕ, ◌++◌, List, Some}
 use Rattle.oidc_cli.specs.Script.{fault_of}
 use Rattle.oidc_cli.specs.Report.{fault_line, events_lines, events_before_fault, report}
 
