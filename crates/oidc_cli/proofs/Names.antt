@@ -19,7 +19,7 @@ use Rattle.oidc_cli.specs.declared.events.BeginLine.{BeginLine}
 use Rattle.oidc_cli.specs.declared.events.Event.{Event}
 use Rattle.oidc_cli.specs.declared.events.Event.TheVariants.{Client, Begin, Callback}
 
-abbrev Pair : Type 0
+abbrev pub Pair : Type 0
 Pair = List ℕ × List ℕ
 
 -- ---- how often a name stands in a line
@@ -192,7 +192,7 @@ value_once : {A : Type 0} (kind : List ℕ → Option A) (line : List Pair) (nam
 value_once kind line name v is = let text = some_of (pair_text line name) kind v is in only_one (values_in line name) text.0 text.1
 
 -- one, where a line has the name
-abbrev one_if_there : List Pair → List ℕ → ℕ
+abbrev pub one_if_there : List Pair → List ℕ → ℕ
 one_if_there line name = if lacks line name then 0 else 1
 
 optional_by : {A : Type 0} (kind : List ℕ → Option A) (values : List (List ℕ)) (v : Option A)
@@ -219,11 +219,11 @@ few_value kind line name v is = let one = value_once kind line name v is in omeg
 
 -- ---- the rule by which a client line and a begin line were read: as many pairs as names
 
-abbrev client_pairs : List Pair → ℕ
+abbrev pub client_pairs : List Pair → ℕ
 client_pairs line =
     6 + one_if_there line (codes "secret") + one_if_there line (codes "userinfo") + one_if_there line (codes "redirect")
 
-abbrev begin_pairs : List Pair → ℕ
+abbrev pub begin_pairs : List Pair → ℕ
 begin_pairs line = 4 + one_if_there line (codes "redirect") + one_if_there line (codes "userinfo")
 
 record ClientCounts (line : List Pair) : Type 0 where
@@ -339,12 +339,12 @@ client_rule first rest own v is =
 begin_sum : (len op state nonce verifier redirect info others r u : ℕ)
     → len ≡ (op + (state + (nonce + (verifier + (redirect + (info + 0)))))) + others → 1 ≤ op
     → state ≡ 1 → nonce ≡ 1 → verifier ≡ 1 → redirect ≡ r → info ≡ u → len ≡ 4 + r + u → (op ≡ 1) × (others ≡ 0)
-begin_sum len op state nonce verifier redirect info others r u split one st no ve re inf all = (omega arith, omega arith)
+begin_sum len op state nonce verifier redirect info others r u split one st nn ve re inf all = (omega arith, omega arith)
 
 begin_back : (len op state nonce verifier redirect info others r u : ℕ)
     → len ≡ (op + (state + (nonce + (verifier + (redirect + (info + 0)))))) + others
     → state ≡ 1 → nonce ≡ 1 → verifier ≡ 1 → redirect ≡ r → info ≡ u → op ≡ 1 → others ≡ 0 → len ≡ 4 + r + u
-begin_back len op state nonce verifier redirect info others r u split st no ve re inf one none = omega arith
+begin_back len op state nonce verifier redirect info others r u split st nn ve re inf one none = omega arith
 
 begin_rule : (first : Pair) (rest : List Pair) → bytes_eq first.0 (codes "op") ≡ true → (v : BeginLine) → begin_values (first ∷ rest) ≡ Some v
     → (length (first ∷ rest) == begin_pairs (first ∷ rest)) ≡ has_each_name_once line_kind.Begin (first ∷ rest)
@@ -494,24 +494,24 @@ callback_rule first rest own v is =
 
 -- ---- events by both rules
 
-abbrev client_event_of : List Pair → Option SeenClientLine
+abbrev pub client_event_of : List Pair → Option SeenClientLine
 client_event_of line = if length line == client_pairs line then client_values line else None
 
-abbrev begin_event_of : List Pair → Option BeginLine
+abbrev pub begin_event_of : List Pair → Option BeginLine
 begin_event_of line = if length line == begin_pairs line then begin_values line else None
 
-abbrev callback_event_of : List Pair → Option SeenCallbackLine
+abbrev pub callback_event_of : List Pair → Option SeenCallbackLine
 callback_event_of line =
     if list_all (λ (p : Pair). is_name_of line_kind.Callback p.0) line then (pair_text line (codes "op") >>= λ op. callback_values line) else None
 
-abbrev event_by_counts : List ℕ → List Pair → Option Event
+abbrev pub event_by_counts : List ℕ → List Pair → Option Event
 event_by_counts kind line =
     if bytes_eq kind (codes "client") then option_map Client (client_event_of line)
     else if bytes_eq kind (codes "begin") then option_map Begin (begin_event_of line)
     else if bytes_eq kind (codes "callback") then option_map Callback (callback_event_of line)
     else None
 
-by_counts : List Pair → Option Event
+abbrev pub by_counts : List Pair → Option Event
 by_counts [] = None
 by_counts (first ∷ others) = if bytes_eq first.0 (codes "op") then event_by_counts first.1 (first ∷ others) else None
 
