@@ -70,7 +70,7 @@ ASIDE = {
 GENERATED = {
     "vectors": [lambda: ["op=standard&text=" + text for text in plain_claims.texts()]],
     "vectors_tokens": [plain_tokens.cases, plain_info.cases, plain_urls.cases],
-    "vectors_logins": [plain_callback.cases],
+    "vectors_logins": [plain_callback.short_cases, plain_callback.long_cases],
 }
 
 

@@ -4,14 +4,15 @@ crates/vectors_logins.
 
     tools/plain_callback.py answers   reads cases of run from standard input, and answers each: a line each; any
                                       other line comes back as it came
-    tools/plain_callback.py cases     150 generated cases, a line each
+    tools/plain_callback.py cases     generated cases, a line each: 150 short scripts, and 6 long ones
     tools/plain_callback.py report    reads one script from standard input, and writes its report; the status is
                                       that of the program
 
 It is a second reader beside oidc_login and oidc_cli: RFC 6749 sections 2.3.1 and 4.1.1 to 4.1.4, RFC 7636
 sections 4.2 to 4.5, OpenID Connect Core 1.0 sections 3.1.2, 3.1.3 and 5.3. The requests and answers of tokens are
 those of plain_answers.py and plain_records.py, ID tokens those of plain_tokens.py, user info and its answers those
-of plain_info.py, URLs those of plain_urls.py; the order of what is judged stands here.
+of plain_info.py, URLs those of plain_urls.py; the order of what is judged stands here. The pending logins are a plain
+list here, which is searched from its front, where the product has a hashed map.
 """
 import re
 import sys
@@ -90,6 +91,18 @@ def callback_in(found):
     return {"query": found["query"], "now": now, "answers": answers}
 
 
+# ---- the pending logins: a list of begins, in their order
+
+
+def is_pending(logins, state):
+    return any(begin["state"] == state for begin in logins)
+
+
+def taken(logins, state):
+    """The login of this state, which is pending; it leaves the list."""
+    return logins.pop([begin["state"] for begin in logins].index(state))
+
+
 # ---- begins
 
 
@@ -108,12 +121,12 @@ def begin_lines(client, logins, begin):
         return ["begin refused verifier"]
     if "userinfo" in begin and "userinfo" not in client:
         return ["begin refused user_info_endpoint"]
-    if begin["state"] in logins:
+    if is_pending(logins, begin["state"]):
         return ["begin refused pending"]
     url = authorization_url(client, begin)
     if len(url.encode()) > urls.LONGEST:
         return ["begin refused too_long"]
-    logins[begin["state"]] = begin
+    logins.append(begin)
     return ["begin ok " + url]
 
 
@@ -133,8 +146,8 @@ def named_login(logins, query):
     """The login that a query names, which is pending no longer, whatever comes of it."""
     deny("too_long callback" if len(query.encode()) > LONGEST_QUERY else None)
     states = values(pairs(query), "state")
-    deny("state" if len(states) != 1 or states[0] not in logins else None)
-    return logins.pop(states[0])
+    deny("state" if len(states) != 1 or not is_pending(logins, states[0]) else None)
+    return taken(logins, states[0])
 
 
 def code_in(query):
@@ -244,7 +257,7 @@ def report_lines(script, out):
     """Adds the lines of a report to `out`, and gives the number of the line at fault, or None."""
     if len(script) > LONGEST_SCRIPT:
         return 0
-    number, logins = 1, {}
+    number, logins = 1, []
     try:
         lines = lines_of(script)
         check(lines)
@@ -281,6 +294,12 @@ OPERATIONS = {"run": run}
 # ---- generated cases
 
 SCRIPTS = 150
+LONG_SCRIPTS = 6
+LONG_LINES = 200
+
+# States that differ in little: by case, a space, a letter more, where they are cut, what a form text escapes.
+STATES = ["", "a", "A", "a ", " a", "aa", "b", "ab", "ba", "a&b", "a=b", "a%b", "a+b", "é", "e", "0", "00", "s1", "s2", "s12",
+          "s" * 40, "s" * 41, "s" * 40 + "t", "t" + "s" * 40]
 
 # What may be wrong with a callback: its query, the answer to its token request, the ID token there, the user info.
 WRONG = ["state", "states", "error", "code", "codes", "token_fault", "token_gone", "token_status", "token_type",
@@ -399,9 +418,56 @@ class Choices(plain_info.Choices):
         return "".join(tokens.plain_form(line) + "\n" for line in lines)
 
 
+class LongChoices(tokens.Choices):
+    """Choices of long scripts, in which very many logins begin and end over few states. Each begin has a nonce of its
+    own, so that an answer to one login signs in no other."""
+
+    CLIENT = [("op", "client"), ("id", "a"), ("issuer", "https://a"), ("auth", "https://a"), ("token", "https://a/t"),
+              ("algs", "HS256"), ("secret", "s")]
+
+    def begin_line(self, state, number):
+        return [("op", "begin"), ("state", state), ("nonce", str(number)), ("verifier", "v" * self.rarely(43, [42]))]
+
+    def query(self, state):
+        of = [("state", state), ("code", "c")]
+        return tokens.plain_form(self.rarely(of, [of[1:], of + [("state", self.one(STATES))], of[:1], [("error", "x")] + of]))
+
+    def callback_line(self, state, nonce):
+        of = [("op", "callback"), ("now", "1000"), ("query", self.query(state))]
+        if self.below(3) > 0:
+            return of + self.one([[], [("token_fault", "1")]])
+        token = tokens.signed(f'{{"iss":"https://a","aud":"a","exp":2000,"iat":900,"nonce":"{nonce}","sub":"u{nonce}"}}', "s", "HS256")
+        body = f'{{"access_token":"t{nonce}","token_type":"Bearer","id_token":"{token}"}}'
+        return of + [("token_status", "200"), ("token_body", body)]
+
+    def script(self):
+        """Half of the callbacks are with the nonce of the state's last begin."""
+        lines, nonces = [self.CLIENT], {}
+        for number in range(LONG_LINES):
+            state = self.one(STATES)
+            if self.below(2) == 0:
+                lines.append(self.begin_line(state, number))
+                nonces.setdefault(state, number)
+            else:
+                nonce = nonces.pop(state, number) if self.below(2) == 0 else number
+                lines.append(self.callback_line(state, nonce))
+        return "".join(tokens.plain_form(line) + "\n" for line in lines)
+
+
+def scripts(choices, count):
+    return tokens.distinct(lambda: tokens.plain_form([("op", "run"), ("script", choices.script())]), count)
+
+
+def short_cases():
+    return scripts(Choices(5), SCRIPTS)
+
+
+def long_cases():
+    return scripts(LongChoices(6), LONG_SCRIPTS)
+
+
 def cases():
-    choices = Choices(5)
-    return tokens.distinct(lambda: tokens.plain_form([("op", "run"), ("script", choices.script())]), SCRIPTS)
+    return short_cases() + long_cases()
 
 
 def main():

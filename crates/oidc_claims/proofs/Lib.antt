@@ -2,6 +2,7 @@ mod Apart
 mod Bases
 mod Homes
 mod Kept
+mod LocalizedNames
 mod MayStand
 mod Moves
 mod Names

@@ -1,5 +1,5 @@
 -- Claims that were written are read back.
-use Rattle.std.proofs.Common.{◌≡◌, ◌≢◌, ℕ, ℤ, pos, negsuc, List, [], ◌∷◌, map, Option, None, Some, option_map, Ok, false, cond, refl, ap, subst, ◌∙◌, append-nil, is_some, length}
+use Rattle.std.proofs.Common.{◌≡◌, ◌≢◌, ℕ, ℤ, pos, negsuc, List, [], map, Option, None, Some, option_map, Ok, false, cond, refl, ap, subst, ◌∙◌, append-nil, is_some, length}
 use Rattle.std.specs.List.{flat_map}
 use Rattle.std.specs.Option.{ok_or, option_flatten}
 use Rattle.std.specs.Result.{result_ok, result_err}
@@ -15,115 +15,18 @@ use Rattle.oidc_claims.specs.declared.claim.Claim.TheVariants.{Subject, Name, Gi
 use Rattle.oidc_claims.specs.declared.claims.address.AddressClaim.{AddressClaim}
 use Rattle.oidc_claims.specs.Seen.{SeenClaims}
 use Rattle.oidc_claims.specs.Gender.{GenderReadsBack, GenderIsValue}
-use Rattle.oidc_claims.specs.Table.{name_of, claim_of, kind_of, all_claims, base_of, tag_of}
+use Rattle.oidc_claims.specs.Table.{name_of, claim_of, kind_of, all_claims, base_of}
 use Rattle.oidc_claims.specs.Address.{address_kind}
 use Rattle.oidc_claims.specs.Claims.{own, held, plain, variants, unless_empty, fault_of_kind, fault_by, fault_at, first_fault}
 use Rattle.oidc_claims.specs.Standard.{claims_of, with_subject, at_place, complete, unless_refused}
-use Rattle.oidc_claims.specs.Write.{written, claim_members, plain_member, with_tag, address_data}
-use Rattle.oidc_claims.specs.Write.{IsTag, IsInRange, IsWholeSecond}
+use Rattle.oidc_claims.specs.Write.{written, claim_members, plain_member, address_data}
+use Rattle.oidc_claims.specs.Write.{IsInRange, IsWholeSecond}
 use Rattle.oidc_claims.proofs.Standing.{AddressStands, read_with}
 use Rattle.oidc_claims.proofs.Apart.{JudgesOwn, apart_from, own_among, no_fault}
 use Rattle.oidc_claims.proofs.Parts.{map_flat, address_reads_back}
 use Rattle.oidc_claims.proofs.Seconds.{whole_second}
-use Rattle.oidc_claims.proofs.VariantsBack.{key, same, judge, keyed, IsClaimPart, Named, variants_are_part, variants_back}
-
--- ---- the names of localized claims
-
-name_tag : (tag : Option (List ℕ)) → IsTag tag → tag_of (with_tag (name_of Name) tag) ≡ tag
-name_tag None h = refl
-name_tag (Some []) h = absurd (h refl)
-name_tag (Some (b ∷ bs)) h = refl
-
-name_base : (tag : Option (List ℕ)) → claim_of (base_of (with_tag (name_of Name) tag)) ≡ Some Name
-name_base None = refl
-name_base (Some tag) = refl
-
-name_named : Named Name
-name_named = record { is_text = refl; is_base = name_base; is_tag = name_tag }
-
-given_name_tag : (tag : Option (List ℕ)) → IsTag tag → tag_of (with_tag (name_of GivenName) tag) ≡ tag
-given_name_tag None h = refl
-given_name_tag (Some []) h = absurd (h refl)
-given_name_tag (Some (b ∷ bs)) h = refl
-
-given_name_base : (tag : Option (List ℕ)) → claim_of (base_of (with_tag (name_of GivenName) tag)) ≡ Some GivenName
-given_name_base None = refl
-given_name_base (Some tag) = refl
-
-given_name_named : Named GivenName
-given_name_named = record { is_text = refl; is_base = given_name_base; is_tag = given_name_tag }
-
-family_name_tag : (tag : Option (List ℕ)) → IsTag tag → tag_of (with_tag (name_of FamilyName) tag) ≡ tag
-family_name_tag None h = refl
-family_name_tag (Some []) h = absurd (h refl)
-family_name_tag (Some (b ∷ bs)) h = refl
-
-family_name_base : (tag : Option (List ℕ)) → claim_of (base_of (with_tag (name_of FamilyName) tag)) ≡ Some FamilyName
-family_name_base None = refl
-family_name_base (Some tag) = refl
-
-family_name_named : Named FamilyName
-family_name_named = record { is_text = refl; is_base = family_name_base; is_tag = family_name_tag }
-
-middle_name_tag : (tag : Option (List ℕ)) → IsTag tag → tag_of (with_tag (name_of MiddleName) tag) ≡ tag
-middle_name_tag None h = refl
-middle_name_tag (Some []) h = absurd (h refl)
-middle_name_tag (Some (b ∷ bs)) h = refl
-
-middle_name_base : (tag : Option (List ℕ)) → claim_of (base_of (with_tag (name_of MiddleName) tag)) ≡ Some MiddleName
-middle_name_base None = refl
-middle_name_base (Some tag) = refl
-
-middle_name_named : Named MiddleName
-middle_name_named = record { is_text = refl; is_base = middle_name_base; is_tag = middle_name_tag }
-
-nickname_tag : (tag : Option (List ℕ)) → IsTag tag → tag_of (with_tag (name_of Nickname) tag) ≡ tag
-nickname_tag None h = refl
-nickname_tag (Some []) h = absurd (h refl)
-nickname_tag (Some (b ∷ bs)) h = refl
-
-nickname_base : (tag : Option (List ℕ)) → claim_of (base_of (with_tag (name_of Nickname) tag)) ≡ Some Nickname
-nickname_base None = refl
-nickname_base (Some tag) = refl
-
-nickname_named : Named Nickname
-nickname_named = record { is_text = refl; is_base = nickname_base; is_tag = nickname_tag }
-
-profile_tag : (tag : Option (List ℕ)) → IsTag tag → tag_of (with_tag (name_of Profile) tag) ≡ tag
-profile_tag None h = refl
-profile_tag (Some []) h = absurd (h refl)
-profile_tag (Some (b ∷ bs)) h = refl
-
-profile_base : (tag : Option (List ℕ)) → claim_of (base_of (with_tag (name_of Profile) tag)) ≡ Some Profile
-profile_base None = refl
-profile_base (Some tag) = refl
-
-profile_named : Named Profile
-profile_named = record { is_text = refl; is_base = profile_base; is_tag = profile_tag }
-
-picture_tag : (tag : Option (List ℕ)) → IsTag tag → tag_of (with_tag (name_of Picture) tag) ≡ tag
-picture_tag None h = refl
-picture_tag (Some []) h = absurd (h refl)
-picture_tag (Some (b ∷ bs)) h = refl
-
-picture_base : (tag : Option (List ℕ)) → claim_of (base_of (with_tag (name_of Picture) tag)) ≡ Some Picture
-picture_base None = refl
-picture_base (Some tag) = refl
-
-picture_named : Named Picture
-picture_named = record { is_text = refl; is_base = picture_base; is_tag = picture_tag }
-
-website_tag : (tag : Option (List ℕ)) → IsTag tag → tag_of (with_tag (name_of Website) tag) ≡ tag
-website_tag None h = refl
-website_tag (Some []) h = absurd (h refl)
-website_tag (Some (b ∷ bs)) h = refl
-
-website_base : (tag : Option (List ℕ)) → claim_of (base_of (with_tag (name_of Website) tag)) ≡ Some Website
-website_base None = refl
-website_base (Some tag) = refl
-
-website_named : Named Website
-website_named = record { is_text = refl; is_base = website_base; is_tag = website_tag }
+use Rattle.oidc_claims.proofs.LocalizedNames.{localized}
+use Rattle.oidc_claims.proofs.VariantsBack.{key, same, judge, keyed, IsClaimPart, variants_are_part, variants_back}
 
 -- ---- values
 
@@ -203,15 +106,15 @@ module _
 
     are_parts : (c : Claim) → IsClaimPart gender_read c [] (parts c)
     are_parts Subject = (refl, refl, tt)
-    are_parts Name = variants_are_part gender_read text_of Name name_named s.name r.name
-    are_parts GivenName = variants_are_part gender_read text_of GivenName given_name_named s.given_name r.given_name
-    are_parts FamilyName = variants_are_part gender_read text_of FamilyName family_name_named s.family_name r.family_name
-    are_parts MiddleName = variants_are_part gender_read text_of MiddleName middle_name_named s.middle_name r.middle_name
-    are_parts Nickname = variants_are_part gender_read text_of Nickname nickname_named s.nickname r.nickname
+    are_parts Name = variants_are_part gender_read text_of Name (localized Name refl refl refl) s.name r.name
+    are_parts GivenName = variants_are_part gender_read text_of GivenName (localized GivenName refl refl refl) s.given_name r.given_name
+    are_parts FamilyName = variants_are_part gender_read text_of FamilyName (localized FamilyName refl refl refl) s.family_name r.family_name
+    are_parts MiddleName = variants_are_part gender_read text_of MiddleName (localized MiddleName refl refl refl) s.middle_name r.middle_name
+    are_parts Nickname = variants_are_part gender_read text_of Nickname (localized Nickname refl refl refl) s.nickname r.nickname
     are_parts PreferredUsername = one_is_part PreferredUsername string s.preferred_username refl (λ t is. refl)
-    are_parts Profile = variants_are_part gender_read text_of Profile profile_named s.profile r.profile
-    are_parts Picture = variants_are_part gender_read text_of Picture picture_named s.picture r.picture
-    are_parts Website = variants_are_part gender_read text_of Website website_named s.website r.website
+    are_parts Profile = variants_are_part gender_read text_of Profile (localized Profile refl refl refl) s.profile r.profile
+    are_parts Picture = variants_are_part gender_read text_of Picture (localized Picture refl refl refl) s.picture r.picture
+    are_parts Website = variants_are_part gender_read text_of Website (localized Website refl refl refl) s.website r.website
     are_parts Email = one_is_part Email string s.email refl (λ t is. refl)
     are_parts EmailVerified = one_is_part EmailVerified boolean s.email_verified refl (λ t is. refl)
     are_parts Gender = one_is_part Gender gender_data s.gender refl (λ g is. fitting gender_read (one Gender (gender_data g)) g (not_null (gender_data g) (gender_there g).0) (gender_fits g))
@@ -251,15 +154,15 @@ module _
     unfolding with_subject
     claims_back = λ i. record {
       subject = s.subject;
-      name = (ap (λ ms. unless_empty (variants text_kind ms)) (own_is Name) ∙ variants_back gender_read text_of Name name_named s.name r.name) i;
-      given_name = (ap (λ ms. unless_empty (variants text_kind ms)) (own_is GivenName) ∙ variants_back gender_read text_of GivenName given_name_named s.given_name r.given_name) i;
-      family_name = (ap (λ ms. unless_empty (variants text_kind ms)) (own_is FamilyName) ∙ variants_back gender_read text_of FamilyName family_name_named s.family_name r.family_name) i;
-      middle_name = (ap (λ ms. unless_empty (variants text_kind ms)) (own_is MiddleName) ∙ variants_back gender_read text_of MiddleName middle_name_named s.middle_name r.middle_name) i;
-      nickname = (ap (λ ms. unless_empty (variants text_kind ms)) (own_is Nickname) ∙ variants_back gender_read text_of Nickname nickname_named s.nickname r.nickname) i;
+      name = (ap (λ ms. unless_empty (variants text_kind ms)) (own_is Name) ∙ variants_back gender_read text_of Name (localized Name refl refl refl) s.name r.name) i;
+      given_name = (ap (λ ms. unless_empty (variants text_kind ms)) (own_is GivenName) ∙ variants_back gender_read text_of GivenName (localized GivenName refl refl refl) s.given_name r.given_name) i;
+      family_name = (ap (λ ms. unless_empty (variants text_kind ms)) (own_is FamilyName) ∙ variants_back gender_read text_of FamilyName (localized FamilyName refl refl refl) s.family_name r.family_name) i;
+      middle_name = (ap (λ ms. unless_empty (variants text_kind ms)) (own_is MiddleName) ∙ variants_back gender_read text_of MiddleName (localized MiddleName refl refl refl) s.middle_name r.middle_name) i;
+      nickname = (ap (λ ms. unless_empty (variants text_kind ms)) (own_is Nickname) ∙ variants_back gender_read text_of Nickname (localized Nickname refl refl refl) s.nickname r.nickname) i;
       preferred_username = (ap (plain text_kind) (own_is PreferredUsername) ∙ one_back PreferredUsername string text_kind s.preferred_username (λ t is. refl)) i;
-      profile = (ap (λ ms. unless_empty (variants text_kind ms)) (own_is Profile) ∙ variants_back gender_read text_of Profile profile_named s.profile r.profile) i;
-      picture = (ap (λ ms. unless_empty (variants text_kind ms)) (own_is Picture) ∙ variants_back gender_read text_of Picture picture_named s.picture r.picture) i;
-      website = (ap (λ ms. unless_empty (variants text_kind ms)) (own_is Website) ∙ variants_back gender_read text_of Website website_named s.website r.website) i;
+      profile = (ap (λ ms. unless_empty (variants text_kind ms)) (own_is Profile) ∙ variants_back gender_read text_of Profile (localized Profile refl refl refl) s.profile r.profile) i;
+      picture = (ap (λ ms. unless_empty (variants text_kind ms)) (own_is Picture) ∙ variants_back gender_read text_of Picture (localized Picture refl refl refl) s.picture r.picture) i;
+      website = (ap (λ ms. unless_empty (variants text_kind ms)) (own_is Website) ∙ variants_back gender_read text_of Website (localized Website refl refl refl) s.website r.website) i;
       email = (ap (plain text_kind) (own_is Email) ∙ one_back Email string text_kind s.email (λ t is. refl)) i;
       email_verified = (ap (plain flag_kind) (own_is EmailVerified) ∙ one_back EmailVerified boolean flag_kind s.email_verified (λ b is. refl)) i;
       gender = (ap (plain gender_read) (own_is Gender) ∙ one_back Gender gender_data gender_read s.gender (λ g is. held_back gender_read (one Gender (gender_data g)) g (not_null (gender_data g) (gender_there g).0) (gender_fits g))) i;

@@ -3,7 +3,7 @@ ghost use Rattle.std.specs.Prelude.{◌≡◌, IfOk, IsTrue};
 ghost use Rattle.oidc_claims.specs.Additional.{are_additional};
 ghost use Rattle.oidc_claims.specs.Home.{is_additional};
 
-use cases::{Case, CaseError, object, ok_form, refused_as};
+use case_lines::{Case, CaseError, object, ok_form, refused_as};
 use oidc_claims::{
     AdditionalClaims, AllOtherClaims, Home, PlacedError, StandardClaims, USER_INFO_FIELDS, belongs,
     read_standard, write_standard,

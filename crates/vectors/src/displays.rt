@@ -1,6 +1,6 @@
 //! What errors of the lower layers print.
 
-use cases::{Case, CaseError, one_of};
+use case_lines::{Case, CaseError, one_of};
 use oidc_claims::PlacedError;
 use oidc_keys::{HashError, SignatureVerificationError};
 use oidc_members::{FieldName, ParseError, ParseKind, Refusal};

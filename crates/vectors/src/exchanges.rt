@@ -1,6 +1,6 @@
 //! The request that exchanges a code for tokens, and what its answer is worth.
 
-use cases::{
+use case_lines::{
     Case, CaseError, Refused, Tokens, extra_in, refused_word, request_line, response_in,
     token_answer_line, url_of,
 };

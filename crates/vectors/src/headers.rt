@@ -1,6 +1,6 @@
 //! Header fields.
 
-use cases::{Case, CaseError, bytes_of, header_of, header_text, ok, ok_pair, refused_word};
+use case_lines::{Case, CaseError, bytes_of, header_of, header_text, ok, ok_pair, refused_word};
 use oidc_oauth2::{BearerError, auth_bearer, content_type_has_essence};
 use oidc_types::AccessToken;
 use std::alloc::Global;

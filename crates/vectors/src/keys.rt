@@ -1,6 +1,6 @@
 //! MACs, signatures and digests.
 
-use cases::{Case, CaseError, algorithm, bytes_of, ok, ok_pair, refused_word, signature_word};
+use case_lines::{Case, CaseError, algorithm, bytes_of, ok, ok_pair, refused_word, signature_word};
 use oidc_keys::{CoreJsonWebKey, HashError, HmacAlgorithm, JsonWebKey};
 use std::alloc::Global;
 

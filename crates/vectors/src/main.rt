@@ -1,7 +1,7 @@
 //! The program `vectors`: cases of the lower layers as lines of text.
 //!
 //! The layers are those below ID tokens: form pairs, members, types, claims, keys, and the requests and
-//! answers of OAuth 2.0. The page of `cases` has the rules of lines, README.md the operations.
+//! answers of OAuth 2.0. The page of `case_lines` has the rules of lines, README.md the operations.
 #![tactic(auto)]
 
 mod claims;
@@ -17,7 +17,7 @@ mod types;
 mod vocabularies;
 
 use crate::operations::Operation;
-use cases::{answer_lines, exit_code};
+use case_lines::{answer_lines, exit_code};
 use std::process::ExitCode;
 
 fn main(rt: HostRuntime) -> ExitCode {

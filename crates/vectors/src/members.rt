@@ -1,6 +1,6 @@
 //! Form pairs and the members of objects.
 
-use cases::{Case, CaseError, ok_form, refused_as};
+use case_lines::{Case, CaseError, ok_form, refused_as};
 use oidc_members::{Member, Members, ParseError};
 use oidc_pairs::{FormText, Pairs};
 use std::alloc::Global;

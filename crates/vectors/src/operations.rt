@@ -6,7 +6,7 @@ ghost use Rattle.vectors.specs.Operations as spec;
 use crate::{
     claims, displays, exchanges, headers, keys, members, pkce, records, types, vocabularies,
 };
-use cases::{Case, CaseError, CaseOperation};
+use case_lines::{Case, CaseError, CaseOperation};
 use std::alloc::Global;
 
 /// What a case asks for.

@@ -1,6 +1,6 @@
 //! Proof Key for Code Exchange.
 
-use cases::{Case, CaseError, ok_form, refused_word};
+use case_lines::{Case, CaseError, ok_form, refused_word};
 use oidc_oauth2::{PkceCodeChallenge, PkceError};
 use oidc_pairs::FormText;
 use oidc_types::PkceCodeVerifier;

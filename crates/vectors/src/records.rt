@@ -1,6 +1,6 @@
 //! Records of answers.
 
-use cases::{
+use case_lines::{
     Case, CaseError, Refused, ok_form, push_scopes, push_seconds, push_some, refused_reading,
     token_response_line, variant_name,
 };

@@ -1,6 +1,6 @@
 //! URLs, claims in several languages, and random texts.
 
-use cases::{Case, CaseError, number, ok_form, ok_pair, refused};
+use case_lines::{Case, CaseError, number, ok_form, ok_pair, refused};
 use oidc_pairs::FormText;
 use oidc_types::{
     EndUserName, IssuerUrl, LanguageTag, LocalizedClaim, Nonce, RequestUrl, UrlTextError,

@@ -1,6 +1,6 @@
 //! The words of vocabularies.
 
-use cases::{Case, CaseError, ok_form, variant_name};
+use case_lines::{Case, CaseError, ok_form, variant_name};
 use oidc_oauth2::{
     CoreErrorResponseType, CoreTokenType, DeviceCodeErrorResponseType, RevocationErrorResponseType,
     TokenType,

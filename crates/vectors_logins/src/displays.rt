@@ -1,6 +1,6 @@
 //! What errors of logins print.
 
-use cases::{Case, CaseError, one_of};
+use case_lines::{Case, CaseError, one_of};
 use oidc_cli::Failed;
 use oidc_login::{BeginError, LoginError, NewLoginsError, TooLong};
 use oidc_members::FieldName;

@@ -1,6 +1,6 @@
 //! The program `vectors_logins`: cases of whole logins as lines of text.
 //!
-//! The page of `cases` has the rules of lines, README.md the operations.
+//! The page of `case_lines` has the rules of lines, README.md the operations.
 #![tactic(auto)]
 
 mod displays;
@@ -8,7 +8,7 @@ mod operations;
 mod scripts;
 
 use crate::operations::Operation;
-use cases::{answer_lines, exit_code};
+use case_lines::{answer_lines, exit_code};
 use std::process::ExitCode;
 
 fn main(rt: HostRuntime) -> ExitCode {

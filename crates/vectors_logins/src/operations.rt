@@ -4,7 +4,7 @@ ghost use Rattle.std.specs.Prelude.{◌≡◌};
 ghost use Rattle.vectors_logins.specs.Operations as spec;
 
 use crate::{displays, scripts};
-use cases::{Case, CaseError, CaseOperation};
+use case_lines::{Case, CaseError, CaseOperation};
 use std::alloc::Global;
 
 /// What a case asks for.

@@ -1,6 +1,6 @@
 //! Scripts of logins.
 
-use cases::{Case, CaseError, ok_form};
+use case_lines::{Case, CaseError, ok_form};
 use oidc_cli::{MemorySink, MemorySource};
 use oidc_pairs::FormText;
 use std::alloc::{AllocError, Global};

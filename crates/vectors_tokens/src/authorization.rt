@@ -1,6 +1,6 @@
 //! Authorization requests and their URLs.
 
-use cases::{Case, CaseError, extra_in, number, ok_pair, refused_word, url_of};
+use case_lines::{Case, CaseError, extra_in, number, ok_pair, refused_word, url_of};
 use oidc_client::{AuthenticationFlow, AuthorizationRequest, CoreAuthenticationFlow, CoreClient};
 use oidc_keys::JsonWebKeySet;
 use oidc_members::ParseError;

@@ -1,6 +1,6 @@
 //! What errors of tokens, user info and authorization URLs print.
 
-use cases::{Case, CaseError, one_of};
+use case_lines::{Case, CaseError, one_of};
 use http::StatusCode;
 use oidc_keys::SignatureVerificationError;
 use oidc_members::{ParseKind, Refusal};

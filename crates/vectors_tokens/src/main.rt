@@ -1,6 +1,6 @@
 //! The program `vectors_tokens`: cases of ID tokens, user info and the typed client as lines of text.
 //!
-//! The page of `cases` has the rules of lines, README.md the operations.
+//! The page of `case_lines` has the rules of lines, README.md the operations.
 #![tactic(auto)]
 
 mod authorization;
@@ -14,7 +14,7 @@ mod verifiers;
 mod words;
 
 use crate::operations::Operation;
-use cases::{answer_lines, exit_code};
+use case_lines::{answer_lines, exit_code};
 use std::process::ExitCode;
 
 fn main(rt: HostRuntime) -> ExitCode {

@@ -1,7 +1,7 @@
 //! Token responses with an ID token, and what answers with one are worth.
 
 use crate::tokens::TokenFields;
-use cases::{Case, CaseError, response_in, token_answer_line, token_response_line};
+use case_lines::{Case, CaseError, response_in, token_answer_line, token_response_line};
 use std::alloc::Global;
 
 /// `token_response`: a token response with the fields of ID tokens, written again.

@@ -2,7 +2,7 @@
 
 use base64::DecodeAllocError;
 use base64::engine::general_purpose::URL_SAFE_NO_PAD;
-use cases::{
+use case_lines::{
     Case, CaseError, algorithm, object, ok_form, ok_pair, refused_reading, refused_word, text_of,
 };
 use oidc_claims::{AdditionalClaims, AllOtherClaims};

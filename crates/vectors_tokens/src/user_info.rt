@@ -4,7 +4,7 @@ use crate::tokens::unsigned_line;
 use crate::verifier_keys::VerifierKey;
 use crate::verifiers::{Parties, parties_in};
 use crate::words::claims_word;
-use cases::{
+use case_lines::{
     Case, CaseError, algorithm, object, ok_form, ok_pair, parse_line, refused_as, refused_word,
     request_line, response_in, url_of,
 };

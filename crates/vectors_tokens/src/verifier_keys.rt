@@ -5,7 +5,7 @@ ghost use Rattle.std.proofs.Common.{arith};
 ghost use Rattle.vectors_tokens.specs.VerifierKeys as spec;
 ghost use Rattle.vectors_tokens.specs.declared.verifier_keys.VerifierKey.TheVariants.{Secret};
 
-use cases::{CaseError, bytes_of};
+use case_lines::{CaseError, bytes_of};
 use oidc_keys::{
     CoreJsonWebKey, CoreJsonWebKeyUse, HashError, JsonWebKey, SignatureVerificationError,
 };

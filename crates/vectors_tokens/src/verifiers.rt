@@ -3,7 +3,7 @@
 use crate::tokens::{Claims, Token, token_of, written_claims};
 use crate::verifier_keys::{VerifierKey, key_of};
 use crate::words::claims_word;
-use cases::{Case, CaseError, algorithm, number, ok_pair, refused_word, url_of};
+use case_lines::{Case, CaseError, algorithm, number, ok_pair, refused_word, url_of};
 use jiff::Timestamp;
 use oidc_keys::JsonWebKeySet;
 use oidc_tokens::{ClaimsVerificationError, IdTokenVerifier};

@@ -1,6 +1,6 @@
 //! The words of refusals of claims, as a report has them.
 
-use cases::signature_word;
+use case_lines::signature_word;
 use oidc_tokens::ClaimsVerificationError;
 
 /// The word of why claims aren't accepted.

@@ -9,7 +9,8 @@ use oidc_client::{
 };
 use oidc_keys::CoreJsonWebKey;
 use oidc_login::{
-    LoginClient, LoginError, LoginRequest, Logins, MetadataClient, SignedIn, UserInfoDemand,
+    BeginError, LoginClient, LoginError, LoginRequest, Logins, MetadataClient, SignedIn,
+    UserInfoDemand,
 };
 use oidc_oauth2::{
     Adapter, HttpRequest, HttpResponse, Recorded, RequestTokenError, SyncHttpClient,
@@ -66,20 +67,16 @@ fn provider(rt: &impl Abort, alloc: Global) -> CoreProviderMetadata {
     .set_userinfo_endpoint(Some(url(rt, alloc, "https://example/userinfo")))
 }
 
-/// A client of this ID, with this redirect where there is one.
-pub(crate) fn client_of(
-    rt: &impl Abort,
-    alloc: Global,
-    id: &str,
-    redirect: Option<&str>,
-) -> LoginClient {
+/// A client of this ID, without a redirect.
+pub(crate) fn client_of(rt: &impl Abort, alloc: Global, id: &str) -> LoginClient {
     let id = ClientId::new(text(rt, alloc, id));
     let secret = ClientSecret::new(text(rt, alloc, "bbb"));
-    let client = Client::from_provider_metadata(provider(rt, alloc), id, Some(secret));
-    match redirect {
-        None => client,
-        Some(redirect) => client.set_redirect_uri(url(rt, alloc, redirect)),
-    }
+    Client::from_provider_metadata(provider(rt, alloc), id, Some(secret))
+}
+
+// The client `aaa` with this redirect.
+fn redirected(rt: &impl Abort, alloc: Global, redirect: &str) -> LoginClient {
+    client_of(rt, alloc, "aaa").set_redirect_uri(url(rt, alloc, redirect))
 }
 
 /// A client's request of a flow, with this state.
@@ -185,7 +182,7 @@ fn login<E: Drop + Display, H: SyncHttpClient<Error = E>>(
 
 // A login over a closure that always answers, or never does, and how often it has failed.
 fn login_over_closure(rt: &impl Abort, alloc: Global, is_up: bool) -> String {
-    let client = client_of(rt, alloc, "aaa", None);
+    let client = client_of(rt, alloc, "aaa");
     let mut http = Adapter::new(move |request: HttpRequest| -> Result<HttpResponse, Down> {
         if !is_up {
             return Err(Down(0));
@@ -215,7 +212,7 @@ fn callbacks_over_closures(rt: HostRuntime) {
 // Logins at this client over a transport that answers one request alone, the first of which may demand user info, and
 // the counts of the transport.
 fn logins_over_own(rt: &impl Abort, alloc: Global, user_info: Option<UserInfoDemand>) -> String {
-    let client = client_of(rt, alloc, "aaa", None);
+    let client = client_of(rt, alloc, "aaa");
     let mut http = Fleeting::new();
     let first = login(rt, alloc, &client, &mut http, user_info);
     let second = login(rt, alloc, &client, &mut http, None);
@@ -255,20 +252,26 @@ fn flow_of(alloc: Global, flow: &str) -> CoreAuthenticationFlow {
     }
 }
 
+// What a begin answers, in words.
+fn begin_word<U>(rt: &impl Abort, alloc: Global, reply: &Result<U, BeginError>) -> String {
+    match reply {
+        Ok(_) => text(rt, alloc, "ok"),
+        Err(error) => format!(in alloc; "{error}").expect(rt, "memory"),
+    }
+}
+
 // What the store of the client `aaa` answers to a begin with a request of a client of this ID and a verifier of so
 // many letters, and how many logins are pending after it.
 fn begin_line(rt: &impl Abort, alloc: Global, id: &str, flow: &str, letters: usize) -> String {
-    let client = client_of(rt, alloc, "aaa", None);
-    let other = client_of(rt, alloc, id, None);
+    let client = client_of(rt, alloc, "aaa");
+    let other = client_of(rt, alloc, id);
     let mut logins = Logins::new(alloc, &client).expect(rt, "a token endpoint");
     let state = text(rt, alloc, "CSRF123");
     let request = request_of(rt, alloc, &other, flow_of(alloc, flow), state);
     let reply = logins.begin(request, verifier(rt, alloc, letters), None);
+    let word = begin_word(rt, alloc, &reply);
     let count = logins.pending();
-    match reply {
-        Ok(_) => format!(in alloc; "ok {count}").expect(rt, "memory"),
-        Err(error) => format!(in alloc; "{error} {count}").expect(rt, "memory"),
-    }
+    format!(in alloc; "{word} {count}").expect(rt, "memory")
 }
 
 // The ID of the client that makes the request, the flow, the letters of the verifier, and the line: the first
@@ -302,13 +305,10 @@ fn begins_with_requests_of_other_clients_and_flows(rt: HostRuntime) {
     }
 }
 
-// The body of the token request of a login in the store of a client with this redirect, which began with a request of
-// a client with another.
-fn body_sent(rt: &impl Abort, alloc: Global, own: Option<&str>, other: Option<&str>) -> String {
-    let client = client_of(rt, alloc, "aaa", own);
-    let other = client_of(rt, alloc, "aaa", other);
-    let mut logins = Logins::new(alloc, &client).expect(rt, "a token endpoint");
-    begin(rt, alloc, &other, &mut logins, None);
+// The body of the token request of a login in the store of this client, which began with a request of the other.
+fn body_sent(rt: &impl Abort, alloc: Global, own: &LoginClient, other: &LoginClient) -> String {
+    let mut logins = Logins::new(alloc, own).expect(rt, "a token endpoint");
+    begin(rt, alloc, other, &mut logins, None);
     let mut http = Recorded::new(alloc, Vec::new(alloc));
     let now = Timestamp::from_second(1999).expect(rt, "a moment");
     let _ = logins.callback(b"code=c1&state=CSRF123".as_slice(), &mut http, now);
@@ -320,28 +320,28 @@ fn body_sent(rt: &impl Abort, alloc: Global, own: Option<&str>, other: Option<&s
     )
 }
 
-// The redirect of the store's client, that of the client that makes the request, and the body.
-static BODIES: [(Option<&str>, Option<&str>, &str); 3] = [
-    (
-        Some("https://own/"),
-        None,
-        "grant_type=authorization_code&code=c1&code_verifier=dBjftJeZ4CVP-mB92K27uhbUJU1p1r_wW1gFWFOEjXk",
-    ),
-    (
-        None,
-        Some("https://other/"),
-        "grant_type=authorization_code&code=c1&code_verifier=dBjftJeZ4CVP-mB92K27uhbUJU1p1r_wW1gFWFOEjXk&redirect_uri=https%3A%2F%2Fother%2F",
-    ),
-    (
-        Some("https://own/"),
-        Some("https://other/"),
-        "grant_type=authorization_code&code=c1&code_verifier=dBjftJeZ4CVP-mB92K27uhbUJU1p1r_wW1gFWFOEjXk&redirect_uri=https%3A%2F%2Fother%2F",
-    ),
-];
+const WITHOUT_REDIRECT: &str =
+    "grant_type=authorization_code&code=c1&code_verifier=dBjftJeZ4CVP-mB92K27uhbUJU1p1r_wW1gFWFOEjXk";
+
+const WITH_REDIRECT: &str =
+    "grant_type=authorization_code&code=c1&code_verifier=dBjftJeZ4CVP-mB92K27uhbUJU1p1r_wW1gFWFOEjXk&redirect_uri=https%3A%2F%2Fother%2F";
+
+// The bodies for each store and client: `own` and `other` have a redirect each, `bare` has none.
+fn bodies(rt: &impl Abort, alloc: Global) -> [String; 3] {
+    let bare = client_of(rt, alloc, "aaa");
+    let own = redirected(rt, alloc, "https://own/");
+    let other = redirected(rt, alloc, "https://other/");
+    [
+        body_sent(rt, alloc, &own, &bare),
+        body_sent(rt, alloc, &bare, &other),
+        body_sent(rt, alloc, &own, &other),
+    ]
+}
 
 #[test]
 fn redirects_are_those_of_the_client_that_made_the_request(rt: HostRuntime) {
-    for (own, other, want) in &BODIES {
-        assert_eq!(rt; body_sent(&rt, rt.alloc(), *own, *other).as_str(), *want);
-    }
+    let bodies = bodies(&rt, rt.alloc());
+    assert_eq!(rt; bodies[0].as_str(), WITHOUT_REDIRECT);
+    assert_eq!(rt; bodies[1].as_str(), WITH_REDIRECT);
+    assert_eq!(rt; bodies[2].as_str(), WITH_REDIRECT);
 }

@@ -38,7 +38,7 @@ fn begin_many<'c>(
 // How many logins pend after three hundred thousand begins, what of some of them is pending, and what the first of
 // them gets once more.
 fn many_pending(rt: &impl Abort, alloc: Global) -> String {
-    let client = client_of(rt, alloc, "aaa", None);
+    let client = client_of(rt, alloc, "aaa");
     let mut logins = Logins::new(alloc, &client).expect(rt, "a token endpoint");
     begin_many(rt, alloc, &client, &mut logins);
     let again = begin_numbered(rt, alloc, &client, &mut logins, 1);

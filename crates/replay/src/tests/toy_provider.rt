@@ -20,7 +20,7 @@ use oidc_types::{
 use oidc_user_info::{EmptyAdditionalProviderMetadata, UserInfoResponseType};
 use std::alloc::Global;
 use std::process::Abort;
-use toy_keys::ToyRsaKey;
+use test_keys::ToyRsaKey;
 
 type ToyClient = MetadataClient<AllOtherClaims, CoreGenderClaim, ToyRsaKey>;
 

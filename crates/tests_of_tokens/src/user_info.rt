@@ -190,8 +190,17 @@ fn claims_text(rt: &impl Abort, alloc: Global, claims: &TenantClaims) -> String 
 
 // The claims of an object, written, or the kind and the field of a refusal.
 fn claims_line(rt: &impl Abort, alloc: Global, text: &str) -> String {
-    match TenantClaims::from_json::<Fault>(alloc, text.as_bytes(), None) {
-        Ok(claims) => claims_text(rt, alloc, &claims),
+    let read = TenantClaims::from_json::<Fault>(alloc, text.as_bytes(), None);
+    read_line(rt, alloc, &read)
+}
+
+fn read_line(
+    rt: &impl Abort,
+    alloc: Global,
+    read: &Result<TenantClaims, UserInfoError<Fault>>,
+) -> String {
+    match read {
+        Ok(claims) => claims_text(rt, alloc, claims),
         Err(UserInfoError::Parse(refusal)) => {
             let (kind, field) = (refusal.kind, &refusal.field);
             format!(in alloc; "{kind:?} {field}").expect(rt, "memory")

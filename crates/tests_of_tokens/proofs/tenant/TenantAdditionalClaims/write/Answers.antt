@@ -3,7 +3,7 @@ use Rattle.std.proofs.lemmas.List.Elements.{All-nil}
 use Rattle.serde_json.specs.declared.value.Value.{String}
 use Rattle.oidc_readers.specs.WrittenBack.{IsUtf8Member}
 use Rattle.oidc_claims.proofs.Theorems.{utf8_pushed}
-use Rattle.trials_tokens.proofs.tenant.TenantAdditionalClaims.write.Goals as goal
+use Rattle.tests_of_tokens.proofs.tenant.TenantAdditionalClaims.write.Goals as goal
 
 pub returns-clause-texts : goal.returns-clause-texts
 returns-clause-texts c =

@@ -16,6 +16,7 @@ use oidc_user_info::{BuildUrlError, EmptyAdditionalProviderMetadata};
 use std::alloc::{AllocError, Global};
 use std::process::Abort;
 use std::sync::atomic::{AtomicU64, Ordering};
+use url::Url;
 
 type Client = CoreClient<EndpointSet>;
 
@@ -71,7 +72,17 @@ fn ordered<'a>(
 // The places, and how many calls there were; or that number alone, where there was no memory.
 fn order_line(rt: &impl Abort, alloc: Global, calls: &AtomicU64) -> String {
     let client = client(rt, alloc);
-    match ordered(rt, alloc, &client, calls) {
+    let request = ordered(rt, alloc, &client, calls);
+    places(rt, alloc, &request, calls)
+}
+
+fn places(
+    rt: &impl Abort,
+    alloc: Global,
+    request: &Result<Request<'_>, AllocError>,
+    calls: &AtomicU64,
+) -> String {
+    match request {
         Ok(request) => {
             let (state, nonce) = (request.state().secret(), request.nonce().secret());
             let count = calls.load(Ordering::SeqCst);
@@ -119,7 +130,15 @@ fn request_of<'a>(
 // The length of the URL of such a request, or none where it is too long.
 fn url_length(rt: &impl Abort, alloc: Global, letters: usize) -> Option<usize> {
     let client = client(rt, alloc);
-    match request_of(rt, alloc, &client, letters).url(alloc) {
+    let built = request_of(rt, alloc, &client, letters).url(alloc);
+    length_of(rt, &built)
+}
+
+fn length_of(
+    rt: &impl Abort,
+    built: &Result<(Url, CsrfToken, Nonce), BuildUrlError>,
+) -> Option<usize> {
+    match built {
         Ok((url, _, _)) => Some(url.as_str().len()),
         Err(BuildUrlError::TooLong) => None,
         Err(BuildUrlError::Memory) => panic!(rt; "memory"),

@@ -13,11 +13,11 @@ use oidc_tokens::{
 };
 use oidc_types::{
     AccessToken, Audience, ClientId, ClientSecret, CoreGenderClaim, CoreJwsSigningAlgorithm,
-    IssuerUrl, JsonWebKeyId, SigningError, SubjectIdentifier,
+    IssuerUrl, JsonWebKeyId, SubjectIdentifier,
 };
 use std::alloc::Global;
 use std::process::Abort;
-use toy_keys::{ToyRsaKey, ToyRsaSigner};
+use test_keys::{ToyRsaKey, ToyRsaSigner};
 
 fn text(rt: &impl Abort, alloc: Global, text: &str) -> String {
     String::from_str(alloc, text).expect(rt, "memory")
@@ -71,7 +71,16 @@ fn verdict(
     now: Timestamp,
 ) -> String {
     let token = CoreIdToken::from_str(alloc, token).expect(rt, "a token");
-    match token.claims(alloc, verifier, WithoutNonce, now) {
+    let verdict = token.claims(alloc, verifier, WithoutNonce, now);
+    verdict_word(rt, alloc, &verdict)
+}
+
+fn verdict_word(
+    rt: &impl Abort,
+    alloc: Global,
+    verdict: &Result<&CoreIdTokenClaims, ClaimsVerificationError>,
+) -> String {
+    match verdict {
         Ok(claims) => text(rt, alloc, claims.subject().as_str()),
         Err(refusal) => format!(in alloc; "{refusal:?}").expect(rt, "memory"),
     }
@@ -236,21 +245,34 @@ fn keys_of_ones_own_check_tokens(rt: HostRuntime) {
     }
 }
 
-// What a token beside an access token is refused as.
-fn refused_beside(rt: &impl Abort, alloc: Global) -> Option<SigningError> {
-    let access_token = AccessToken::new(text(rt, alloc, "abc"));
-    match issued(alloc, claims(rt, alloc), Some(&access_token)) {
-        Err(JsonWebTokenError::SigningError(error)) => Some(error),
-        _ => None,
+// What the signer refuses a token as, or another word.
+fn refusal_word(
+    rt: &impl Abort,
+    alloc: Global,
+    issued: &Result<CoreIdToken, JsonWebTokenError>,
+) -> String {
+    match issued {
+        Err(JsonWebTokenError::SigningError(error)) => {
+            format!(in alloc; "{error}").expect(rt, "memory")
+        }
+        _ => text(rt, alloc, "not refused by the signer"),
     }
+}
+
+// What a token beside an access token is refused as.
+fn refused_beside(rt: &impl Abort, alloc: Global) -> String {
+    let access_token = AccessToken::new(text(rt, alloc, "abc"));
+    let issued = issued(alloc, claims(rt, alloc), Some(&access_token));
+    refusal_word(rt, alloc, &issued)
 }
 
 // The toy has no hash, so a token beside an access token isn't issued.
 #[test]
 fn a_hash_that_is_wanted_has_to_be_there(rt: HostRuntime) {
-    let error = refused_beside(&rt, rt.alloc()).expect(&rt, "a refusal");
-    let line = format!(in rt.alloc(); "{error}").expect(&rt, "memory");
-    assert_eq!(rt; line.as_str(), "unsupported signature algorithm: RS256");
+    assert_eq!(rt;
+        refused_beside(&rt, rt.alloc()).as_str(),
+        "unsupported signature algorithm: RS256"
+    );
 }
 
 // ---- additional claims of the test's own
@@ -267,8 +289,13 @@ fn tenant_text(rt: &impl Abort, alloc: Global, claims: &TenantClaims) -> String 
 // The claims of an object with a tenant, written, or the kind and the field of a refusal.
 fn tenant_line(rt: &impl Abort, alloc: Global, text: &str) -> String {
     let members = Members::split(alloc, text.as_bytes()).expect(rt, "an object");
-    match TenantClaims::read(alloc, &members) {
-        Ok(claims) => tenant_text(rt, alloc, &claims),
+    let read = TenantClaims::read(alloc, &members);
+    read_line(rt, alloc, &read)
+}
+
+fn read_line(rt: &impl Abort, alloc: Global, read: &Result<TenantClaims, ParseError>) -> String {
+    match read {
+        Ok(claims) => tenant_text(rt, alloc, claims),
         Err(ParseError::Refused(refusal)) => {
             let (kind, field) = (refusal.kind, &refusal.field);
             format!(in alloc; "{kind:?} {field}").expect(rt, "memory")
