@@ -1,9 +1,6 @@
-//! What no line of the programs of cases can say of transports, of logins and of the program: objects that fail at one
-//! call, a transport, a key and a source of the test's own, and very many of something. Other tests of the crates below
-//! stand in `tests_below_tokens` and `tests_of_tokens`.
+//! What no line of the programs of cases can say of the program: objects that fail at one call, a source and a key of the
+//! test's own, and scripts at their limits. Other tests of the crates below stand in `tests_below_tokens`,
+//! `tests_of_tokens` and `tests_of_logins`.
 
-mod login;
-mod many_logins;
 mod program;
 mod toy_provider;
-mod transports;

@@ -1,7 +1,7 @@
 //! Logins over transports of the test's own, and begins with requests of other clients and flows. The verifier is that
 //! of RFC 7636, appendix B.
 
-use crate::tests::transports::{Down, Fleeting, TOKEN, echo};
+use crate::transports::{Down, Fleeting, TOKEN, echo};
 use jiff::Timestamp;
 use oidc_claims::{AllOtherClaims, EmptyAdditionalClaims};
 use oidc_client::{
@@ -175,8 +175,10 @@ fn login<E: Drop + Display, H: SyncHttpClient<Error = E>>(
     let before = logins.is_pending("CSRF123") && !logins.is_pending("CSRF12");
     let now = Timestamp::from_second(1999).expect(rt, "a moment");
     let reply = logins.callback(b"code=c1&state=CSRF123".as_slice(), http, now);
-    let after = logins.is_pending("CSRF123");
     let answered = answer(rt, alloc, &reply);
+    drop(reply);
+    let after = logins.is_pending("CSRF123");
+    drop(logins);
     format!(in alloc; "{before} {after} {answered}").expect(rt, "memory")
 }
 
@@ -190,6 +192,7 @@ fn login_over_closure(rt: &impl Abort, alloc: Global, is_up: bool) -> String {
         echo(alloc, &request).map_err(|_| Down(1))
     });
     let line = login(rt, alloc, &client, &mut http, None);
+    drop(client);
     format!(in alloc; "{line} {}", http.faults()).expect(rt, "memory")
 }
 
@@ -216,6 +219,7 @@ fn logins_over_own(rt: &impl Abort, alloc: Global, user_info: Option<UserInfoDem
     let mut http = Fleeting::new();
     let first = login(rt, alloc, &client, &mut http, user_info);
     let second = login(rt, alloc, &client, &mut http, None);
+    drop(client);
     format!(in alloc; "{first}, {second}, {:?}", http.counts()).expect(rt, "memory")
 }
 
@@ -270,7 +274,11 @@ fn begin_line(rt: &impl Abort, alloc: Global, id: &str, flow: &str, letters: usi
     let request = request_of(rt, alloc, &other, flow_of(alloc, flow), state);
     let reply = logins.begin(request, verifier(rt, alloc, letters), None);
     let word = begin_word(rt, alloc, &reply);
+    drop(reply);
     let count = logins.pending();
+    drop(logins);
+    drop(other);
+    drop(client);
     format!(in alloc; "{word} {count}").expect(rt, "memory")
 }
 
@@ -311,7 +319,8 @@ fn body_sent(rt: &impl Abort, alloc: Global, own: &LoginClient, other: &LoginCli
     begin(rt, alloc, other, &mut logins, None);
     let mut http = Recorded::new(alloc, Vec::new(alloc));
     let now = Timestamp::from_second(1999).expect(rt, "a moment");
-    let _ = logins.callback(b"code=c1&state=CSRF123".as_slice(), &mut http, now);
+    drop(logins.callback(b"code=c1&state=CSRF123".as_slice(), &mut http, now));
+    drop(logins);
     let request = http.requests().first().expect(rt, "a request");
     text(
         rt,
@@ -326,22 +335,37 @@ const WITHOUT_REDIRECT: &str =
 const WITH_REDIRECT: &str =
     "grant_type=authorization_code&code=c1&code_verifier=dBjftJeZ4CVP-mB92K27uhbUJU1p1r_wW1gFWFOEjXk&redirect_uri=https%3A%2F%2Fother%2F";
 
-// The bodies for each store and client: `own` and `other` have a redirect each, `bare` has none.
-fn bodies(rt: &impl Abort, alloc: Global) -> [String; 3] {
-    let bare = client_of(rt, alloc, "aaa");
-    let own = redirected(rt, alloc, "https://own/");
-    let other = redirected(rt, alloc, "https://other/");
-    [
-        body_sent(rt, alloc, &own, &bare),
-        body_sent(rt, alloc, &bare, &other),
-        body_sent(rt, alloc, &own, &other),
-    ]
+// The body for a store's client and another, each with a redirect where one is given.
+fn body_between(rt: &impl Abort, alloc: Global, own: LoginClient, other: LoginClient) -> String {
+    let body = body_sent(rt, alloc, &own, &other);
+    drop(own);
+    drop(other);
+    body
+}
+
+// The client `aaa` without a redirect.
+fn bare(rt: &impl Abort, alloc: Global) -> LoginClient {
+    client_of(rt, alloc, "aaa")
 }
 
 #[test]
-fn redirects_are_those_of_the_client_that_made_the_request(rt: HostRuntime) {
-    let bodies = bodies(&rt, rt.alloc());
-    assert_eq!(rt; bodies[0].as_str(), WITHOUT_REDIRECT);
-    assert_eq!(rt; bodies[1].as_str(), WITH_REDIRECT);
-    assert_eq!(rt; bodies[2].as_str(), WITH_REDIRECT);
+fn a_store_with_a_redirect_sends_none_of_its_own(rt: HostRuntime) {
+    let own = redirected(&rt, rt.alloc(), "https://own/");
+    let body = body_between(&rt, rt.alloc(), own, bare(&rt, rt.alloc()));
+    assert_eq!(rt; body.as_str(), WITHOUT_REDIRECT);
+}
+
+#[test]
+fn a_store_without_a_redirect_sends_that_of_the_request(rt: HostRuntime) {
+    let other = redirected(&rt, rt.alloc(), "https://other/");
+    let body = body_between(&rt, rt.alloc(), bare(&rt, rt.alloc()), other);
+    assert_eq!(rt; body.as_str(), WITH_REDIRECT);
+}
+
+#[test]
+fn a_store_with_a_redirect_sends_that_of_the_request(rt: HostRuntime) {
+    let own = redirected(&rt, rt.alloc(), "https://own/");
+    let other = redirected(&rt, rt.alloc(), "https://other/");
+    let body = body_between(&rt, rt.alloc(), own, other);
+    assert_eq!(rt; body.as_str(), WITH_REDIRECT);
 }

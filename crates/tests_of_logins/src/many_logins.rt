@@ -1,6 +1,6 @@
 //! Very many logins that pend at once.
 
-use crate::tests::login::{CoreLogins, client_of, request_of, verifier};
+use crate::login::{CoreLogins, client_of, request_of, verifier};
 use oidc_client::AuthenticationFlow;
 use oidc_login::{BeginError, LoginClient, Logins};
 use std::alloc::Global;
@@ -44,6 +44,8 @@ fn many_pending(rt: &impl Abort, alloc: Global) -> String {
     let again = begin_numbered(rt, alloc, &client, &mut logins, 1);
     let count = logins.pending();
     let (last, none) = (logins.is_pending("s300000"), logins.is_pending("s0"));
+    drop(logins);
+    drop(client);
     format!(in alloc; "{count} {last} {none} {again:?}").expect(rt, "memory")
 }
 

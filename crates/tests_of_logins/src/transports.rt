@@ -1,4 +1,4 @@
-//! A closure as a transport, and a transport of the test's own.
+//! A transport of the test's own, what it answers, and why it may not answer.
 
 use oidc_oauth2::{Body, CallError, HttpRequest, HttpResponse, SyncHttpClient};
 use std::alloc::{AllocError, Global};
@@ -6,7 +6,7 @@ use std::fmt;
 
 /// Why there is no response: the transport is down, since so many requests.
 #[derive(Clone, Copy, Debug, PartialEq, Eq)]
-pub(crate) struct Down(pub(crate) u64);
+pub struct Down(pub(crate) u64);
 
 /// Prints why there is no response.
 impl fmt::Display for Down {
@@ -32,7 +32,7 @@ pub(crate) fn echo(alloc: Global, request: &HttpRequest) -> Result<HttpResponse,
 
 /// A transport that answers its first request, and is down from then on. It counts its requests.
 #[derive(Drop)]
-pub(crate) struct Fleeting {
+pub struct Fleeting {
     requests: u64,
     faults: u64,
 }
