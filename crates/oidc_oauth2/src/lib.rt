@@ -41,7 +41,9 @@ mod token_type;
 mod transport;
 
 pub use crate::adapter::Adapter;
-pub use crate::client_auth::{AuthType, ClientAuth, ConfigurationError};
+pub use crate::client_auth::{
+    AuthType, ClientAuth, ConfigurationError, push_client, push_optional,
+};
 pub use crate::device::{CoreDeviceAuthorizationResponse, DeviceAuthorizationResponse};
 pub use crate::error_response::{
     CoreRevocationErrorResponse, DeviceCodeErrorResponse, ErrorResponse, StandardErrorResponse,
@@ -63,11 +65,13 @@ pub use crate::introspection::{
 };
 pub use crate::pkce::{PkceCodeChallenge, PkceError};
 pub use crate::recorded::{Answer, Fault, Recorded};
-pub use crate::requests::{CodeTokenRequest, PrepareError, is_address};
+pub use crate::requests::{CodeTokenRequest, PrepareError, is_address, post_form, push_all};
 pub use crate::revocation::{CoreRevocableToken, RevocableToken};
+pub use crate::scopes::joined_scopes;
 pub use crate::token::{OAuth2TokenResponse, StandardTokenResponse};
 pub use crate::token_answers::{
-    CoreRequestTokenError, MAX_BODY, OtherCause, RequestTokenError, token_answer,
+    CoreRequestTokenError, MAX_BODY, OtherCause, RequestTokenError, object_answer,
+    record_or_refusal, success_in, token_answer,
 };
 pub use crate::token_type::{CoreTokenType, TokenType};
 pub use crate::transport::{CallError, HttpRequest, HttpResponse, SyncHttpClient};
