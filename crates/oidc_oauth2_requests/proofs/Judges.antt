@@ -13,8 +13,8 @@ use Rattle.oidc_oauth2.specs.declared.token_answers.RequestTokenError.{RequestTo
 use Rattle.oidc_oauth2.specs.declared.token_answers.RequestTokenError.TheVariants.{ServerResponse, Request, Parse, Other, TooLong, Memory}
 use Rattle.oidc_oauth2.proofs.Runs.{unless_map, memory_first, unmade, answered}
 use Rattle.oidc_oauth2_requests.specs.FormRequests.{SeenFormRequest, form_request}
-use Rattle.oidc_oauth2_requests.specs.RequestCauses.{Came, IsRefused, IsHeld, Cause}
-use Rattle.oidc_oauth2_requests.specs.RequestRuns.{run_of, Ran}
+use Rattle.oidc_oauth2_requests.specs.RequestCauses.{AnswerCame, IsRefused, IsHeld, Cause}
+use Rattle.oidc_oauth2_requests.specs.RequestRuns.{request_run, Ran}
 use Rattle.oidc_oauth2_requests.specs.Sending.{Took, Unmade, Sent}
 
 not_fitting : {A : Type 0} (x : A) (fits : Bool) → (if fits then Some x else None) ≡ None → fits ≡ false
@@ -59,7 +59,7 @@ module _ {A TE : Type 0} (Refuses : SeenResponse → TokenRefusal TE → Type 0)
       WholeRests (Ok value) = IsHeld ask answers Holds value
       WholeRests (Err e) = Cause ask answers Refuses e
 
-      response_rests : (response : SeenResponse) → Came ask answers (Some response) → (reply : Result A (TokenRefusal TE)) → Rests response reply → WholeRests reply
+      response_rests : (response : SeenResponse) → AnswerCame ask answers (Some response) → (reply : Result A (TokenRefusal TE)) → Rests response reply → WholeRests reply
       response_rests response came (Ok value) rests = record { response = response; came = came; held = rests }
       response_rests response came (Err (ServerResponse error)) rests = record { response = response; came = came; cause = rests }
       response_rests response came (Err (Request u)) rests = absurd (judge.no_fault response u rests)
@@ -90,7 +90,7 @@ module _ {A TE : Type 0} (Refuses : SeenResponse → TokenRefusal TE → Type 0)
       made_rests (Some request) is = came_rests request is (first_answer answers) refl
 
       abbrev reply : Result A (TokenRefusal TE)
-      reply = (run_of worth ask answers).reply
+      reply = (request_run worth ask answers).reply
 
       whole_rests : WholeRests reply
       whole_rests = made_rests (form_request ask) refl
@@ -101,7 +101,7 @@ module _ {A TE : Type 0} (Refuses : SeenResponse → TokenRefusal TE → Type 0)
       unfolding form_request
       not_made is = unfitting _ (is_address ask.address) is
 
-      came_reply : (answer : SeenAnswer) → Came ask answers answer → reply ≡ reply_to answer
+      came_reply : (answer : SeenAnswer) → AnswerCame ask answers answer → reply ≡ reply_to answer
       came_reply answer came = ap reply_where came.request_made ∙ ap reply_to came.answer_came
 
       refused_reply : (e : TokenRefusal TE) → IsRefused ask answers Refuses e → reply ≡ Err e
@@ -137,7 +137,7 @@ module _ {A TE : Type 0} (Refuses : SeenResponse → TokenRefusal TE → Type 0)
         held_by (Err e) gives = tt
 
     module _ {RE : Type 0} (ask : SeenFormRequest) (old new : Known) where
-      ran : (result : Result A (RequestTokenError RE TE)) → Follows token_errors (run_of worth ask) old new result → Ran worth Refuses Holds ask old new result
+      ran : (result : Result A (RequestTokenError RE TE)) → Follows token_errors (request_run worth ask) old new result → Ran worth Refuses Holds ask old new result
       ran result x = record {
         exchanged = x;
         cause = caused ask x.answers result x.reply;
@@ -149,7 +149,7 @@ module _ {A TE : Type 0} (Refuses : SeenResponse → TokenRefusal TE → Type 0)
       -- ---- by what was sent
 
       abbrev Leaves : Result A (RequestTokenError RE TE) → Type 0
-      Leaves result = Follows token_errors (run_of worth ask) old new result
+      Leaves result = Follows token_errors (request_run worth ask) old new result
 
       abbrev made : Result SeenRequest (TokenRefusal TE)
       made = form_request ask or Other Uri
@@ -161,7 +161,7 @@ module _ {A TE : Type 0} (Refuses : SeenResponse → TokenRefusal TE → Type 0)
 
       not_sent : Unmade (form_request ask) old new → Leaves (Err (Other Uri))
       not_sent none =
-          subst (λ new. Follows token_errors (run_of worth ask) old new (Err (Other Uri))) (sym none.same)
+          subst (λ new. Follows token_errors (request_run worth ask) old new (Err (Other Uri))) (sym none.same)
           (unmade token_errors (reply_by (Request tt) worth) made (Other Uri) (ap (λ meant. meant or Other Uri) none.none) old (Err (Other Uri)) refl)
 
       abbrev Sends : Result (Response (List ℕ)) (RequestTokenError RE TE) → Type 0
@@ -175,7 +175,7 @@ module _ {A TE : Type 0} (Refuses : SeenResponse → TokenRefusal TE → Type 0)
       leaves (Other EmptyBody) sent = absurd sent
       leaves (Other MediaType) sent = absurd sent
       leaves (TooLong body) sent = absurd sent
-      leaves Memory sent = memory_first token_errors (run_of worth ask) old new Memory refl sent
+      leaves Memory sent = memory_first token_errors (request_run worth ask) old new Memory refl sent
 
       -- without a response
       pub ran_refused : (e : RequestTokenError RE TE) (result : Result A (RequestTokenError RE TE)) → result ≡ Err e → Sends (Err e) → Ran worth Refuses Holds ask old new result

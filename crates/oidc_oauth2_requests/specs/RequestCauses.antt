@@ -93,7 +93,7 @@ module _ {TR : Type 0} (token_of : List SeenMember → Result TR Refusal) (r : S
 
 module _ (ask : SeenFormRequest) (answers : List SeenAnswer) where
   -- The request was made, and this came back.
-  pub record Came (answer : SeenAnswer) : Type 0 where
+  pub record AnswerCame (answer : SeenAnswer) : Type 0 where
     pub request : SeenRequest
     pub request_made : form_request ask ≡ Some request
     pub answer_came : first_answer answers ≡ answer
@@ -101,18 +101,18 @@ module _ (ask : SeenFormRequest) (answers : List SeenAnswer) where
   -- The response that came is refused with this, by what a response is refused for.
   pub record IsRefused {TE : Type 0} (Refuses : SeenResponse → TokenRefusal TE → Type 0) (e : TokenRefusal TE) : Type 0 where
     pub response : SeenResponse
-    pub came : Came (Some response)
+    pub came : AnswerCame (Some response)
     pub cause : Refuses response e
 
   -- The response that came holds this, by what a response holds.
   pub record IsHeld {A : Type 0} (Holds : SeenResponse → A → Type 0) (value : A) : Type 0 where
     pub response : SeenResponse
-    pub came : Came (Some response)
+    pub came : AnswerCame (Some response)
     pub held : Holds response value
 
   -- the cause of each refusal; want of memory is none
   abbrev pub Cause : {TE : Type 0} → (SeenResponse → TokenRefusal TE → Type 0) → TokenRefusal TE → Type 0
   Cause Refuses (Other Uri) = is_address ask.address ≡ false
-  Cause Refuses (Request u) = Came None
+  Cause Refuses (Request u) = AnswerCame None
   Cause Refuses Memory = ⊥
   Cause Refuses e = IsRefused Refuses e

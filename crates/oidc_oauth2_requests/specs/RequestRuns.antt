@@ -17,14 +17,14 @@ use Rattle.oidc_oauth2_requests.specs.RequestCauses.{IsRevoked, RevocationCause,
 
 module _ {A TE : Type 0} (worth : SeenResponse → Result A (TokenRefusal TE)) where
   -- the one request, where its address is one that is sent to, and the reply by the answer to it
-  abbrev pub run_of : SeenFormRequest → List SeenAnswer → Run A (TokenRefusal TE)
-  run_of ask = one_request (reply_by (Request tt) worth) (form_request ask or Other Uri)
+  abbrev pub request_run : SeenFormRequest → List SeenAnswer → Run A (TokenRefusal TE)
+  request_run ask = one_request (reply_by (Request tt) worth) (form_request ask or Other Uri)
 
   -- By what a response is worth, what it is refused for, and what it holds.
   module _ (Refuses : SeenResponse → TokenRefusal TE → Type 0) (Holds : SeenResponse → A → Type 0) where
     pub record Ran {RE : Type 0} (ask : SeenFormRequest) (old new : Known)
         (result : Result A (RequestTokenError RE TE)) : Type 0 where
-      pub exchanged : Follows token_errors (run_of ask) old new result
+      pub exchanged : Follows token_errors (request_run ask) old new result
       -- each refusal has its cause, and each cause its refusal
       pub cause : IfErr result (λ e. OrMemory token_errors result (Cause ask exchanged.answers Refuses (seen_refusal e)))
       pub refused : (e : TokenRefusal TE) → Cause ask exchanged.answers Refuses e → Gives token_errors result (Err e)

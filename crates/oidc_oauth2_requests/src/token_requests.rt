@@ -154,7 +154,8 @@ impl<'a, TE, TR> PasswordTokenRequest<'a, TE, TR> {
         password: &'a ResourceOwnerPassword,
     ) -> Self
         ensures kept { let client = seen_client auth.entry in
-            result ≡ new_request (serialize endpoint.now.url) client (password_pairs username.now password.now) }
+            let own = password_pairs username.now password.now in
+            result ≡ new_request (serialize endpoint.now.url) client own }
     {
         PasswordTokenRequest {
             username,
