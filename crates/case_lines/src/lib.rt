@@ -1,4 +1,4 @@
-//! What the programs of cases share: `vectors`, `vectors_tokens` and `vectors_logins`.
+//! What the programs of cases share: `vectors`, `vectors_requests`, `vectors_tokens` and `vectors_logins`.
 //!
 //! Each reads standard input to its end and writes one line for each line: an empty line and a line that
 //! begins with `#` as they came, and for each other line, which is form pairs with `op` first, the
