@@ -7,6 +7,8 @@
 //! - [`CodeTokenRequest`] exchanges a code for tokens (RFC 6749 section 4.1.3, RFC 7636 section 4.5),
 //!   for a client that authenticates by [`ClientAuth`] (section 2.3.1).
 //! - [`token_answer`] is what a response to it is worth (RFC 6749 sections 5.1 and 5.2).
+//! - [`post_form`], and [`success_in`] and [`object_answer`], are the steps by which every request of form pairs is made
+//!   and every answer to one is judged, for the requests of the crate above, `oidc_oauth2_requests`.
 //! - The records of answers are read by their tables: [`StandardTokenResponse`],
 //!   [`StandardErrorResponse`], [`DeviceAuthorizationResponse`] (RFC 8628 section 3.2) and
 //!   [`StandardTokenIntrospectionResponse`] (RFC 7662 section 2.2).

@@ -190,9 +190,9 @@ impl<'a, TR, EF> DeviceAccessTokenRequest<'a, TR, EF> {
 }
 
 impl<'a, TR: OAuth2TokenResponse, EF> DeviceAccessTokenRequest<'a, TR, EF> {
-    /// Polls once: hands the request of `prepare` over, and answers what the response is worth. `Pending` and `SlowDown`
-    /// come exactly where it is that error response. `Request` comes only where the transport failed. On `Uri` a
-    /// transport that keeps a log has nothing new in it.
+    /// Polls once: hands the request of `prepare` over, and answers what the response is worth. `Pending` and
+    /// `SlowDown` come exactly where it is that error response. `Request` comes only where the transport failed. On
+    /// `Uri` a transport that keeps a log has nothing new in it.
     pub fn poll_once<C: SyncHttpClient>(
         &self,
         alloc: Global,

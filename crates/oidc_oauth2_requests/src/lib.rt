@@ -4,8 +4,8 @@
 //!   tokens (RFC 6749 sections 6, 4.3.2 and 4.4.2).
 //! - [`DeviceAuthorizationRequest`] asks for the codes of a device, and [`DeviceAccessTokenRequest`] polls once for its
 //!   tokens (RFC 8628 sections 3.1 and 3.4); a [`PollStep`] says whether they are there.
-//! - [`IntrospectionRequest`] asks about a token (RFC 7662 section 2.1), and [`RevocationRequest`] revokes one (RFC 7009
-//!   section 2.1).
+//! - [`IntrospectionRequest`] asks about a token (RFC 7662 section 2.1), and [`RevocationRequest`] revokes one (RFC
+//!   7009 section 2.1).
 //!
 //! What it promises. Each request is the POST of one description, `form_request`: an address, a client, the request's
 //! own pairs, scopes and further pairs. Over a transport that knows its log, it hands over exactly that one request, or

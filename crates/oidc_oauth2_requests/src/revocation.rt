@@ -20,8 +20,8 @@ use oidc_types::RevocationUrl;
 use std::alloc::{AllocError, Global};
 use std::marker::{Model, PhantomData};
 
-/// The request that revokes a token. `RT` is the token, `TRE` the error response. Contracts see what the request is made
-/// of.
+/// The request that revokes a token. `RT` is the token, `TRE` the error response. Contracts see what the request is
+/// made of.
 #[derive(Drop)]
 pub struct RevocationRequest<'a, RT: RevocableToken, TRE> {
     token: RT,
