@@ -45,12 +45,14 @@ module _ {TE A : Type 0} (error_of : List SeenMember → Result TE Refusal) (rea
   module _ (r : SeenResponse) where
     -- ---- of another status
 
-    by_error : (read : Result TE Refusal)
-        → (read or_as (λ refusal. Parse refusal r.body)) >>= (λ error. Err {A = A} (ServerResponse error)) ≡ Err (refused_by error_of r.body read)
+    abbrev of_error : Result TE Refusal → Result A (TokenRefusal TE)
+    of_error read = (read or_as (λ refusal. Parse refusal r.body)) >>= (λ error. Err (ServerResponse error))
+
+    by_error : (read : Result TE Refusal) → of_error read ≡ Err (refused_by error_of r.body read)
     by_error (Ok error) = refl
     by_error (Err refusal) = refl
 
-    by_body : (empty : Bool) → (Other EmptyBody when empty) >> ((record_in error_of r.body or_as (λ refusal. Parse refusal r.body)) >>= (λ error. Err {A = A} (ServerResponse error)))
+    by_body : (empty : Bool) → (Other EmptyBody when empty) >> of_error (record_in error_of r.body)
         ≡ Err (if empty then Other EmptyBody else refused_by error_of r.body (record_in error_of r.body))
     by_body true = refl
     by_body false = by_error (record_in error_of r.body)
