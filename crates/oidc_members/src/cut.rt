@@ -7,7 +7,7 @@ ghost use Rattle.oidc_members.specs.Scan.{IsAt};
 ghost use Rattle.oidc_members.specs.Cut.{IsFirst, IsCutUpTo, item_seen, items_seen};
 
 use crate::scan::Scan;
-use crate::space::is_space;
+use crate::space::is_blank;
 use std::alloc::{AllocError, Global};
 
 // The bytes before and behind an item's colon.
@@ -45,14 +45,16 @@ impl<'a> Item<'a> {
 }
 
 impl<'a> Cuts<'a> {
-    fn new(alloc: Global, text: &[u8]) -> Cuts<'a>
-        ensures { IsCutUpTo text.now (length text.now - 1) 1 result }
+    // There is room for a dozen items at once: claims and answers seldom have more.
+    fn new(alloc: Global, text: &[u8]) -> Result<Cuts<'a>, AllocError>
+        ensures { IfOk result (λ cuts. IsCutUpTo text.now (length text.now - 1) 1 cuts) }
     {
-        Cuts {
-            items: Vec::new(alloc),
+        let items = Vec::with_capacity(alloc, 12)?;
+        Ok(Cuts {
+            items,
             start: 1,
             colon: None,
-        }
+        })
     }
 
     // Takes the byte at a place.
@@ -104,20 +106,20 @@ pub(crate) fn items_of<'a>(
     }
     let last = text.len() - 1;
     let mut scan = Scan::behind_brace(text);
-    let mut cuts = Cuts::new(alloc, text);
-    let mut blank = true;
-    for i in 1..last {
+    let mut cuts = Cuts::new(alloc, text)?;
+    let mut i = 1;
+    while i < last {
+        cuts.take(text, &scan, i)?;
+        scan = scan.step(text, i);
         if scan.level == 0 {
             return Ok(None);
         }
-        blank = blank && is_space(text[i]);
-        cuts.take(text, &scan, i)?;
-        scan = scan.step(text, i);
+        i = scan.skip(text, i + 1, last);
     }
     if !scan.is_at_level_one(text, b'}', last) {
         return Ok(None);
     }
-    if blank {
+    if is_blank(&text[1..last]) {
         return Ok(Some(Vec::new(alloc)));
     }
     Ok(Some(cuts.finish(text)?))

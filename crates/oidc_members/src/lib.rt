@@ -2,8 +2,9 @@
 //!
 //! Claims, token answers and headers are JSON objects whose readers must see every member: a
 //! repeated name refuses a token, and of two faults the first in the text counts. A map would keep
-//! one member of each name, so `Members::split` cuts the text itself and lets `serde_json` read
-//! each name and each value.
+//! one member of each name, so `Members::split` cuts the text itself. Each name and each value is
+//! what `serde_json` reads. Strings without escapes, whole numbers without a sign, `true`, `false`
+//! and `null` are known at sight; all others it is asked for.
 //!
 //! - `Members` is the list, `Member` one name with its value and the bytes of the value.
 //! - `OutMember` and `write_object` go the other way: the compact text of a list of members.
@@ -28,8 +29,10 @@ mod field_name;
 mod float;
 mod member;
 mod objects;
+mod read;
 mod refusal;
 mod scan;
+mod sight;
 mod space;
 mod write;
 

@@ -1,10 +1,10 @@
 // One member of an object.
-ghost use Rattle.std.specs.Prelude.{◌≡◌, IfOk, option_and_then, option_map, string_bytes};
-ghost use Rattle.serde_json.specs.Find.{as_str};
+ghost use Rattle.std.specs.Prelude.{◌≡◌, IfOk};
 ghost use Rattle.serde_json.specs.View.{view};
-ghost use Rattle.oidc_members.specs.Objects.{read_bytes, member_of};
+ghost use Rattle.oidc_members.specs.Objects.{member_of};
 
 use crate::cut::Item;
+use crate::read::{name_of, value_of};
 use crate::space::trim;
 use serde_json::Value;
 use std::alloc::{AllocError, Global};
@@ -36,39 +36,20 @@ impl Model for Member {
     } };
 }
 
-fn value_of(alloc: Global, bytes: &[u8]) -> Result<Option<Value>, AllocError>
-    ensures { IfOk result (λ found. option_map view found ≡ read_bytes bytes.now) }
-{
-    match Value::from_slice(alloc, bytes) {
-        Ok(value) => Ok(Some(value)),
-        Err(error) if error.is_memory() => Err(AllocError),
-        Err(_) => Ok(None),
-    }
-}
-
-fn name_of(alloc: Global, bytes: &[u8]) -> Result<Option<String>, AllocError>
-    ensures { IfOk result (λ found. option_map string_bytes found
-        ≡ option_and_then as_str (read_bytes bytes.now)) }
-{
-    match value_of(alloc, bytes)? {
-        Some(Value::String(name)) => Ok(Some(name)),
-        _ => Ok(None),
-    }
-}
-
 impl Member {
     // The member that an item is, if its name reads as a text and its value reads.
     #[tactic(auto, unfolding(crate::specs::Objects::member_of))]
     pub(crate) fn of_item(alloc: Global, item: &Item<'_>) -> Result<Option<Member>, AllocError>
         ensures { IfOk result (λ found. found ≡ member_of (item.now.name.now, item.now.value.now)) }
     {
-        let Some(name) = name_of(alloc, item.name)? else {
+        let Some(name) = name_of(alloc, item.name, trim(item.name))? else {
             return Ok(None);
         };
-        let Some(value) = value_of(alloc, item.value)? else {
+        let text = trim(item.value);
+        let Some(value) = value_of(alloc, item.value, text)? else {
             return Ok(None);
         };
-        let text = Vec::from_slice(alloc, trim(item.value))?;
+        let text = Vec::from_slice(alloc, text)?;
         Ok(Some(Member { name, value, text }))
     }
 

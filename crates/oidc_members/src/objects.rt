@@ -39,7 +39,7 @@ fn members_in(alloc: Global, items: &[Option<Item<'_>>]) -> Result<Option<Vec<Me
     ensures { IfOk result (λ found. option_map (λ members. members.items) found
         ≡ all_some (option_and_then member_of) (items_seen items.now)) }
 {
-    let mut members = Vec::new(alloc);
+    let mut members = Vec::with_capacity(alloc, items.len())?;
     for item in items {
         let Some(item) = item else {
             return Ok(None);

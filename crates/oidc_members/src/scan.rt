@@ -1,7 +1,9 @@
 // Where a place of a text stands, as one pass over its bytes finds it.
 ghost use Rattle.std.specs.Prelude.{◌≡◌, ◌+◌, ◌<◌, ◌≤◌, length, not, slice_index};
 ghost use Rattle.oidc_members.specs.Places.{open_brace, is_outside, is_at_level_one, is_even, backslashes, opened, closed};
-ghost use Rattle.oidc_members.specs.Scan.{IsAt};
+ghost use Rattle.oidc_members.specs.Scan.{IsAt, IsPassed, ArePlain};
+
+use memchr::memchr2;
 
 // What stands before a place.
 #[derive(Clone, Copy, Debug, Drop)]
@@ -14,12 +16,26 @@ pub(crate) struct Scan {
     pub(crate) level: usize,
 }
 
+// The first quote or backslash from a place on, or the last place where none stands before it.
+fn plain_end(text: &[u8], from: usize, last: usize) -> usize
+    requires range { from ≤ last }
+    requires within { last ≤ length text.now }
+    ensures range { (from ≤ result) × (result ≤ last) }
+    ensures plain { ArePlain text.now from result }
+{
+    match memchr2(b'"', b'\\', &text[from..last]) {
+        Some(plain) => from + plain,
+        None => last,
+    }
+}
+
 impl Scan {
     // The state behind the brace that a text starts with.
     pub(crate) fn behind_brace(text: &[u8]) -> Scan
         requires some { 0 < length text.now }
         requires brace { slice_index text.now 0 ≡ open_brace }
-        ensures { IsAt text.now 1 result }
+        ensures at { IsAt text.now 1 result }
+        ensures inside { 0 < result.level }
     {
         Scan {
             in_string: false,
@@ -79,6 +95,21 @@ impl Scan {
             in_string: self.in_string_behind(text, i),
             escaped: self.escaped_behind(text, i),
             level: self.level_behind(text, i),
+        }
+    }
+
+    // The next place that may change the state: the plain bytes of a string are passed over.
+    pub(crate) fn skip(&self, text: &[u8], i: usize, last: usize) -> usize
+        requires at { IsAt text.now i self.now }
+        requires range { i ≤ last }
+        requires within { last ≤ length text.now }
+        ensures range { (i ≤ result) × (result ≤ last) }
+        ensures passed { IsPassed text.now i result self.now }
+    {
+        if self.in_string && !self.escaped {
+            plain_end(text, i, last)
+        } else {
+            i
         }
     }
 

@@ -3,9 +3,9 @@ use Rattle.oidc_members.specs.Places.{is_unescaped_quote}
 use Rattle.oidc_members.proofs.Steps.{nothing_before, outside_more, escapes_more, opened_more, closed_more}
 use Rattle.oidc_members.proofs.scan.Scan.behind_brace.Goals as goal
 
-pub returns : goal.returns
+pub returns-clause-at : goal.returns-clause-at
 unfolding is_unescaped_quote
-returns c =
+returns-clause-at c =
     let text = c.args.text.now in
     let at_start = nothing_before text in
     let quote_more = outside_more text 0 in

@@ -1,7 +1,7 @@
 use Rattle.std.proofs.Common.{sym}
 use Rattle.std.proofs.lemmas.Bool.{false≢true}
 use Rattle.oidc_members.proofs.Reading.{value_read, no_value_read}
-use Rattle.oidc_members.proofs.member.value_of.Goals as goal
+use Rattle.oidc_members.proofs.read.read_whole.Goals as goal
 
 pub returns-in-Ok : goal.returns-in-Ok
 returns-in-Ok c = sym (value_read c.args.bytes.now _ c.in-Ok.ensures.ok.0 c.in-Ok.ensures.ok.1)

@@ -1,0 +1,106 @@
+// Scalars that are known at sight: their bytes say what they are, and nothing need be unescaped.
+ghost use Rattle.std.specs.Prelude.{◌≡◌, ◌==◌, ◌&&◌, ◌<◌, IfSome, Some, false, length, nat_lt, slice_index};
+ghost use Rattle.std.specs.Char.{is_ascii_digit};
+ghost use Rattle.std.specs.List.{list_all};
+ghost use Rattle.serde_json.specs.Data.{number, string, unsigned};
+ghost use Rattle.serde_json.specs.Read.{number_from};
+ghost use Rattle.oidc_members.specs.Sight.{is_plain as is_plain_byte, data_of, ReadsAs};
+
+use fast_float::Numeral;
+
+// A string of plain bytes, a whole number without a sign, true, false or null.
+#[derive(Clone, Copy, Drop)]
+pub(crate) enum Scalar<'a> {
+    Text(&'a str),
+    Whole(u64),
+    Bool(bool),
+    Null,
+}
+
+fn is_plain(byte: u8) -> bool
+    ensures { result ≡ is_plain_byte byte }
+{
+    (byte >= 0x20) & (byte != b'"') & (byte != b'\\')
+}
+
+// Whether all bytes are plain. It goes on to the end, so that LLVM tests many at once.
+fn is_plain_text(bytes: &[u8]) -> bool
+    ensures { result ≡ list_all is_plain_byte bytes.now }
+{
+    let mut plain = true;
+    for byte in bytes {
+        plain = plain & is_plain(*byte);
+    }
+    plain
+}
+
+// The text of a string without escapes, where the bytes are one.
+pub(crate) fn plain_text(bytes: &[u8]) -> Option<&str>
+    ensures { IfSome result (λ text. ReadsAs bytes.now (string text.now)) }
+{
+    if bytes.len() < 2 || bytes[0] != b'"' || bytes[bytes.len() - 1] != b'"' {
+        return None;
+    }
+    let content = &bytes[1..bytes.len() - 1];
+    if !is_plain_text(content) {
+        return None;
+    }
+    let Ok(text) = str::from_utf8(content) else {
+        return None;
+    };
+    Some(text)
+}
+
+fn are_digits(bytes: &[u8]) -> bool
+    ensures { result ≡ list_all is_ascii_digit bytes.now }
+{
+    bytes.iter().all(|byte| byte.is_ascii_digit())
+}
+
+fn integer(numeral: &Numeral<'_>) -> Option<u64>
+    ensures { IfSome result (λ n. number_from false numeral.now ≡ Some (unsigned n)) }
+{
+    numeral.to_u64()
+}
+
+fn has_leading_zero(bytes: &[u8]) -> bool
+    requires { 0 < length bytes.now }
+    ensures { result ≡ (slice_index bytes.now 0 == 48 && nat_lt 1 (length bytes.now)) }
+{
+    bytes[0] == b'0' && bytes.len() > 1
+}
+
+// The number that decimal digits are, where no zero stands before another digit.
+fn whole_number(bytes: &[u8]) -> Option<u64>
+    ensures { IfSome result (λ n. ReadsAs bytes.now (number (unsigned n))) }
+{
+    if bytes.is_empty() || !are_digits(bytes) || has_leading_zero(bytes) {
+        return None;
+    }
+    let n = integer(&Numeral::scan(bytes))?;
+    Some(n)
+}
+
+fn word(bytes: &[u8]) -> Option<Scalar<'static>>
+    ensures { IfSome result (λ scalar. ReadsAs bytes.now (data_of scalar)) }
+{
+    match bytes {
+        b"true" => Some(Scalar::Bool(true)),
+        b"false" => Some(Scalar::Bool(false)),
+        b"null" => Some(Scalar::Null),
+        _ => None,
+    }
+}
+
+// The scalar that the bytes are, where it is known at sight.
+pub(crate) fn at_sight(bytes: &[u8]) -> Option<Scalar<'_>>
+    ensures { IfSome result (λ scalar. ReadsAs bytes.now (data_of scalar)) }
+{
+    if let Some(text) = plain_text(bytes) {
+        return Some(Scalar::Text(text));
+    }
+    if let Some(n) = whole_number(bytes) {
+        return Some(Scalar::Whole(n));
+    }
+    word(bytes)
+}
