@@ -208,6 +208,14 @@ impl<'a, TE, TR> CodeTokenRequest<'a, TE, TR> {
         self
     }
 
+    /// With no redirect, for an authorization request that named none (RFC 6749 section 4.1.3).
+    pub fn without_redirect_uri(mut self) -> Self
+        ensures set { result ≡ record self.entry { redirect_uri = None } }
+    {
+        self.redirect_uri = None;
+        self
+    }
+
     /// With one more pair behind all others. `AllocError` is want of memory, the one error.
     pub fn add_extra_param(mut self, name: String, value: String) -> Result<Self, AllocError>
         ensures added { IfOk result (λ request. request ≡ record self.entry {
