@@ -1,5 +1,5 @@
-//! Texts of hundreds of thousands of members, bytes that are no text, and members whose values are floats, which no
-//! text that is read has.
+//! Texts of hundreds of thousands of members, bytes that are no text, values beside what `serde_json` reads of the same
+//! text, and members whose values are floats, which no text that is read has.
 
 use oidc_members::{FieldName, Members, OutMember, ParseError, ParseKind, write_object};
 use serde_json::Value;
@@ -55,6 +55,68 @@ fn large_texts_take_linear_time(rt: HostRuntime) {
     for (parts, want) in &TEXTS {
         let text = text_of(&rt, rt.alloc(), parts);
         assert_eq!(rt; count_of(&rt, rt.alloc(), text.as_slice()), *want);
+    }
+}
+
+// Scalars that are known at sight, and values that look like them.
+static VALUES: [&str; 31] = [
+    "\"\"",
+    "\"a\"",
+    "\"\u{e9}\u{20ac}\u{1f600}\"",
+    "\"a/b c\u{7f}\"",
+    "\"\\\"\"",
+    "\"\\\\\"",
+    "\"\\/\"",
+    "\"\\u0041\\n\"",
+    "\"\\ud83d\\ude00\"",
+    "\"0123456789abcdef0123456789abcdef0123456789abcdef0123456789abcdef\"",
+    "0",
+    "1",
+    "9",
+    "10",
+    "1311281970",
+    "4294967296",
+    "9007199254740993",
+    "9223372036854775807",
+    "9223372036854775808",
+    "18446744073709551615",
+    "-1",
+    "-9223372036854775808",
+    "true",
+    "false",
+    "null",
+    "[]",
+    "{}",
+    "[\"a\",1,true,null]",
+    "[[\"true\"]]",
+    "{\"a\":\"null\",\"b\":0}",
+    "[ 1 , {} ]",
+];
+
+// The text of an object that has this value, with white space around it.
+fn object_text(rt: &impl Abort, alloc: Global, value: &str) -> Vec<u8> {
+    let mut text = b"{ \"a\" : ".to_vec(alloc).expect(rt, "memory");
+    text.extend_from_slice(value.as_bytes())
+        .expect(rt, "memory");
+    text.extend_from_slice(b"\n}").expect(rt, "memory");
+    text
+}
+
+// Whether the member's value is the one that `serde_json` reads of the text alone.
+fn reads_alike(rt: &impl Abort, alloc: Global, value: &str) -> bool {
+    let whole = Value::from_slice(alloc, value.as_bytes()).expect(rt, "a value");
+    let text = object_text(rt, alloc, value);
+    let members = Members::split(alloc, text.as_slice()).expect(rt, "members");
+    match members.as_slice() {
+        [member] => *member.value() == whole,
+        _ => false,
+    }
+}
+
+#[test]
+fn values_are_what_serde_json_reads(rt: HostRuntime) {
+    for value in &VALUES {
+        assert!(rt; reads_alike(&rt, rt.alloc(), value));
     }
 }
 
