@@ -1,5 +1,5 @@
 -- Where all additional claims are kept, those of the ID token of a user who is signed in hold no float.
-use Rattle.std.proofs.Common.{◌≡◌, ℕ, List, false, Result, Ok, Err, refl, ap, ◌∙◌}
+use Rattle.std.proofs.Common.{◌≡◌, ℕ, List, false, Result, Ok, ap, ◌∙◌}
 use Rattle.oidc_members.specs.Seen.{SeenMember}
 use Rattle.oidc_members.specs.Objects.{split_of}
 use Rattle.oidc_members.specs.Write.{any_float}
@@ -15,10 +15,10 @@ use Rattle.oidc_oauth2.specs.TokenAnswers.{record_in}
 use Rattle.oidc_oauth2.specs.TokenResponse.{token_rule, access_token, token_type, tokens_of}
 use Rattle.oidc_jwt.proofs.Theorems.{after, same_ok}
 use Rattle.oidc_tokens.proofs.Theorems.{response_free}
-use Rattle.oidc_login.specs.SiteTypes.{SiteTypes, site_types}
-use Rattle.oidc_login.specs.TokenResponse.{Tokens, no_others, fields_of, tokens_read}
+use Rattle.oidc_login.specs.Types.{SiteTypes, site_types}
+use Rattle.oidc_login.specs.Token.{Tokens, no_others, fields_of, tokens_read}
 use Rattle.oidc_login.specs.SignedIn.{SeenSignedIn}
-use Rattle.oidc_login.specs.Rows.{Attempt}
+use Rattle.oidc_login.specs.Callback.{Attempt}
 use Rattle.oidc_login.specs.Causes.{IsSignedIn}
 
 module _ {GC Key Use : Type 0} (gender : SeenMember → Result GC Refusal) (keys : Keys Key Use CoreJwsSigningAlgorithm CoreJsonWebKeyType) (uses : Uses Use) where
