@@ -68,7 +68,6 @@ ASIDE = {
         '"iss":"https://a:65536/",',
         "&issuer=https://&",
         "op=authorize&endpoint=https://example&",
-        "op=logout&endpoint=HTTPS://EXAMPLE:443/end&",
     ],
     "vectors_logins": [],
 }

@@ -5,9 +5,7 @@ ghost use Rattle.std.specs.Option.{option_copied};
 
 use oidc_keys::{CoreJsonWebKey, JsonWebKey, JsonWebKeySet};
 use oidc_types::{AuthUrl, IssuerUrl, JsonWebKeySetUrl, TokenUrl, UserInfoUrl};
-use oidc_user_info::{
-    AdditionalProviderMetadata, EmptyAdditionalProviderMetadata, LogoutProviderMetadata,
-};
+use oidc_user_info::{AdditionalProviderMetadata, EmptyAdditionalProviderMetadata};
 use std::alloc::Global;
 use std::marker::Model;
 
@@ -29,12 +27,6 @@ pub struct ProviderMetadata<A: AdditionalProviderMetadata, K: JsonWebKey> {
 
 /// What a provider says of itself over the program's own keys, without further metadata.
 pub type CoreProviderMetadata = ProviderMetadata<EmptyAdditionalProviderMetadata, CoreJsonWebKey>;
-
-/// The same, with the endpoint where its users sign out.
-pub type ProviderMetadataWithLogout = ProviderMetadata<
-    LogoutProviderMetadata<EmptyAdditionalProviderMetadata>,
-    CoreJsonWebKey,
->;
 
 impl<A: AdditionalProviderMetadata, K: JsonWebKey> Model for ProviderMetadata<A, K> {
     ghost use Rattle.oidc_client.specs.ProviderMetadata.{SeenProviderMetadata};

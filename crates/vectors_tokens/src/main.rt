@@ -5,7 +5,6 @@
 
 mod authorization;
 mod displays;
-mod logout;
 mod operations;
 mod responses;
 mod tokens;
