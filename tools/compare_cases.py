@@ -1,7 +1,7 @@
 #!/usr/bin/env python3
 """Has the second readers answer the cases of the programs of cases, and compares their answers with the expected lines.
 
-    tools/compare_cases.py           the tables of all three: `stdin` and `stdout` of crates/vectors,
+    tools/compare_cases.py           the tables of all four: `stdin` and `stdout` of crates/vectors, crates/vectors_requests,
                                      crates/vectors_tokens and crates/vectors_logins
     tools/compare_cases.py NAME ..   the tables of these crates
 
@@ -23,6 +23,7 @@ import plain_callback
 import plain_claims
 import plain_info
 import plain_keys
+import plain_requests
 import plain_tokens
 import plain_urls
 from plain_records import answer_by, pairs, read_case
@@ -37,6 +38,7 @@ def standard(line):
 # The operations that have a reader, by the crate that has their cases.
 READERS = {
     "vectors": {"standard": standard, **plain_answers.OPERATIONS, **plain_keys.OPERATIONS},
+    "vectors_requests": plain_requests.OPERATIONS,
     "vectors_tokens": {**plain_tokens.OPERATIONS, **plain_info.OPERATIONS, **plain_urls.OPERATIONS},
     "vectors_logins": plain_callback.OPERATIONS,
 }
@@ -55,12 +57,18 @@ ASIDE = {
         "op=code_request&endpoint=urn:ü%01b%01&",
         "op=code_request&endpoint=https://example/+++",
     ],
+    "vectors_requests": [
+        "endpoint=HTTPS://EXAMPLE:443/token&",
+        "endpoint=HTTPS://EXAMPLE/revoke&",
+        "endpoint=https://example/é&",
+    ],
     "vectors_tokens": [
         '"iss":"https://",',
         '"iss":"https://a+b/",',
         '"iss":"https://a:65536/",',
         "&issuer=https://&",
         "op=authorize&endpoint=https://example&",
+        "op=logout&endpoint=HTTPS://EXAMPLE:443/end&",
     ],
     "vectors_logins": [],
 }
@@ -69,6 +77,7 @@ ASIDE = {
 # The generated cases, by the crate in whose table they stand.
 GENERATED = {
     "vectors": [lambda: ["op=standard&text=" + text for text in plain_claims.texts()]],
+    "vectors_requests": [],
     "vectors_tokens": [plain_tokens.cases, plain_info.cases, plain_urls.cases],
     "vectors_logins": [plain_callback.short_cases, plain_callback.long_cases],
 }

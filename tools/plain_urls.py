@@ -1,13 +1,14 @@
 #!/usr/bin/env python3
-"""Writes authorization URLs, and answers the cases of crates/vectors_tokens of that, `authorize`.
+"""Writes the URLs to which a user is sent to sign in and to sign out, and answers the cases of crates/vectors_tokens of
+these, `authorize` and `logout`.
 
     tools/plain_urls.py answers   reads cases from standard input, and answers each: a line each
     tools/plain_urls.py cases     generated cases, a line each
 
 It is a second writer beside oidc_client, over Python's urllib.parse, hashlib and base64: RFC 6749 sections 3.1 and
-4.1.1, RFC 7636 section 4.3, OpenID Connect Core 1.0 sections 3.1.2.1, 3.2.2.1 and 3.3.2.1. ID tokens are read by
-plain_tokens.py. It takes the URLs of `authorize` as they are written, so it is right where these are written as the
-URL Standard writes them. plain_callback.py has the URLs of its scripts read by `parsed`.
+4.1.1, RFC 7636 section 4.3, OpenID Connect Core 1.0 sections 3.1.2.1, 3.2.2.1 and 3.3.2.1, OpenID Connect RP-Initiated
+Logout 1.0 section 2. ID tokens are read by plain_tokens.py. It takes the URLs of a case as they are written, so it is
+right where these are written as the URL Standard writes them. plain_callback.py has the URLs of its scripts read by `parsed`.
 """
 import base64
 import hashlib
@@ -130,7 +131,29 @@ def authorize(line):
     return "refused too_long" if len(url.encode()) > LONGEST else ok([("url", url)])
 
 
-OPERATIONS = {"authorize": authorize}
+LOGOUT_NAMES = {"id_token_hint": "id_token_hint", "logout_hint": "logout_hint", "client_id": "client_id",
+                "redirect": "post_logout_redirect_uri", "state": "state"}
+
+
+def logout(line):
+    of = pairs(line)[1:]
+    once = [name for name, _ in of if name != "ui_locale"]
+    found = dict(of)
+    if len(set(once)) != len(once) or not {"endpoint"} <= set(once) <= {"endpoint", *LOGOUT_NAMES}:
+        raise NoCase
+    check_urls(found)
+    if "id_token_hint" in found:
+        check_token(found["id_token_hint"])
+    out = [(written, found[name]) for name, written in LOGOUT_NAMES.items() if name in found]
+    locales = values(of, "ui_locale")
+    out += [("ui_locales", " ".join(locales))] if locales else []
+    url = extended(found["endpoint"], out) if out else found["endpoint"]
+    if re.fullmatch(r"[^?#]*\?(#.*)?", url):
+        url = url.replace("?", "", 1)
+    return "refused too_long" if len(url.encode()) > LONGEST else ok([("url", url)])
+
+
+OPERATIONS = {"authorize": authorize, "logout": logout}
 
 # ---- URLs
 

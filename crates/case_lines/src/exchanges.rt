@@ -9,11 +9,11 @@ use http::{Response, StatusCode};
 use http_header::{CONTENT_TYPE, HeaderMap};
 use oidc_members::Refusal;
 use oidc_oauth2::{
-    Body, CoreErrorResponseType, CoreRequestTokenError, ExtraTokenFields, Fault, HttpRequest,
-    HttpResponse, OtherCause, RequestTokenError, StandardErrorResponse,
+    Body, CoreErrorResponseType, ExtraTokenFields, Fault, HttpRequest, HttpResponse, OtherCause,
+    RequestTokenError, StandardErrorResponse,
 };
 use oidc_pairs::{FormText, escaped_text};
-use oidc_types::Vocabulary;
+use oidc_types::ErrorResponseType;
 use std::alloc::Global;
 
 /// An error response of a token endpoint.
@@ -77,10 +77,10 @@ fn status(text: &str) -> Result<StatusCode, CaseError> {
     StatusCode::from_bytes(text.as_bytes()).map_err(|_| CaseError::NoCase)
 }
 
-// The words that a report has of a refusal.
-fn refused_line(
+/// The words that a report has of a refusal.
+pub fn refused_line<T: ErrorResponseType>(
     alloc: Global,
-    refusal: &CoreRequestTokenError<Fault>,
+    refusal: &RequestTokenError<Fault, StandardErrorResponse<T>>,
 ) -> Result<String, CaseError> {
     match refusal {
         RequestTokenError::ServerResponse(error) => server_line(alloc, error),
@@ -94,7 +94,10 @@ fn refused_line(
     }
 }
 
-fn server_line(alloc: Global, error: &Refused) -> Result<String, CaseError> {
+fn server_line<T: ErrorResponseType>(
+    alloc: Global,
+    error: &StandardErrorResponse<T>,
+) -> Result<String, CaseError> {
     let error = escaped_text(alloc, error.error().as_ref())?;
     let words = format!(in alloc; "server {}", error.as_str())?;
     refused_word(alloc, words.as_str())

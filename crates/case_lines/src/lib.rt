@@ -1,4 +1,4 @@
-//! What the programs of cases share: `vectors`, `vectors_tokens` and `vectors_logins`.
+//! What the programs of cases share: `vectors`, `vectors_requests`, `vectors_tokens` and `vectors_logins`.
 //!
 //! Each reads standard input to its end and writes one line for each line: an empty line and a line that
 //! begins with `#` as they came, and for each other line, which is form pairs with `op` first, the
@@ -8,6 +8,7 @@
 
 mod answers;
 mod case;
+mod devices;
 mod exchanges;
 mod headers;
 mod lines;
@@ -21,10 +22,13 @@ pub use crate::answers::{
     text_of,
 };
 pub use crate::case::{Case, CaseError, bytes_of};
-pub use crate::exchanges::{Refused, parse_line, request_line, response_in, token_answer_line};
+pub use crate::devices::{device_line, introspection_line};
+pub use crate::exchanges::{
+    Refused, parse_line, refused_line, request_line, response_in, token_answer_line,
+};
 pub use crate::headers::{content_type, header_of, header_text};
 pub use crate::lines::{CaseOperation, answer_lines, exit_code};
 pub use crate::prints::{one_of, variant_name};
 pub use crate::readers::{algorithm, extra_in, number, url_of};
-pub use crate::records::{Tokens, push_scopes, push_seconds, token_response_line};
+pub use crate::records::{Tokens, push_scopes, push_seconds, token_response_line, written};
 pub use crate::words::{kind_word, signature_word};

@@ -28,7 +28,7 @@ fn tokens_in<EF: ExtraTokenFields>(alloc: Global, text: &str) -> Result<Tokens<E
 }
 
 /// The text that a token response is written as.
-pub(crate) fn written<EF: ExtraTokenFields>(
+pub fn written<EF: ExtraTokenFields>(
     alloc: Global,
     tokens: &Tokens<EF>,
 ) -> Result<String, CaseError> {

@@ -1,5 +1,5 @@
 -- The lines of callbacks, and what their refusals leave.
-use Rattle.std.proofs.Common.{◌≡◌, ℕ, suc, take, Option, None, Some, subst, ◌+◌, ◌<◌, List, [], ◌++◌, drop, length, get_or, Result, Ok, Err, IfOk, OnOk, IfErr, Bool, true, false, refl, sym, ap, ◌∙◌, add-one, drop-cons}
+use Rattle.std.proofs.Common.{◌≡◌, ℕ, suc, take, None, Some, subst, ◌+◌, ◌<◌, List, [], ◌++◌, drop, length, get_or, Result, Ok, Err, IfOk, OnOk, IfErr, Bool, true, false, refl, sym, ap, ◌∙◌, add-one, drop-cons}
 use Rattle.std.proofs.Math.Seq.{take-length}
 use Rattle.oidc_oauth2.specs.Messages.{SeenRequest, SeenAnswer}
 use Rattle.oidc_oauth2.specs.Transport.{Log, log_after, Plays}
@@ -7,13 +7,13 @@ use Rattle.oidc_keys.specs.CoreJwk.{SymmetricKey}
 use Rattle.oidc_oauth2.specs.Replies.{Unless, OrMemory}
 use Rattle.oidc_login.specs.Errors.{Error, login_errors, seen_reply, wants_memory}
 use Rattle.oidc_oauth2.specs.Exchanges.{Known, Run}
-use Rattle.oidc_login.specs.Rows.{Attempt, outcome}
+use Rattle.oidc_login.specs.Callback.{Attempt, outcome}
 use Rattle.oidc_login.specs.Runs.{Ran, handed_over}
 use Rattle.oidc_login.proofs.Theorems.{outcome-of_script}
 use Rattle.oidc_login.specs.declared.errors.LoginError.{LoginError}
 use Rattle.oidc_login.specs.declared.errors.LoginError.TheVariants as login
 use Rattle.oidc_cli.specs.Types.{types, SeenSignedIn}
-use Rattle.oidc_cli.specs.ReportLines.{request_line, request_lines}
+use Rattle.oidc_cli.specs.Report.{request_line, request_lines}
 
 pub lines_at : (requests : List SeenRequest) (i : ℕ) (request : SeenRequest) → i < length requests → request ≡ get_or requests i request
     → request_lines (drop i requests) ≡ request_line request ++ request_lines (drop (i + 1) requests)

@@ -1,23 +1,20 @@
 -- The turns of a drill: how their counts add up, and what the replies to them count as.
-use Rattle.std.proofs.Common.{subst, ◌≡◌, ℕ, zero, suc, ◌+◌, ◌-◌, ◌*◌, ◌<◌, ◌≤◌, List, [], ◌∷◌, ◌++◌, length, map, Option, None, Some, Result, Ok, Err, Bool, true, false, refl, sym, ap, ◌∙◌, arith}
+use Rattle.std.proofs.Common.{subst, ◌≡◌, ℕ, suc, ◌+◌, ◌-◌, ◌*◌, ◌<◌, ◌≤◌, List, [], ◌∷◌, ◌++◌, Result, Ok, Err, Bool, true, false, refl, sym, ap, ◌∙◌, arith}
 use Rattle.std.specs.Prelude.{is_ok}
 use Rattle.std.specs.FinMap as finite
-use Rattle.oidc_oauth2.specs.Messages.{SeenRequest, SeenAnswer}
-use Rattle.oidc_keys.specs.CoreJwk.{SymmetricKey}
-use Rattle.oidc_login.specs.Logins.{Pending, SeenLogin}
-use Rattle.oidc_login.specs.Rows.{Attempt, LoginRun, Meant, SeenOpened, SeenAsked, asked_run, info_run, token_run, opened_run, outcome, opening, after_token, asking, rest_of}
-use Rattle.oidc_oauth2.specs.Transport.{first_answer}
-use Rattle.oidc_login.specs.Errors.{Error, seen_reply}
+use Rattle.oidc_login.specs.Logins.{Pending}
+use Rattle.oidc_login.specs.Errors.{seen_reply}
 use Rattle.oidc_login.specs.Events as runs
-use Rattle.oidc_login.specs.declared.demand.UserInfoDemand.{UserInfoDemand}
 use Rattle.oidc_login.specs.declared.errors.LoginError.{LoginError}
 use Rattle.oidc_login.specs.declared.errors.LoginError.TheVariants as login
+use Rattle.oidc_login.proofs.Theorems.{few_sent}
 use Rattle.oidc_cli.specs.Types.{types, SeenScriptClient, SeenSignedIn}
-use Rattle.oidc_cli.specs.Report.{call_of_line}
-use Rattle.oidc_cli.specs.Drill.{Step, plus, no_counts, tally_of, added_by, event_of_turn, steps_of_turns, store_after_turns, numbers, begin_turns, callback_turns, drill_client, drill_tally, drill_store, one_if, is_begun, is_signed_in, is_refused_as_state, is_state, IsWithin, callback_line, answer}
-use Rattle.oidc_cli.specs.declared.drill.Turn.{Turn}
-use Rattle.oidc_cli.specs.declared.drill.Turn.TheVariants.{Begin, First, Again}
-use Rattle.oidc_cli.specs.declared.drill.Tally.{Tally}
+use Rattle.oidc_cli.specs.Logins.{call_of_line}
+use Rattle.oidc_cli.specs.Drill.{Step, plus, no_counts, tally_of, added_by, event_of_turn, numbers, begin_turns, callback_turns, drill_client, drill_tally, drill_store, one_if, is_begun, is_signed_in, is_refused_as_state, callback_line, answer}
+use Rattle.oidc_cli.specs.Steps.{steps_of_turns, store_after_turns, is_state, IsWithin}
+use Rattle.oidc_cli.specs.declared.drill.turns.Turn.{Turn}
+use Rattle.oidc_cli.specs.declared.drill.turns.Turn.TheVariants.{Begin, First, Again}
+use Rattle.oidc_cli.specs.declared.drill.turns.Tally.{Tally}
 
 -- ---- counts
 
@@ -101,33 +98,6 @@ repeated_as (Err (login.Memory spent)) = refl
 
 -- ---- how much a turn adds
 
-abbrev asked_few : LoginRun SeenSignedIn → ℕ → Type 0
-asked_few run most = length run.sent ≤ most
-
-few_asked : (user : SeenSignedIn) (answers : List SeenAnswer) (asked : Meant (SeenAsked SymmetricKey)) → asked_few (asked_run types user answers asked) 1
-few_asked user answers (Err e) = omega arith
-few_asked user answers (Ok asked) = omega arith
-
-few_info : (client : SeenScriptClient) (demand : Option UserInfoDemand) (user : SeenSignedIn) (answers : List SeenAnswer) → asked_few (info_run types client demand user answers) 1
-few_info client None user answers = omega arith
-few_info client (Some demand) user answers = few_asked user answers (asking client demand user)
-
-few_behind : (client : SeenScriptClient) (l : SeenLogin) (answers : List SeenAnswer) (reply : Meant SeenSignedIn) → asked_few (token_run types client l answers reply) 1
-few_behind client l answers (Err e) = omega arith
-few_behind client l answers (Ok user) = few_info client l.user_info user answers
-
-one_more : (n : ℕ) → n ≤ 1 → suc n ≤ 2
-one_more n few = omega arith
-
-few_opened : (a : Attempt SymmetricKey) (answers : List SeenAnswer) (opened : Meant SeenOpened) → asked_few (opened_run types a.client a.now answers opened) 2
-few_opened a answers (Err e) = omega arith
-few_opened a answers (Ok opened) =
-    one_more _ (few_behind a.client opened.login (rest_of answers) (after_token types a.client a.now opened.login (first_answer answers)))
-
--- a callback sends at most two requests
-pub few_sent : (a : Attempt SymmetricKey) (answers : List SeenAnswer) → length (outcome types a answers).sent ≤ 2
-few_sent a answers = few_opened a answers (opening a.client a.pending a.query)
-
 at_most_one : (holds : Bool) → one_if holds ≤ 2
 at_most_one true = omega arith
 at_most_one false = omega arith
@@ -142,13 +112,13 @@ few_added client pending (First i) = (
   none_at_most,
   at_most_one (is_signed_in (runs.step types client pending (event_of_turn (First i))).reply),
   none_at_most,
-  few_sent (runs.called_with client pending (call_of_line (callback_line i (answer i ∷ [])))) (answer i ∷ []),
+  few_sent types (runs.called_with client pending (call_of_line (callback_line i (answer i ∷ [])))) (answer i ∷ []),
 )
 few_added client pending (Again i) = (
   none_at_most,
   none_at_most,
   at_most_one (is_refused_as_state (runs.step types client pending (event_of_turn (Again i))).reply),
-  few_sent (runs.called_with client pending (call_of_line (callback_line i []))) [],
+  few_sent types (runs.called_with client pending (call_of_line (callback_line i []))) [],
 )
 
 -- ---- one more turn

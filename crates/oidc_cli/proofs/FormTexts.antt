@@ -6,7 +6,8 @@ use Rattle.oidc_pairs.specs.Form.{form}
 use Rattle.oidc_oauth2.specs.Messages.{SeenRequest}
 use Rattle.oidc_members.specs.declared.refusal.Refusal.{Refusal}
 use Rattle.oidc_cli.specs.Types.{SeenSignedIn, claims_text}
-use Rattle.oidc_cli.specs.ReportLines.{behind, header_pair, body_pair, request_line, refresh_pair, user_info_pair, kind_word, parse_words, verdict_line}
+use Rattle.oidc_cli.specs.Report.{header_pair, body_pair, request_line, refresh_pair, user_info_pair, kind_word, parse_words, verdict_line}
+use Rattle.oidc_cli.specs.Steps.{behind}
 
 form_first : (pair : List ℕ × List ℕ) (list : List (List ℕ × List ℕ)) → form (pair ∷ list) ≡ serialize_pair pair ++ behind list
 unfolding form

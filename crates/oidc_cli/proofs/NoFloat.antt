@@ -31,13 +31,13 @@ use Rattle.oidc_id_token_claims.specs.IdTokenClaims.{additional_among}
 use Rattle.oidc_user_info.specs.UserInfoClaims.{user_info_rule, user_info_claims_of, parts_in}
 use Rattle.oidc_user_info.specs.InfoAnswers.{Demand, claims_in, from_json, of_object, token_in, of_token, by_media_type, info_answer}
 use Rattle.oidc_user_info.specs.InfoErrors.{InfoRefusal}
-use Rattle.oidc_login.specs.Rows.{Attempt}
+use Rattle.oidc_login.specs.Callback.{Attempt}
 use Rattle.oidc_login.specs.Causes.{IsSignedIn, HasInfo}
 use Rattle.oidc_login.specs.Errors.{seen_reply}
 use Rattle.oidc_login.specs.declared.errors.LoginError.{LoginError}
 use Rattle.oidc_login.proofs.Theorems.{signed_free, info_answered}
 use Rattle.oidc_cli.specs.Types.{types, SeenSignedIn, SeenUserInfo}
-use Rattle.oidc_cli.specs.ReportLines.{HasNoFloats}
+use Rattle.oidc_cli.specs.Report.{HasNoFloats}
 
 -- ---- a step that gave a value stands on one
 

@@ -4,13 +4,13 @@ use Rattle.std.specs.Io.KnownBytes.{IsAtEnd}
 use Rattle.std.proofs.lemmas.Bool.Decides.{nat_tests}
 use Rattle.oidc_cli.specs.Sources.{Takes}
 use Rattle.oidc_cli.specs.Script.{limit, fault_of}
-use Rattle.oidc_cli.specs.ReportLines.{fault_line}
-use Rattle.oidc_cli.specs.Report.{events_lines, events_before_fault, last_line, store_after_events, report, ending_of}
-use Rattle.oidc_cli.specs.Program.{EndsInFault, status_after}
-use Rattle.oidc_cli.specs.declared.report.Ending.{Ending}
-use Rattle.oidc_cli.specs.declared.report.Ending.TheVariants.{Pending, Fault}
-use Rattle.oidc_cli.specs.declared.report.Halt.{Halt}
-use Rattle.oidc_cli.specs.declared.report.Halt.TheVariants.{Sink, Memory}
+use Rattle.oidc_cli.specs.Report.{fault_line, events_lines, events_before_fault, last_line, store_after_events, report}
+use Rattle.oidc_cli.specs.Steps.{ending_of, status_after}
+use Rattle.oidc_cli.specs.Program.{EndsInFault}
+use Rattle.oidc_cli.specs.declared.replay.Ending.{Ending}
+use Rattle.oidc_cli.specs.declared.replay.Ending.TheVariants.{Pending, Fault}
+use Rattle.oidc_cli.specs.declared.replay.Halt.{Halt}
+use Rattle.oidc_cli.specs.declared.replay.Halt.TheVariants.{Sink, Memory}
 use Rattle.oidc_cli.proofs.Steps.{too_long_report, too_long_fault, fault_alone}
 
 -- what was read has the fault and the report of the whole script

@@ -10,8 +10,9 @@ use Rattle.oidc_login.specs.Events as runs
 use Rattle.oidc_cli.specs.Types.{types, SeenScriptClient}
 use Rattle.oidc_cli.specs.Events.{SeenClientLine}
 use Rattle.oidc_cli.specs.Script.{limit, lines, event_of, is_client, is_step, fault_from, fault_in, fault_of}
-use Rattle.oidc_cli.specs.ReportLines.{step_lines, pending_line, fault_line}
-use Rattle.oidc_cli.specs.Report.{client_of, login_event, before, login_events, lines_of_event, store_after_event, event_lines, store_after, steps_lines, events_lines, store_after_events, lines_before, last_line, rest_of_report, report}
+use Rattle.oidc_cli.specs.Report.{step_lines, pending_line, fault_line, steps_lines, events_lines, store_after_events, lines_before, last_line, report}
+use Rattle.oidc_cli.specs.Logins.{client_of, login_event, before, login_events}
+use Rattle.oidc_cli.specs.Steps.{lines_of_event, store_after_event, event_lines, store_after, rest_of_report}
 use Rattle.oidc_cli.proofs.Cuts.{lines_nil}
 use Rattle.oidc_cli.specs.declared.events.Event.{Event}
 use Rattle.oidc_cli.specs.declared.events.Event.TheVariants.{Client, Begin, Callback}

@@ -1,6 +1,6 @@
 -- The drill: a given number of logins of one client, from end to end, over a provider that issues a token for each.
 -- All are begun, in order; then each is called back, and called back once more.
-use Rattle.std.specs.Prelude.{ℕ, ℤ, pos, ◌+◌, ◌-◌, ◌*◌, ◌≤◌, zero, suc, List, [], ◌∷◌, ◌++◌, map, length, replicate, Option, None, Some, Result, Ok, Err, Bool, true, false, if◌then◌else◌, codes, decimal}
+use Rattle.std.specs.Prelude.{ℕ, ℤ, pos, ◌+◌, ◌-◌, ◌*◌, zero, suc, List, [], ◌∷◌, ◌++◌, map, length, replicate, None, Some, Result, Ok, Err, Bool, true, false, if◌then◌else◌, codes, decimal}
 use Rattle.std.specs.List.{zip}
 use Rattle.std.specs.FinMap as finite
 use Rattle.serde_json.specs.Data.{string}
@@ -24,18 +24,17 @@ use Rattle.oidc_id_token_claims.specs.IdTokenClaims.{SeenIdTokenClaims, id_token
 use Rattle.oidc_tokens.specs.Hashes.{hashing, with_hashes}
 use Rattle.oidc_tokens.specs.IdTokenFields.{SeenIdTokenFields, response_fields_out}
 use Rattle.oidc_oauth2.specs.Replies.{◌>>=◌}
-use Rattle.oidc_login.specs.IdTokens.{SeenIdToken}
+use Rattle.oidc_login.specs.Token.{SeenIdToken}
 use Rattle.oidc_login.specs.Logins.{Pending}
 use Rattle.oidc_login.specs.Events as runs
-use Rattle.oidc_login.specs.declared.errors.LoginError.{LoginError}
 use Rattle.oidc_login.specs.declared.errors.LoginError.TheVariants.{State}
 use Rattle.oidc_cli.specs.Types.{types, SeenScriptClient}
 use Rattle.oidc_cli.specs.Events.{SeenClientLine, SeenCallbackLine}
-use Rattle.oidc_cli.specs.Report.{client_of, begin_of_line, call_of_line}
+use Rattle.oidc_cli.specs.Logins.{client_of, begin_of_line, call_of_line}
 use Rattle.oidc_cli.specs.declared.events.BeginLine.{BeginLine}
-use Rattle.oidc_cli.specs.declared.drill.Turn.{Turn}
-use Rattle.oidc_cli.specs.declared.drill.Turn.TheVariants.{Begin, First, Again}
-use Rattle.oidc_cli.specs.declared.drill.Tally.{Tally}
+use Rattle.oidc_cli.specs.declared.drill.turns.Turn.{Turn}
+use Rattle.oidc_cli.specs.declared.drill.turns.Turn.TheVariants.{Begin, First, Again}
+use Rattle.oidc_cli.specs.declared.drill.turns.Tally.{Tally}
 
 -- ---- the client
 
@@ -195,13 +194,6 @@ turns count = begin_turns (numbers 1 count) ++ callback_turns (numbers 1 count)
 abbrev pub Step : Type 0
 Step = runs.Step Others (List ℕ)
 
--- the steps of turns over a store, each beside its turn, and the store behind them
-abbrev pub steps_of_turns : SeenScriptClient → Pending → List Turn → List (Turn × Step)
-steps_of_turns client pending turns = zip turns (runs.steps_from types client pending (map event_of_turn turns))
-
-abbrev pub store_after_turns : SeenScriptClient → Pending → List Turn → Pending
-store_after_turns client pending turns = runs.store_from types client pending (map event_of_turn turns)
-
 abbrev pub one_if : Bool → ℕ
 one_if holds = if holds then 1 else 0
 
@@ -240,16 +232,6 @@ plus a b = record {
 abbrev pub tally_of : List (Turn × Step) → Tally
 tally_of [] = no_counts
 tally_of (taken ∷ later) = plus (added_by taken.0 taken.1) (tally_of later)
-
--- each count is at most this
-abbrev pub IsWithin : ℕ → Tally → Type 0
-IsWithin most tally =
-    (tally.begun ≤ most) × (tally.signed ≤ most) × (tally.repeated ≤ most) × (tally.sent ≤ most)
-
--- a callback was refused as `State`
-abbrev pub is_state : {A E : Type 0} → Result A (LoginError E) → Bool
-is_state (Err State) = true
-is_state reply = false
 
 -- ---- the line
 

@@ -1,5 +1,5 @@
 -- A script: its lines, what they say, and the first that says nothing in its place.
-use Rattle.std.specs.Prelude.{ℕ, ◌==◌, ◌+◌, nat_lt, Bool, true, false, List, [], ◌∷◌, length, Option, None, Some, option_map, unwrap_or, not, if◌then◌else◌, codes}
+use Rattle.std.specs.Prelude.{ℕ, ◌==◌, ◌+◌, ◌&&◌, nat_lt, Bool, true, false, is_some, List, [], ◌∷◌, length, Option, None, Some, option_map, unwrap_or, not, if◌then◌else◌, codes}
 use Rattle.std.specs.Str.{bytes_eq}
 use Rattle.std.specs.List.{slice_split, list_all, list_any}
 use Rattle.oidc_pairs.specs.Pairs.{pairs}
@@ -7,6 +7,8 @@ use Rattle.oidc_oauth2.specs.Messages.{SeenResponse, SeenAnswer}
 use Rattle.oidc_cli.specs.Values.{◌>>=◌, url_of_text, pair_text, pair_value, lacks, optional_value, algorithms_of, demand_of, moment_of_text, status_code_of, content_type_of}
 use Rattle.oidc_cli.specs.Events.{SeenProviderUrls, SeenClientLine, SeenCallbackLine}
 use Rattle.oidc_cli.specs.declared.events.BeginLine.{BeginLine}
+use Rattle.oidc_cli.specs.declared.events.LineKind.{LineKind}
+use Rattle.oidc_cli.specs.declared.events.LineKind.TheVariants as line_kind
 use Rattle.oidc_cli.specs.declared.events.AnswerTo.{AnswerTo}
 use Rattle.oidc_cli.specs.declared.events.AnswerTo.TheVariants as answer_to
 use Rattle.oidc_cli.specs.declared.events.Event.{Event}
@@ -29,11 +31,55 @@ lines_of_parts (part ∷ next ∷ rest) = part ∷ lines_of_parts (next ∷ rest
 unfoldable pub lines : List ℕ → List (List ℕ)
 lines script = lines_of_parts (slice_split (λ b. b == 10) script)
 
+-- ---- the names on a line
+
+-- the names that a line of this kind may have
+abbrev pub names_of : LineKind → List (List ℕ)
+names_of line_kind.Client =
+    codes "op"
+    ∷ codes "id"
+    ∷ codes "secret"
+    ∷ codes "issuer"
+    ∷ codes "auth"
+    ∷ codes "token"
+    ∷ codes "userinfo"
+    ∷ codes "algs"
+    ∷ codes "redirect"
+    ∷ []
+names_of line_kind.Begin =
+    codes "op"
+    ∷ codes "state"
+    ∷ codes "nonce"
+    ∷ codes "verifier"
+    ∷ codes "redirect"
+    ∷ codes "userinfo"
+    ∷ []
+names_of line_kind.Callback =
+    codes "op"
+    ∷ codes "now"
+    ∷ codes "query"
+    ∷ codes "token_status"
+    ∷ codes "token_type"
+    ∷ codes "token_body"
+    ∷ codes "token_fault"
+    ∷ codes "info_status"
+    ∷ codes "info_type"
+    ∷ codes "info_body"
+    ∷ codes "info_fault"
+    ∷ []
+
+abbrev pub is_name_of : LineKind → List ℕ → Bool
+is_name_of kind name = list_any (λ known. bytes_eq name known) (names_of kind)
+
+-- each name is one of these, and none stands twice
+abbrev pub has_each_name_once : LineKind → List (List ℕ × List ℕ) → Bool
+has_each_name_once kind line =
+    list_all (λ pair. is_name_of kind pair.0 && is_some (pair_text line pair.0)) line
+
 -- ---- events
 
--- A client line and a begin line have their names beside `op`; a client line may lack `secret` and `redirect`, a begin
--- line `redirect`, and both may lack `userinfo`. As many pairs as names, and exactly one pair of each name: so each
--- stands once, in any order, and there is no other name and no second `op`.
+-- A client line may lack `secret` and `redirect`, a begin line `redirect`, and both may lack `userinfo`; a callback line has
+-- `now` and `query`, and may have answers.
 
 unfoldable pub provider_urls : List (List ℕ × List ℕ) → Option SeenProviderUrls
 provider_urls line = do
@@ -60,25 +106,6 @@ begin_values line = do
   verifier ← pair_text line (codes "verifier")
   user_info ← optional_value demand_of line (codes "userinfo")
   Some (record { state = state; nonce = nonce; redirect = redirect; verifier = verifier; user_info = user_info })
-
--- one pair, where a line has this name
-abbrev pub one_if_there : List (List ℕ × List ℕ) → List ℕ → ℕ
-one_if_there line name = if lacks line name then 0 else 1
-
--- how many pairs a client line has: `op`, five others, and those that may be there
-abbrev pub client_pairs : List (List ℕ × List ℕ) → ℕ
-client_pairs line =
-    6 + one_if_there line (codes "secret") + one_if_there line (codes "userinfo") + one_if_there line (codes "redirect")
-
--- how many a begin line has
-abbrev pub begin_pairs : List (List ℕ × List ℕ) → ℕ
-begin_pairs line = 4 + one_if_there line (codes "redirect") + one_if_there line (codes "userinfo")
-
-unfoldable pub client_event_of : List (List ℕ × List ℕ) → Option SeenClientLine
-client_event_of line = if length line == client_pairs line then client_values line else None
-
-unfoldable pub begin_event_of : List (List ℕ × List ℕ) → Option BeginLine
-begin_event_of line = if length line == begin_pairs line then begin_values line else None
 
 -- ---- answers
 
@@ -143,47 +170,35 @@ answers_of line = do
 
 -- ---- callbacks
 
--- A callback line has `op`, `now` and `query`, each once, and it may have the names of answers; and no other name.
-
-abbrev pub is_callback_name : List ℕ → Bool
-is_callback_name name =
-    list_any (λ known. bytes_eq name known)
-    (codes "op"
-    ∷ codes "now"
-    ∷ codes "query"
-    ∷ codes "token_status"
-    ∷ codes "token_type"
-    ∷ codes "token_body"
-    ∷ codes "token_fault"
-    ∷ codes "info_status"
-    ∷ codes "info_type"
-    ∷ codes "info_body"
-    ∷ codes "info_fault"
-    ∷ [])
-
 abbrev pub callback_values : List (List ℕ × List ℕ) → Option SeenCallbackLine
 callback_values line = do
-  op ← pair_text line (codes "op")
   now ← pair_value moment_of_text line (codes "now")
   query ← pair_text line (codes "query")
   answers ← answers_of line
   Some (record { now = now; query = query; answers = answers })
 
-unfoldable pub callback_event_of : List (List ℕ × List ℕ) → Option SeenCallbackLine
-callback_event_of line = if list_all (λ pair. is_callback_name pair.0) line then callback_values line else None
+-- ---- the event of a line
 
--- the event of a line of this kind
-abbrev pub event_of_kind : List ℕ → List (List ℕ × List ℕ) → Option Event
-event_of_kind kind line =
-    if bytes_eq kind (codes "client") then option_map Client (client_event_of line)
-    else if bytes_eq kind (codes "begin") then option_map Begin (begin_event_of line)
-    else if bytes_eq kind (codes "callback") then option_map Callback (callback_event_of line)
+abbrev pub kind_named : List ℕ → Option LineKind
+kind_named text =
+    if bytes_eq text (codes "client") then Some line_kind.Client
+    else if bytes_eq text (codes "begin") then Some line_kind.Begin
+    else if bytes_eq text (codes "callback") then Some line_kind.Callback
     else None
 
--- the kind of a line: the value of its first pair, which is named `op`
-abbrev pub kind_of : List (List ℕ × List ℕ) → Option (List ℕ)
+-- the kind of a line: its first pair is named `op`, and names the kind
+abbrev pub kind_of : List (List ℕ × List ℕ) → Option LineKind
 kind_of [] = None
-kind_of (first ∷ others) = if bytes_eq first.0 (codes "op") then Some first.1 else None
+kind_of (first ∷ others) = if bytes_eq first.0 (codes "op") then kind_named first.1 else None
+
+-- the event of a line of this kind, whose names are right
+abbrev pub event_values : LineKind → List (List ℕ × List ℕ) → Option Event
+event_values line_kind.Client line = option_map Client (client_values line)
+event_values line_kind.Begin line = option_map Begin (begin_values line)
+event_values line_kind.Callback line = option_map Callback (callback_values line)
+
+abbrev pub event_of_kind : LineKind → List (List ℕ × List ℕ) → Option Event
+event_of_kind kind line = if has_each_name_once kind line then event_values kind line else None
 
 unfoldable pub event_of_pairs : List (List ℕ × List ℕ) → Option Event
 event_of_pairs line = kind_of line >>= λ kind. event_of_kind kind line

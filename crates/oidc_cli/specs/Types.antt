@@ -11,8 +11,8 @@ use Rattle.oidc_keys.specs.contracts.core_jwk.CoreJsonWebKeyJsonWebKey.TheImpl.{
 use Rattle.oidc_keys.specs.contracts.core_jwk.CoreJsonWebKeyUseJsonWebKeyUse.TheImpl.{ghosts as of_uses}
 use Rattle.oidc_id_token_claims.specs.IdTokenClaims.{SeenIdTokenClaims, id_token_members}
 use Rattle.oidc_user_info.specs.UserInfoClaims.{SeenUserInfoClaims, user_info_members}
-use Rattle.oidc_login.specs.SiteTypes.{SiteTypes, site_types}
-use Rattle.oidc_login.specs.Client as logins
+use Rattle.oidc_login.specs.Types.{SiteTypes, site_types}
+use Rattle.oidc_login.specs.Types as logins
 use Rattle.oidc_login.specs.SignedIn as users
 
 abbrev pub types : SiteTypes Others (List ℕ) SymmetricKey CoreJsonWebKeyUse

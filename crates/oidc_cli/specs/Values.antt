@@ -1,5 +1,5 @@
 -- The values on the lines of a script, and their kinds.
-use Rattle.std.specs.Prelude.{◌≡◌, ℕ, ◌==◌, nat_lt, nat_le, ℤ, pos, neg_ℤ, List, [], ◌∷◌, length, Bool, true, false, ◌&&◌, Option, None, Some, Result, Ok, Err, option_and_then, option_map, if◌then◌else◌, is_none, codes}
+use Rattle.std.specs.Prelude.{ℕ, ◌==◌, nat_lt, nat_le, ℤ, pos, neg_ℤ, List, [], ◌∷◌, length, Bool, true, false, ◌&&◌, Option, None, Some, Ok, Err, option_and_then, option_map, if◌then◌else◌, is_none, codes}
 use Rattle.std.specs.List.{list_all, slice_split}
 use Rattle.std.specs.Str.{all_ascii_digits, bytes_eq}
 use Rattle.std.specs.Str.Parse.{digits_value}
@@ -11,21 +11,13 @@ use Rattle.oidc_readers.specs.Moments.{moment_at}
 use Rattle.oidc_pairs.specs.Pairs.{values_in, first_of, only_of}
 use Rattle.oidc_user_info.specs.declared.requests.UserInfoResponseType.{UserInfoResponseType}
 use Rattle.oidc_user_info.specs.declared.requests.UserInfoResponseType.TheVariants.{Json, Jwt}
-use Rattle.oidc_login.specs.declared.demand.UserInfoDemand.{UserInfoDemand}
-use Rattle.oidc_cli.specs.declared.events.LineError.{LineError}
-use Rattle.oidc_cli.specs.declared.events.LineError.TheVariants.{NoEvent, Memory}
+use Rattle.oidc_login.specs.declared.types.UserInfoDemand.{UserInfoDemand}
 
 -- one step after another, as long as each has a value
 infixl 10 ◌>>=◌
 abbrev pub ◌>>=◌ : {A B : Type 0} → Option A → (A → Option B) → Option B
 None >>= f = None
 (Some value) >>= f = f value
-
--- what a reader answers is the value that is meant, but for want of memory
-abbrev pub Reads : {A B : Type 0} → (A → B) → Result A LineError → Option B → Type 0
-Reads view (Ok value) meant = meant ≡ Some (view value)
-Reads view (Err NoEvent) meant = meant ≡ None
-Reads view (Err Memory) meant = Unit {0}
 
 -- ---- the pairs of a line
 

@@ -110,6 +110,17 @@ pub enum Event {
     Callback(CallbackLine),
 }
 
+/// Which kind a line of a script is of.
+#[derive(Clone, Copy, Debug, PartialEq, Eq)]
+pub enum LineKind {
+    /// The client that the script is for.
+    Client,
+    /// A login begins.
+    Begin,
+    /// A user comes back, and the provider answers.
+    Callback,
+}
+
 /// Why a line gives no event.
 #[derive(Clone, Copy, Debug, PartialEq, Eq)]
 pub enum LineError {

@@ -44,10 +44,11 @@ mod calls;
 mod commands;
 mod drill;
 mod events;
+mod logins;
 mod program;
 mod reading;
+mod replay;
 mod report;
-mod report_lines;
 mod script;
 mod sinks;
 mod sources;
@@ -58,7 +59,7 @@ pub use crate::commands::Command;
 pub use crate::program::{
     DONE, NO_MEMORY, SCRIPT_FAULT, SINK_FAULT, SOURCE_FAULT, WRONG_WORDS, run,
 };
-pub use crate::report_lines::verdict_line;
+pub use crate::report::verdict_line;
 pub use crate::sinks::{MemorySink, Sink, WriteSink};
 pub use crate::sources::{MemorySource, ReadSource, Source};
 pub use crate::user::User;

@@ -3,12 +3,12 @@ ghost use Rattle.std.specs.Prelude.{◌≡◌, ◌≢◌, ◌↔◌, ◌⊎◌, 
 ghost use Rattle.std.specs.String.{string_bytes};
 ghost use Rattle.std.specs.Io.KnownBytes.{IsAtEnd};
 ghost use Rattle.oidc_cli.specs.{HasRisen, Takes, Puts, PutsPrefix, fault_of, report, drill_text, command_of, Asks, EndsInFault};
-ghost use Rattle.oidc_cli.specs.Program.{status_after, status_after_drill};
+ghost use Rattle.oidc_cli.specs.Steps.{status_after, status_after_drill};
 
 use crate::commands::{Command, command_of};
 use crate::drill::put_drill;
 use crate::reading::{ReadError, read_script};
-use crate::report::{Ending, Halt, put_report};
+use crate::replay::{Ending, Halt, put_report};
 use crate::{Sink, Source};
 use std::alloc::Global;
 

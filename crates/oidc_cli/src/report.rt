@@ -1,586 +1,437 @@
-//! A script's events, one after another, and their report.
-ghost use Rattle.std.specs.Prelude.{◌≡◌, ◌++◌, ◌+◌, ◌≤◌, ◌<◌, ◌^◌, [], codes, IfOk, IfErr, OnOk, OnErr, IsErrOf, IfSome, IsSome, IsNone, Some, None, false};
-ghost use Rattle.std.specs.FinMap as finite;
-ghost use Rattle.std.specs.Option.{option_or};
+//! The lines of a report.
+ghost use Rattle.std.specs.Prelude.{◌≡◌, ℕ, List, [], ◌∷◌, ◌++◌, decimal, codes, Bool, false, IfOk, IfSome, IsErr, OnOk, Ok, Err};
+ghost use Rattle.std.specs.Option.{option_copied};
 ghost use Rattle.std.specs.String.{string_bytes};
-ghost use Rattle.oidc_login.specs.Begins.{begin_reply};
-ghost use Rattle.oidc_login.specs.Errors.{seen_reply, wants_memory};
-ghost use Rattle.oidc_login.specs.Events.{called_with};
-ghost use Rattle.oidc_login.specs.Rows.{callback_store, outcome};
-ghost use Rattle.oidc_cli.specs.Calls.{HasRisen};
-ghost use Rattle.oidc_cli.specs.Sinks.{Puts, PutsPrefix};
-ghost use Rattle.oidc_cli.specs.Types.{types};
-ghost use Rattle.oidc_cli.specs.Script.{lines, is_client, is_step, fault_from, fault_of};
-ghost use Rattle.oidc_cli.specs.ReportLines.{HasNoFloats, request_lines, verdict_line as line_of_verdict, fault_line as line_of_fault, pending_line as line_of_pending};
-ghost use Rattle.oidc_cli.specs.Report.{client_of as client_seen, request_for_code, begin_of_line, call_of_line, event_lines, store_after, rest_of_report, report, ending_of};
+ghost use Rattle.form_urlencoded.specs.Form.{serialize_pair};
+ghost use Rattle.oidc_pairs.specs.Form.{escaped};
+ghost use Rattle.oidc_oauth2.specs.Words.{error_text};
+ghost use Rattle.oidc_oauth2.specs.TokenAnswers.{seen_refusal};
+ghost use Rattle.oidc_members.specs.Write.{any_float};
+ghost use Rattle.oidc_claims.specs.Others.{list_of};
+ghost use Rattle.oidc_user_info.specs.InfoErrors.{seen_refusal as seen_info};
+ghost use Rattle.oidc_login.specs.Errors.{seen_reply};
+ghost use Rattle.oidc_cli.specs.Types as types;
+ghost use Rattle.oidc_cli.specs.Report as spec;
+ghost use Rattle.oidc_cli.specs.Report.{refresh_pair, user_info_pair, HasNoFloats, header_pair, body_pair, begin_line as line_of_begin, request_line as line_of_request, signature_word as word_of_signature, claims_word as word_of_claims, verdict_line as line_of_verdict, fault_line as line_of_fault};
+ghost use Rattle.oidc_cli.specs.Steps.{behind};
 
-use crate::events::{BeginLine, CallbackLine, ClientLine, Event, ProviderUrls};
-use crate::reading::LIMIT;
-use crate::report_lines::{begin_line, fault_line, pending_line, request_line, verdict_line};
-use crate::script::{first_line, read_line};
-use crate::user::{PendingLogins, User};
-use crate::{Failed, Sink};
-use oidc_client::{AuthenticationFlow, Client, CoreAuthenticationFlow, CoreProviderMetadata};
-use oidc_login::{BeginError, LoginClient, LoginError, LoginRequest, Logins};
-use oidc_oauth2::{Fault, HttpRequest, Recorded};
-use oidc_types::{CoreJwsSigningAlgorithm, CsrfToken, Nonce, RedirectUrl};
-use oidc_user_info::EmptyAdditionalProviderMetadata;
+use crate::user::{User, UserClaims, UserInfo};
+use form_urlencoded::byte_serialize;
+use http_header::HeaderValue;
+use oidc_keys::SignatureVerificationError;
+use oidc_login::{BeginError, LoginError, TooLong};
+use oidc_members::{ParseKind, Refusal, write_object};
+use oidc_oauth2::{
+    CoreErrorResponseType, CoreRequestTokenError, Fault, HttpRequest, OtherCause,
+    RequestTokenError, StandardErrorResponse,
+};
+use oidc_tokens::{ClaimsVerificationError, Payload};
+use oidc_types::{CoreAuthErrorResponseType, RefreshToken, Vocabulary};
+use oidc_user_info::{InfoOther, ResponseCause, UserInfoError};
 use std::alloc::{AllocError, Global};
 use url::Url;
 
-/// Why a report stops before its end.
-#[derive(Clone, Copy, Debug, PartialEq, Eq)]
-pub enum Halt {
-    /// The sink failed.
-    Sink,
-    /// There was no memory.
-    Memory,
-}
+// ---- form texts, pair by pair
 
-impl From<Failed> for Halt {
-    ghost use Rattle.std.specs.Prelude.{◌≡◌};
-    ghost use Rattle.oidc_cli.specs.declared.report.Halt.TheVariants.{Sink};
-
-    ghost from_gives = { λ _ e. e ≡ Sink };
-
-    fn from(_failed: Failed) -> Halt {
-        Halt::Sink
+// Adds bytes as a form writes a name or a value.
+fn push_escaped(text: &mut String, bytes: &[u8]) -> Result<(), AllocError>
+    ensures { OnOk result (string_bytes text.new ≡ string_bytes text.old ++ escaped bytes.now) }
+{
+    for piece in byte_serialize(bytes) {
+        text.push_str(piece)?;
     }
-}
-
-impl From<AllocError> for Halt {
-    ghost use Rattle.std.specs.Prelude.{◌≡◌};
-    ghost use Rattle.oidc_cli.specs.declared.report.Halt.TheVariants.{Memory};
-
-    ghost from_gives = { λ _ e. e ≡ Memory };
-
-    fn from(_refused: AllocError) -> Halt {
-        Halt::Memory
-    }
-}
-
-/// How a report ends that was written to its end.
-#[derive(Clone, Copy, Debug, PartialEq, Eq)]
-pub enum Ending {
-    /// With the number of pending logins.
-    Pending,
-    /// With the line of the script's first fault.
-    Fault,
-}
-
-// The client line of an event, where it is one.
-fn client_line_of(event: Option<Event>) -> Option<ClientLine>
-    ensures found { IfSome result (λ line. event ≡ Some (Event.Client line)) }
-    ensures none { IsNone result → is_client event ≡ false }
-{
-    match event {
-        Some(Event::Client(line)) => Some(line),
-        Some(Event::Begin(line)) => {
-            drop(line);
-            None
-        }
-        Some(Event::Callback(line)) => {
-            drop(line);
-            None
-        }
-        None => None,
-    }
-}
-
-// What a provider says of itself.
-fn provider_of(
-    alloc: Global,
-    urls: ProviderUrls,
-    algorithms: Vec<CoreJwsSigningAlgorithm>,
-) -> CoreProviderMetadata
-    ensures issuer { result.issuer ≡ urls.issuer }
-    ensures auth { result.authorization_endpoint ≡ urls.auth }
-    ensures token { result.token_endpoint ≡ Some urls.token }
-    ensures user_info { result.userinfo_endpoint ≡ urls.user_info }
-    ensures algorithms { result.signing_algorithms ≡ algorithms.items }
-    ensures keys { result.jwks ≡ [] }
-{
-    let ProviderUrls {
-        issuer,
-        jwks_uri,
-        auth,
-        token,
-        user_info,
-    } = urls;
-    let nothing_more = EmptyAdditionalProviderMetadata {};
-    CoreProviderMetadata::new(alloc, issuer, auth, jwks_uri, algorithms, nothing_more)
-        .set_token_endpoint(Some(token))
-        .set_userinfo_endpoint(user_info)
-}
-
-// The client of a client line.
-pub(crate) fn client_of(alloc: Global, line: ClientLine) -> LoginClient
-    ensures { result ≡ client_seen line }
-{
-    let ClientLine {
-        id,
-        secret,
-        provider,
-        redirect,
-        algorithms,
-    } = line;
-    let provider = provider_of(alloc, provider, algorithms);
-    let client: LoginClient = Client::from_provider_metadata(provider, id, secret);
-    match redirect {
-        None => client,
-        Some(redirect) => client.set_redirect_uri(redirect),
-    }
-}
-
-// ---- begins
-
-// A client's request for a code.
-fn authorization_request<'c>(
-    alloc: Global,
-    client: &'c LoginClient,
-    state: CsrfToken,
-    nonce: Nonce,
-) -> Result<LoginRequest<'c>, AllocError>
-    ensures { IfOk result (λ request. request ≡ request_for_code client.now state nonce) }
-{
-    let flow: CoreAuthenticationFlow = AuthenticationFlow::AuthorizationCode;
-    client.authorize_url(alloc, flow, move || state, move || nonce)
-}
-
-// The same, with a redirect of its own, where there is one.
-fn request_with<'c>(
-    alloc: Global,
-    client: &'c LoginClient,
-    state: CsrfToken,
-    nonce: Nonce,
-    redirect: Option<RedirectUrl>,
-) -> Result<LoginRequest<'c>, AllocError>
-    ensures { IfOk result (λ request. request ≡ record (request_for_code client.now state nonce) {
-      redirect_uri = option_or redirect client.now.redirect_uri;
-    }) }
-{
-    let request = authorization_request(alloc, client, state, nonce)?;
-    match redirect {
-        None => Ok(request),
-        Some(redirect) => Ok(request.set_redirect_uri(redirect)),
-    }
-}
-
-// What a begin line gets, unless there is no memory.
-pub(crate) fn begin<'c>(
-    alloc: Global,
-    client: &'c LoginClient,
-    logins: &mut PendingLogins<'c>,
-    line: BeginLine,
-) -> Result<Result<Url, BeginError>, AllocError>
-    requires same { logins.old.client ≡ client.now }
-    ensures reply { let b = begin_of_line logins.old.client line in
-        IfOk result (λ reply. reply ≡ begin_reply logins.old.client logins.old.pending b) }
-    ensures client { logins.new.client ≡ logins.old.client }
-    ensures store { OnOk result
-        (logins.new.pending
-        ≡ store_after logins.old.client logins.old.pending (Some (Event.Begin line))) }
-{
-    let BeginLine {
-        state,
-        nonce,
-        redirect,
-        verifier,
-        user_info,
-    } = line;
-    let request = request_with(alloc, client, state, nonce, redirect)?;
-    match logins.begin(request, verifier, user_info) {
-        Ok(url) => Ok(Ok(url)),
-        Err(BeginError::Memory) => Err(AllocError),
-        Err(refusal) => Ok(Err(refusal)),
-    }
-}
-
-// The line of what a begin line gets, unless there is no memory.
-fn begun_line<'c>(
-    alloc: Global,
-    client: &'c LoginClient,
-    logins: &mut PendingLogins<'c>,
-    line: BeginLine,
-) -> Result<String, AllocError>
-    requires same { logins.old.client ≡ client.now }
-    ensures text { let event = Some (Event.Begin line) in IfOk result (λ text.
-        string_bytes text ≡ event_lines logins.old.client logins.old.pending event) }
-    ensures client { logins.new.client ≡ logins.old.client }
-    ensures store { OnOk result
-        (logins.new.pending
-        ≡ store_after logins.old.client logins.old.pending (Some (Event.Begin line))) }
-{
-    let reply = begin(alloc, client, logins, line)?;
-    // The URL is let go by a call on each way out.
-    match begin_line(alloc, &reply) {
-        Ok(text) => {
-            drop(reply);
-            Ok(text)
-        }
-        Err(refused) => {
-            drop(reply);
-            Err(refused)
-        }
-    }
-}
-
-// Runs a begin line and puts its line.
-#[tactic(auto, using(crate::proofs::Passing::prefix_none))]
-fn put_begin<'c, O: Sink>(
-    alloc: Global,
-    client: &'c LoginClient,
-    logins: &mut PendingLogins<'c>,
-    line: BeginLine,
-    sink: &mut O,
-) -> Result<(), Halt>
-    requires same { logins.old.client ≡ client.now }
-    ensures whole { OnOk result
-        (Puts (O.written sink.old) (O.written sink.new)
-        (event_lines logins.old.client logins.old.pending (Some (Event.Begin line)))) }
-    ensures begun { OnErr result
-        (PutsPrefix (O.written sink.old) (O.written sink.new)
-        (event_lines logins.old.client logins.old.pending (Some (Event.Begin line)))) }
-    ensures client { logins.new.client ≡ logins.old.client }
-    ensures store { OnOk result
-        (logins.new.pending
-        ≡ store_after logins.old.client logins.old.pending (Some (Event.Begin line))) }
-    ensures blamed { IsErrOf result Halt.Sink → HasRisen (O.faults sink.old) (O.faults sink.new) }
-    ensures counts { O.faults sink.old ≤ O.faults sink.new }
-{
-    let text = begun_line(alloc, client, logins, line)?;
-    sink.put(text.as_str().as_bytes())?;
     Ok(())
 }
 
-// ---- callbacks
-
-// What a callback got, and the transport that it used.
-#[derive(Drop)]
-pub(crate) struct Replied {
-    pub(crate) reply: Result<User, LoginError<Fault>>,
-    pub(crate) http: Recorded,
+// Adds the first pair of a form text.
+fn push_first(text: &mut String, name: &str, value: &[u8]) -> Result<(), AllocError>
+    ensures { OnOk result (string_bytes text.new
+        ≡ string_bytes text.old ++ serialize_pair (name.now, value.now)) }
+{
+    push_escaped(text, name.as_bytes())?;
+    text.push_str("=")?;
+    push_escaped(text, value)?;
+    Ok(())
 }
 
-// What a callback got, unless there was no memory.
-#[tactic(auto, using(crate::proofs::Callbacks::no_memory))]
-fn replied_with(
-    reply: Result<User, LoginError<Fault>>,
-    http: Recorded,
-) -> Result<Replied, AllocError>
-    ensures reply { IfOk result (λ replied. replied.reply ≡ reply) }
-    ensures http { IfOk result (λ replied. replied.http ≡ http) }
-    ensures memory { OnOk result (IfErr reply (λ e. wants_memory e ≡ false)) }
+// Adds a further pair of a form text.
+fn push_behind(text: &mut String, name: &str, value: &[u8]) -> Result<(), AllocError>
+    ensures { OnOk result (string_bytes text.new
+        ≡ string_bytes text.old ++ behind ((name.now, value.now) ∷ [])) }
+{
+    text.push_str("&")?;
+    push_first(text, name, value)?;
+    Ok(())
+}
+
+// Adds the pair of a header, where it is there.
+fn push_header(
+    text: &mut String,
+    name: &str,
+    header: Option<&HeaderValue>,
+) -> Result<(), AllocError>
+    ensures { OnOk result (string_bytes text.new
+        ≡ string_bytes text.old ++ behind (header_pair name.now (option_copied header.entry))) }
+{
+    match header {
+        Some(value) => push_behind(text, name, value.as_bytes()),
+        None => Ok(()),
+    }
+}
+
+// Adds the pair of the body, where the method is POST.
+fn push_body(text: &mut String, request: &HttpRequest) -> Result<(), AllocError>
+    ensures { OnOk result (string_bytes text.new
+        ≡ string_bytes text.old ++ behind (body_pair request.now)) }
+{
+    if request.method().as_str() == "POST" {
+        push_behind(text, "body", request.body().as_slice())
+    } else {
+        Ok(())
+    }
+}
+
+// ---- lines
+
+/// The line of what a begin answered. For want of memory there is none.
+#[tactic(auto, unfolding(crate::specs::Report::begin_line))]
+pub fn begin_line(alloc: Global, reply: &Result<Url, BeginError>) -> Result<String, AllocError>
+    ensures line { IfOk result (λ text. string_bytes text ≡ line_of_begin reply.now) }
+    ensures memory { reply.now ≡ Err BeginError.Memory → IsErr result }
 {
     match reply {
-        Ok(user) => Ok(Replied {
-            reply: Ok(user),
-            http,
-        }),
-        Err(refusal) => match refusal {
-            LoginError::Memory { .. } => {
-                drop(http);
-                Err(AllocError)
-            }
-            _ => Ok(Replied {
-                reply: Err(refusal),
-                http,
-            }),
-        },
+        Ok(url) => begin_ok_line(alloc, url),
+        Err(BeginError::Flow) => String::from_str(alloc, "begin refused flow\n"),
+        Err(BeginError::ClientId) => String::from_str(alloc, "begin refused client_id\n"),
+        Err(BeginError::Verifier) => String::from_str(alloc, "begin refused verifier\n"),
+        Err(BeginError::UserInfoEndpoint) => {
+            String::from_str(alloc, "begin refused user_info_endpoint\n")
+        }
+        Err(BeginError::Pending) => String::from_str(alloc, "begin refused pending\n"),
+        Err(BeginError::TooLong) => String::from_str(alloc, "begin refused too_long\n"),
+        Err(BeginError::Memory) => Err(AllocError),
     }
 }
 
-// What a callback line gets, unless there is no memory.
-pub(crate) fn call_back(
+#[tactic(auto, unfolding(crate::specs::Report::begin_line))]
+fn begin_ok_line(alloc: Global, url: &Url) -> Result<String, AllocError>
+    ensures { IfOk result (λ text. string_bytes text ≡ line_of_begin (Ok url.now)) }
+{
+    let mut text = String::from_str(alloc, "begin ok ")?;
+    text.push_str(url.as_str())?;
+    text.push_str("\n")?;
+    Ok(text)
+}
+
+/// The line of a request that was sent.
+pub fn request_line(alloc: Global, request: &HttpRequest) -> Result<String, AllocError>
+    ensures { IfOk result (λ text. string_bytes text ≡ line_of_request request.now) }
+{
+    let headers = request.headers();
+    let mut text = String::from_str(alloc, "request ")?;
+    push_first(&mut text, "method", request.method().as_str().as_bytes())?;
+    push_behind(&mut text, "address", request.address().as_bytes())?;
+    push_header(&mut text, "accept", headers.get("accept"))?;
+    push_header(&mut text, "content_type", headers.get("content-type"))?;
+    push_header(&mut text, "authorization", headers.get("authorization"))?;
+    push_body(&mut text, request)?;
+    text.push_str("\n")?;
+    Ok(text)
+}
+
+/// The line of a callback's verdict, whose claims hold no float. For want of memory there is none.
+#[tactic(auto, unfolding(crate::specs::Report::verdict_line))]
+pub fn verdict_line(
     alloc: Global,
-    logins: &mut PendingLogins<'_>,
-    line: CallbackLine,
-) -> Result<Replied, AllocError>
-    ensures reply { let a = called_with logins.old.client logins.old.pending (call_of_line line) in
-        IfOk result (λ replied. seen_reply replied.reply ≡ (outcome types a line.answers).reply) }
-    ensures sent { let a = called_with logins.old.client logins.old.pending (call_of_line line) in
-        IfOk result (λ replied. replied.http.requests ≡ (outcome types a line.answers).sent) }
-    ensures no_floats { IfOk result (λ replied. HasNoFloats (seen_reply replied.reply)) }
-    ensures client { logins.new.client ≡ logins.old.client }
-    ensures store { OnOk result
-        (logins.new.pending ≡ callback_store logins.old.pending line.query) }
+    reply: &Result<User, LoginError<Fault>>,
+) -> Result<String, AllocError>
+    ensures line { HasNoFloats (seen_reply reply.now)
+        → IfOk result (λ text. string_bytes text ≡ line_of_verdict (seen_reply reply.now)) }
+    ensures memory { (spent : Bool) → reply.now ≡ Err (LoginError.Memory spent) → IsErr result }
 {
-    let CallbackLine {
-        now,
-        query,
-        answers,
-    } = line;
-    let mut http = Recorded::new(alloc, answers);
-    let reply = logins.callback(query.as_bytes(), &mut http, now);
-    replied_with(reply, http)
+    match reply {
+        Ok(signed) => signed_line(alloc, signed),
+        Err(LoginError::TooLong(place)) => too_long_line(alloc, *place),
+        Err(LoginError::State) => String::from_str(alloc, "callback refused state\n"),
+        Err(LoginError::Provider(code)) => provider_line(alloc, code),
+        Err(LoginError::Callback) => String::from_str(alloc, "callback refused callback\n"),
+        Err(LoginError::Token(error)) => token_line(alloc, error),
+        Err(LoginError::NoIdToken) => String::from_str(alloc, "callback refused no_id_token\n"),
+        Err(LoginError::Claims(kind)) => claims_line(alloc, *kind),
+        Err(LoginError::Signing(_)) => {
+            String::from_str(alloc, "callback refused signing unsupported_alg\n")
+        }
+        Err(LoginError::TokenHash) => String::from_str(alloc, "callback refused token_hash\n"),
+        Err(LoginError::UserInfo(error)) => user_info_line(alloc, error),
+        Err(LoginError::Memory { .. }) => Err(AllocError),
+    }
 }
 
-// Puts the lines of requests.
-#[tactic(auto, using(crate::proofs::Passing::begun))]
-fn put_requests<O: Sink>(alloc: Global, requests: &[HttpRequest], sink: &mut O) -> Result<(), Halt>
-    ensures whole { OnOk result
-        (Puts (O.written sink.old) (O.written sink.new) (request_lines requests.now)) }
-    ensures begun { OnErr result
-        (PutsPrefix (O.written sink.old) (O.written sink.new) (request_lines requests.now)) }
-    ensures blamed { IsErrOf result Halt.Sink → HasRisen (O.faults sink.old) (O.faults sink.new) }
-    ensures counts { O.faults sink.old ≤ O.faults sink.new }
+// ---- a user who is signed in
+
+// Adds the pair of a refresh token, where there is one.
+fn push_refresh(text: &mut String, token: Option<&RefreshToken>) -> Result<(), AllocError>
+    ensures { OnOk result (string_bytes text.new
+        ≡ string_bytes text.old ++ behind (refresh_pair (option_copied token.entry))) }
 {
-    for request in requests {
-        let text = request_line(alloc, request)?;
-        sink.put(text.as_str().as_bytes())?;
+    match token {
+        Some(token) => push_behind(text, "refresh_token", token.secret().as_bytes()),
+        None => Ok(()),
     }
+}
+
+// The compact text of claims that hold no float.
+fn claims_text(alloc: Global, claims: &UserClaims) -> Result<Vec<u8>, AllocError>
+    ensures { any_float (list_of claims.now.additional_claims) ≡ false
+        → IfOk result (λ text. text.items ≡ types.claims_text claims.now) }
+{
+    let members = claims.write(alloc)?;
+    write_object(alloc, members.as_slice())
+}
+
+// The compact text of user info that holds no float.
+fn user_info_text(alloc: Global, found: &UserInfo) -> Result<Vec<u8>, AllocError>
+    ensures { any_float (list_of found.now.additional_claims) ≡ false
+        → IfOk result (λ text. text.items ≡ types.user_info_text found.now) }
+{
+    let members = found.write(alloc)?;
+    write_object(alloc, members.as_slice())
+}
+
+// Adds the pair of user info, where there is some.
+fn push_user_info(
+    text: &mut String,
+    alloc: Global,
+    found: Option<&UserInfo>,
+) -> Result<(), AllocError>
+    ensures { let given = option_copied found.entry in
+        IfSome given (λ claims. any_float (list_of claims.additional_claims) ≡ false)
+        → OnOk result
+        (string_bytes text.new ≡ string_bytes text.old ++ behind (user_info_pair given)) }
+{
+    match found {
+        Some(found) => {
+            let claims = user_info_text(alloc, found)?;
+            push_behind(text, "user_info", claims.as_slice())
+        }
+        None => Ok(()),
+    }
+}
+
+fn signed_line(alloc: Global, signed: &User) -> Result<String, AllocError>
+    ensures { HasNoFloats (Ok signed.now)
+        → IfOk result (λ text. string_bytes text ≡ line_of_verdict (Ok signed.now)) }
+{
+    let claims = claims_text(alloc, signed.claims())?;
+    let mut text = String::from_str(alloc, "callback ok ")?;
+    push_first(
+        &mut text,
+        "access_token",
+        signed.access_token().secret().as_bytes(),
+    )?;
+    push_refresh(&mut text, signed.refresh_token())?;
+    push_behind(&mut text, "claims", claims.as_slice())?;
+    push_user_info(&mut text, alloc, signed.user_info())?;
+    text.push_str("\n")?;
+    Ok(text)
+}
+
+// ---- refusals
+
+fn place_word(place: TooLong) -> &'static str
+    ensures { result.now ≡ spec.place_word place }
+{
+    match place {
+        TooLong::Callback => "callback",
+        TooLong::TokenAnswer => "token_answer",
+        TooLong::UserInfoAnswer => "user_info_answer",
+    }
+}
+
+#[tactic(auto, unfolding(crate::specs::Report::verdict_line))]
+fn too_long_line(alloc: Global, place: TooLong) -> Result<String, AllocError>
+    ensures { IfOk result
+        (λ text. string_bytes text ≡ line_of_verdict (Err (LoginError.TooLong place))) }
+{
+    let mut text = String::from_str(alloc, "callback refused too_long ")?;
+    text.push_str(place_word(place))?;
+    text.push_str("\n")?;
+    Ok(text)
+}
+
+#[tactic(auto, unfolding(crate::specs::Report::verdict_line))]
+fn provider_line(alloc: Global, code: &CoreAuthErrorResponseType) -> Result<String, AllocError>
+    ensures { IfOk result
+        (λ text. string_bytes text ≡ line_of_verdict (Err (LoginError.Provider code.now))) }
+{
+    let mut text = String::from_str(alloc, "callback refused provider ")?;
+    push_escaped(&mut text, code.as_ref().as_bytes())?;
+    text.push_str("\n")?;
+    Ok(text)
+}
+
+#[tactic(auto, unfolding(crate::specs::Report::verdict_line))]
+fn token_line(alloc: Global, error: &CoreRequestTokenError<Fault>) -> Result<String, AllocError>
+    ensures { let refusal = LoginError.Token (seen_refusal error.now) in
+        IfOk result (λ text. string_bytes text ≡ line_of_verdict (Err refusal)) }
+{
+    let mut text = String::from_str(alloc, "callback refused token ")?;
+    push_token_words(&mut text, error)?;
+    text.push_str("\n")?;
+    Ok(text)
+}
+
+// Adds the words for the refusal of a token request.
+fn push_token_words(
+    text: &mut String,
+    error: &CoreRequestTokenError<Fault>,
+) -> Result<(), AllocError>
+    ensures { OnOk result (string_bytes text.new
+        ≡ string_bytes text.old ++ spec.token_words (seen_refusal error.now)) }
+{
+    match error {
+        RequestTokenError::ServerResponse(error) => push_server(text, error),
+        RequestTokenError::Request(_) => text.push_str("request"),
+        RequestTokenError::Parse(refusal, _) => push_parse(text, refusal),
+        RequestTokenError::Other(OtherCause::Uri) => text.push_str("uri"),
+        RequestTokenError::Other(OtherCause::EmptyBody) => text.push_str("empty_body"),
+        RequestTokenError::Other(OtherCause::MediaType) => text.push_str("media_type"),
+        RequestTokenError::TooLong(_) => Ok(()),
+        RequestTokenError::Memory => Ok(()),
+    }
+}
+
+fn push_server(
+    text: &mut String,
+    error: &StandardErrorResponse<CoreErrorResponseType>,
+) -> Result<(), AllocError>
+    ensures { OnOk result (string_bytes text.new
+        ≡ string_bytes text.old ++ codes "server " ++ escaped (error_text error.now.error)) }
+{
+    text.push_str("server ")?;
+    push_escaped(text, error.error().as_ref().as_bytes())?;
     Ok(())
 }
 
-// Puts the lines of a callback, whose claims hold no float.
-fn put_replied<O: Sink>(alloc: Global, replied: &Replied, sink: &mut O) -> Result<(), Halt>
-    ensures whole { let reply = seen_reply replied.now.reply in
-        HasNoFloats reply → OnOk result
-        (Puts (O.written sink.old) (O.written sink.new)
-        (request_lines replied.now.http.requests ++ line_of_verdict reply)) }
-    ensures begun { let reply = seen_reply replied.now.reply in
-        HasNoFloats reply → OnErr result
-        (PutsPrefix (O.written sink.old) (O.written sink.new)
-        (request_lines replied.now.http.requests ++ line_of_verdict reply)) }
-    ensures blamed { IsErrOf result Halt.Sink → HasRisen (O.faults sink.old) (O.faults sink.new) }
-    ensures counts { O.faults sink.old ≤ O.faults sink.new }
+fn push_parse(text: &mut String, refusal: &Refusal) -> Result<(), AllocError>
+    ensures { OnOk result (string_bytes text.new
+        ≡ string_bytes text.old ++ spec.parse_words refusal.now) }
 {
-    put_requests(alloc, replied.http.requests(), sink)?;
-    let text = verdict_line(alloc, &replied.reply)?;
-    sink.put(text.as_str().as_bytes())?;
+    text.push_str("parse ")?;
+    push_first(text, "kind", kind_word(refusal.kind).as_bytes())?;
+    push_behind(text, "field", refusal.field.as_str().as_bytes())?;
     Ok(())
 }
 
-// Runs a callback line and puts its lines.
-#[tactic(auto, using(crate::proofs::Passing::prefix_none))]
-fn put_callback<O: Sink>(
-    alloc: Global,
-    logins: &mut PendingLogins<'_>,
-    line: CallbackLine,
-    sink: &mut O,
-) -> Result<(), Halt>
-    ensures whole { OnOk result
-        (Puts (O.written sink.old) (O.written sink.new)
-        (event_lines logins.old.client logins.old.pending (Some (Event.Callback line)))) }
-    ensures begun { OnErr result
-        (PutsPrefix (O.written sink.old) (O.written sink.new)
-        (event_lines logins.old.client logins.old.pending (Some (Event.Callback line)))) }
-    ensures client { logins.new.client ≡ logins.old.client }
-    ensures store { OnOk result
-        (logins.new.pending
-        ≡ store_after logins.old.client logins.old.pending (Some (Event.Callback line))) }
-    ensures blamed { IsErrOf result Halt.Sink → HasRisen (O.faults sink.old) (O.faults sink.new) }
-    ensures counts { O.faults sink.old ≤ O.faults sink.new }
+fn kind_word(kind: ParseKind) -> &'static str
+    ensures { result.now ≡ spec.kind_word kind }
 {
-    // What came is large: it is let go once, by a call, and not on each way out.
-    let Ok(replied) = call_back(alloc, logins, line) else {
-        return Err(Halt::Memory);
-    };
-    let put = put_replied(alloc, &replied, sink);
-    drop(replied);
-    put
-}
-
-// ---- the report
-
-// Runs a begin or a callback and puts its lines. The result is whether the event is one.
-#[tactic(auto, using(crate::proofs::Passing::puts_nothing))]
-fn put_step<'c, O: Sink>(
-    alloc: Global,
-    client: &'c LoginClient,
-    logins: &mut PendingLogins<'c>,
-    event: Option<Event>,
-    sink: &mut O,
-) -> Result<bool, Halt>
-    requires same { logins.old.client ≡ client.now }
-    ensures placed { IfOk result (λ placed. placed ≡ is_step event) }
-    ensures whole { OnOk result
-        (Puts (O.written sink.old) (O.written sink.new)
-        (event_lines logins.old.client logins.old.pending event)) }
-    ensures begun { OnErr result
-        (PutsPrefix (O.written sink.old) (O.written sink.new)
-        (event_lines logins.old.client logins.old.pending event)) }
-    ensures client { logins.new.client ≡ logins.old.client }
-    ensures store { OnOk result
-        (logins.new.pending ≡ store_after logins.old.client logins.old.pending event) }
-    ensures blamed { IsErrOf result Halt.Sink → HasRisen (O.faults sink.old) (O.faults sink.new) }
-    ensures counts { O.faults sink.old ≤ O.faults sink.new }
-{
-    match event {
-        Some(Event::Begin(line)) => {
-            put_begin(alloc, client, logins, line, sink)?;
-            Ok(true)
-        }
-        Some(Event::Callback(line)) => {
-            put_callback(alloc, logins, line, sink)?;
-            Ok(true)
-        }
-        Some(Event::Client(line)) => {
-            drop(line);
-            Ok(false)
-        }
-        None => Ok(false),
+    match kind {
+        ParseKind::Syntax => "syntax",
+        ParseKind::Number => "number",
+        ParseKind::Duplicate => "duplicate",
+        ParseKind::UnexpectedTag => "tag",
+        ParseKind::WrongType => "type",
+        ParseKind::Missing => "missing",
+        ParseKind::Url => "url",
+        ParseKind::Moment => "moment",
+        ParseKind::Token => "token",
+        ParseKind::Algorithm => "algorithm",
+        ParseKind::Additional => "additional",
     }
 }
 
-// Puts a line.
-pub(crate) fn put_line<O: Sink>(line: &str, sink: &mut O) -> Result<(), Halt>
-    ensures whole { OnOk result (Puts (O.written sink.old) (O.written sink.new) line.now) }
-    ensures begun { OnErr result (PutsPrefix (O.written sink.old) (O.written sink.new) line.now) }
-    ensures blamed { IsErrOf result Halt.Sink → HasRisen (O.faults sink.old) (O.faults sink.new) }
-    ensures counts { O.faults sink.old ≤ O.faults sink.new }
+#[tactic(auto, unfolding(crate::specs::Report::verdict_line))]
+fn claims_line(alloc: Global, kind: ClaimsVerificationError) -> Result<String, AllocError>
+    ensures { IfOk result
+        (λ text. string_bytes text ≡ line_of_verdict (Err (LoginError.Claims kind))) }
 {
-    sink.put(line.as_bytes())?;
+    let mut text = String::from_str(alloc, "callback refused claims ")?;
+    text.push_str(claims_word(kind))?;
+    text.push_str("\n")?;
+    Ok(text)
+}
+
+#[tactic(auto, unfolding(crate::specs::Report::verdict_line))]
+fn user_info_line(alloc: Global, error: &UserInfoError<Fault>) -> Result<String, AllocError>
+    ensures { let refusal = LoginError.UserInfo (seen_info error.now) in
+        IfOk result (λ text. string_bytes text ≡ line_of_verdict (Err refusal)) }
+{
+    let mut text = String::from_str(alloc, "callback refused user_info ")?;
+    push_info_words(&mut text, error)?;
+    text.push_str("\n")?;
+    Ok(text)
+}
+
+// Adds the words for the refusal of user info.
+fn push_info_words(text: &mut String, error: &UserInfoError<Fault>) -> Result<(), AllocError>
+    ensures { OnOk result (string_bytes text.new
+        ≡ string_bytes text.old ++ spec.info_words (seen_info error.now)) }
+{
+    match error {
+        UserInfoError::Other(InfoOther::Bearer) => text.push_str("bearer"),
+        UserInfoError::Other(InfoOther::Uri) => text.push_str("uri"),
+        UserInfoError::Other(InfoOther::Utf8) => text.push_str("utf8"),
+        UserInfoError::Request(_) => text.push_str("request"),
+        UserInfoError::Response(_, _, ResponseCause::Status) => text.push_str("status"),
+        UserInfoError::Response(_, _, ResponseCause::MediaType) => text.push_str("media_type"),
+        UserInfoError::Parse(refusal) => push_parse(text, refusal),
+        UserInfoError::ClaimsVerification(kind) => push_claims(text, *kind),
+        UserInfoError::TooLong(_) => Ok(()),
+        UserInfoError::Memory => Ok(()),
+    }
+}
+
+fn push_claims(text: &mut String, kind: ClaimsVerificationError) -> Result<(), AllocError>
+    ensures { OnOk result (string_bytes text.new
+        ≡ string_bytes text.old ++ codes "claims " ++ word_of_claims kind) }
+{
+    text.push_str("claims ")?;
+    text.push_str(claims_word(kind))?;
     Ok(())
 }
 
-// Puts the line of the script's first fault.
-#[tactic(auto, using(crate::proofs::Passing::prefix_none))]
-fn put_fault<O: Sink>(alloc: Global, number: usize, sink: &mut O) -> Result<Ending, Halt>
-    ensures ending { IfOk result (λ ending. ending ≡ Ending.Fault) }
-    ensures whole { OnOk result
-        (Puts (O.written sink.old) (O.written sink.new) (line_of_fault number)) }
-    ensures begun { OnErr result
-        (PutsPrefix (O.written sink.old) (O.written sink.new) (line_of_fault number)) }
-    ensures blamed { IsErrOf result Halt.Sink → HasRisen (O.faults sink.old) (O.faults sink.new) }
-    ensures counts { O.faults sink.old ≤ O.faults sink.new }
+fn claims_word(kind: ClaimsVerificationError) -> &'static str
+    ensures { result.now ≡ word_of_claims kind }
 {
-    let line = fault_line(alloc, number)?;
-    put_line(line.as_str(), sink)?;
-    Ok(Ending::Fault)
-}
-
-// Puts the line of the pending logins.
-#[tactic(auto, using(crate::proofs::Passing::prefix_none))]
-fn put_pending<O: Sink>(
-    alloc: Global,
-    logins: &PendingLogins<'_>,
-    sink: &mut O,
-) -> Result<Ending, Halt>
-    ensures ending { IfOk result (λ ending. ending ≡ Ending.Pending) }
-    ensures whole { OnOk result
-        (Puts (O.written sink.old) (O.written sink.new) (line_of_pending logins.now.pending)) }
-    ensures begun { OnErr result
-        (PutsPrefix (O.written sink.old) (O.written sink.new)
-        (line_of_pending logins.now.pending)) }
-    ensures blamed { IsErrOf result Halt.Sink → HasRisen (O.faults sink.old) (O.faults sink.new) }
-    ensures counts { O.faults sink.old ≤ O.faults sink.new }
-{
-    let line = pending_line(alloc, logins.pending())?;
-    put_line(line.as_str(), sink)?;
-    Ok(Ending::Pending)
-}
-
-// Puts the report of the lines behind the client line, over the logins of that client.
-fn put_lines<'c, O: Sink>(
-    alloc: Global,
-    client: &'c LoginClient,
-    logins: &mut PendingLogins<'c>,
-    script: &[u8],
-    sink: &mut O,
-) -> Result<Ending, Halt>
-    requires same { logins.old.client ≡ client.now }
-    ensures ending { IfOk result
-        (λ ending. ending ≡ ending_of (fault_from 2 (lines script.now))) }
-    ensures whole { OnOk result
-        (Puts (O.written sink.old) (O.written sink.new)
-        (let all = lines script.now in
-        rest_of_report logins.old.client logins.old.pending 2 all (fault_from 2 all))) }
-    ensures begun { OnErr result
-        (PutsPrefix (O.written sink.old) (O.written sink.new)
-        (let all = lines script.now in
-        rest_of_report logins.old.client logins.old.pending 2 all (fault_from 2 all))) }
-    ensures blamed { IsErrOf result Halt.Sink → HasRisen (O.faults sink.old) (O.faults sink.new) }
-    ensures counts { O.faults sink.old ≤ O.faults sink.new }
-{
-    let mut number = 2usize;
-    let mut left = script;
-    while let Some((line, rest)) = first_line(left) {
-        let event = read_line(alloc, line)?;
-        if !put_step(alloc, client, logins, event, sink)? {
-            return put_fault(alloc, number, sink);
-        }
-        number += 1;
-        left = rest;
+    match kind {
+        ClaimsVerificationError::Unsupported => "unsupported",
+        ClaimsVerificationError::InvalidIssuer => "invalid_issuer",
+        ClaimsVerificationError::InvalidAudience => "invalid_audience",
+        ClaimsVerificationError::SignatureVerification(kind) => signature_word(kind),
+        ClaimsVerificationError::Expired => "expired",
+        ClaimsVerificationError::InvalidNonce => "invalid_nonce",
+        ClaimsVerificationError::InvalidSubject => "invalid_subject",
+        ClaimsVerificationError::Memory => "",
     }
-    put_pending(alloc, logins, sink)
 }
 
-// The same, from no pending logins.
-fn put_steps<O: Sink>(
-    alloc: Global,
-    client: &LoginClient,
-    script: &[u8],
-    sink: &mut O,
-) -> Result<Ending, Halt>
-    requires endpoint { IsSome client.now.token_uri }
-    ensures ending { IfOk result
-        (λ ending. ending ≡ ending_of (fault_from 2 (lines script.now))) }
-    ensures whole { OnOk result
-        (Puts (O.written sink.old) (O.written sink.new)
-        (let all = lines script.now in
-        rest_of_report client.now finite.empty 2 all (fault_from 2 all))) }
-    ensures begun { OnErr result
-        (PutsPrefix (O.written sink.old) (O.written sink.new)
-        (let all = lines script.now in
-        rest_of_report client.now finite.empty 2 all (fault_from 2 all))) }
-    ensures blamed { IsErrOf result Halt.Sink → HasRisen (O.faults sink.old) (O.faults sink.new) }
-    ensures counts { O.faults sink.old ≤ O.faults sink.new }
+fn signature_word(kind: SignatureVerificationError) -> &'static str
+    ensures { result.now ≡ word_of_signature kind }
 {
-    let Ok(mut logins) = Logins::new(alloc, client) else {
-        unreachable!()
-    };
-    let put = put_lines(alloc, client, &mut logins, script, sink);
-    drop(logins);
-    put
-}
-
-// Puts the line of a client, and the report of the lines behind it.
-fn put_client<O: Sink>(
-    alloc: Global,
-    client: &LoginClient,
-    script: &[u8],
-    sink: &mut O,
-) -> Result<Ending, Halt>
-    requires endpoint { IsSome client.now.token_uri }
-    ensures ending { IfOk result
-        (λ ending. ending ≡ ending_of (fault_from 2 (lines script.now))) }
-    ensures whole { OnOk result
-        (Puts (O.written sink.old) (O.written sink.new)
-        (let all = lines script.now in
-        codes "client ok\n" ++ rest_of_report client.now finite.empty 2 all (fault_from 2 all))) }
-    ensures begun { OnErr result
-        (PutsPrefix (O.written sink.old) (O.written sink.new)
-        (let all = lines script.now in
-        codes "client ok\n" ++ rest_of_report client.now finite.empty 2 all (fault_from 2 all))) }
-    ensures blamed { IsErrOf result Halt.Sink → HasRisen (O.faults sink.old) (O.faults sink.new) }
-    ensures counts { O.faults sink.old ≤ O.faults sink.new }
-{
-    put_line("client ok\n", sink)?;
-    put_steps(alloc, client, script, sink)
-}
-
-/// Runs a script and puts its report.
-pub fn put_report<O: Sink>(alloc: Global, script: &[u8], sink: &mut O) -> Result<Ending, Halt>
-    ensures ending { IfOk result (λ ending. ending ≡ ending_of (fault_of script.now)) }
-    ensures whole { OnOk result
-        (Puts (O.written sink.old) (O.written sink.new) (report script.now)) }
-    ensures begun { OnErr result
-        (PutsPrefix (O.written sink.old) (O.written sink.new) (report script.now)) }
-    ensures blamed { IsErrOf result Halt.Sink → HasRisen (O.faults sink.old) (O.faults sink.new) }
-    ensures counts { O.faults sink.old ≤ O.faults sink.new }
-{
-    if script.len() > LIMIT {
-        return put_fault(alloc, 0, sink);
+    match kind {
+        SignatureVerificationError::AmbiguousKeyId => "ambiguous_key",
+        SignatureVerificationError::CryptoError => "crypto_error",
+        SignatureVerificationError::DisallowedAlg => "disallowed_alg",
+        SignatureVerificationError::InvalidKey => "invalid_key",
+        SignatureVerificationError::NoMatchingKey => "no_matching_key",
+        SignatureVerificationError::NoSignature => "no_signature",
+        SignatureVerificationError::UnsupportedAlg => "unsupported_alg",
+        SignatureVerificationError::Memory => "",
     }
-    let Some((line, rest)) = first_line(script) else {
-        return put_fault(alloc, 1, sink);
-    };
-    let Some(client) = client_line_of(read_line(alloc, line)?) else {
-        return put_fault(alloc, 1, sink);
-    };
-    let client = client_of(alloc, client);
-    let put = put_client(alloc, &client, rest, sink);
-    drop(client);
-    put
+}
+
+/// The line that ends a report whose script has its first fault at this line.
+pub fn fault_line(alloc: Global, number: usize) -> Result<String, AllocError>
+    ensures { IfOk result (λ text. string_bytes text ≡ line_of_fault number) }
+{
+    format!(in alloc; "script fault line {number}\n")
+}
+
+/// The line that ends a report whose script has no fault.
+pub fn pending_line(alloc: Global, count: usize) -> Result<String, AllocError>
+    ensures { IfOk result
+        (λ text. string_bytes text ≡ codes "pending " ++ decimal count ++ 10 ∷ []) }
+{
+    format!(in alloc; "pending {count}\n")
 }

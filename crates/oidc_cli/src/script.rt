@@ -1,20 +1,20 @@
 //! The lines of a script, and what they say.
-ghost use Rattle.std.specs.Prelude.{◌≡◌, ◌==◌, ◌∷◌, ◌<◌, ◌≤◌, [], length, position, codes, IfOk, IfSome, IsNone, Some, ◌↔◌};
-ghost use Rattle.std.specs.Option.{option_copied};
-ghost use Rattle.oidc_cli.specs.Values.{Reads, optional_value};
-ghost use Rattle.std.specs.List.{list_all};
+ghost use Rattle.std.specs.Prelude.{◌≡◌, ◌==◌, ◌∷◌, ◌<◌, ◌≤◌, [], length, position, codes, IfOk, IfSome, IsNone, Some, ◌↔◌, ◌&&◌, is_some};
+ghost use Rattle.oidc_cli.specs.Values.{optional_value, pair_text as text_of_pair};
+ghost use Rattle.oidc_cli.specs.Readers.{Reads};
 ghost use Rattle.oidc_cli.specs.Script as spec;
-ghost use Rattle.oidc_cli.specs.Script.{lines, kind_of as kind_in, provider_urls, client_event_of, begin_event_of, callback_event_of, event_of_pairs, event_of};
+ghost use Rattle.oidc_cli.specs.Script.{lines, kind_of as kind_in, provider_urls, client_values, begin_values, callback_values, event_of_pairs, event_of};
 
 pub(crate) mod answers;
 pub(crate) mod values;
 
 use crate::beside::beside;
-use crate::events::{BeginLine, CallbackLine, ClientLine, Event, LineError, ProviderUrls};
+use crate::events::{
+    BeginLine, CallbackLine, ClientLine, Event, LineError, LineKind, ProviderUrls,
+};
 use crate::script::answers::read_answers;
 use crate::script::values::{
-    lacks, only_text, optional_demand, optional_text, optional_url, pair_algorithms, pair_moment,
-    pair_text, pair_url,
+    optional_demand, optional_text, optional_url, pair_algorithms, pair_moment, pair_text, pair_url,
 };
 use oidc_pairs::Pairs;
 use oidc_types::{ClientId, ClientSecret, CsrfToken, Nonce, PkceCodeVerifier};
@@ -54,52 +54,108 @@ pub fn read_line(alloc: Global, line: &[u8]) -> Result<Option<Event>, AllocError
     }
 }
 
-// The value of the first pair, where that is named `op`.
-fn kind_of(line: &Pairs) -> Option<&str>
-    ensures { option_copied result ≡ kind_in line.now }
+// The kind that a text names.
+fn kind_named(text: &str) -> Option<LineKind>
+    ensures { result ≡ spec.kind_named text.now }
+{
+    match text {
+        "client" => Some(LineKind::Client),
+        "begin" => Some(LineKind::Begin),
+        "callback" => Some(LineKind::Callback),
+        _ => None,
+    }
+}
+
+// The kind that the first pair names, where that is named `op`.
+fn kind_of(line: &Pairs) -> Option<LineKind>
+    ensures { result ≡ kind_in line.now }
 {
     let first = line.as_slice().first()?;
     if first.name() == "op" {
-        Some(first.value())
+        kind_named(first.value())
     } else {
         None
     }
 }
 
+// ---- the names on a line
+
+fn is_client_name(name: &str) -> bool
+    ensures { result ≡ spec.is_name_of LineKind.Client name.now }
+{
+    matches!(
+        name,
+        "op" | "id" | "secret" | "issuer" | "auth" | "token" | "userinfo" | "algs" | "redirect"
+    )
+}
+
+fn is_begin_name(name: &str) -> bool
+    ensures { result ≡ spec.is_name_of LineKind.Begin name.now }
+{
+    matches!(
+        name,
+        "op" | "state" | "nonce" | "verifier" | "redirect" | "userinfo"
+    )
+}
+
+fn is_callback_name(name: &str) -> bool
+    ensures { result ≡ spec.is_name_of LineKind.Callback name.now }
+{
+    matches!(
+        name,
+        "op" | "now"
+            | "query"
+            | "token_status"
+            | "token_type"
+            | "token_body"
+            | "token_fault"
+            | "info_status"
+            | "info_type"
+            | "info_body"
+            | "info_fault"
+    )
+}
+
+// Whether a line of this kind may have a name.
+fn is_name_of(kind: LineKind, name: &str) -> bool
+    ensures { result ≡ spec.is_name_of kind name.now }
+{
+    match kind {
+        LineKind::Client => is_client_name(name),
+        LineKind::Begin => is_begin_name(name),
+        LineKind::Callback => is_callback_name(name),
+    }
+}
+
+// Whether a line of this kind may have a name, and this line has it once.
+fn is_name_once(kind: LineKind, line: &Pairs, name: &str) -> bool
+    ensures { result ≡ (spec.is_name_of kind name.now && is_some (text_of_pair line.now name.now)) }
+{
+    is_name_of(kind, name) && line.only(name).is_some()
+}
+
+// Whether each name of a line is one that its kind may have, and none stands twice.
+fn has_each_name_once(kind: LineKind, line: &Pairs) -> bool
+    ensures { result ≡ spec.has_each_name_once kind line.now }
+{
+    line.as_slice()
+        .iter()
+        .all(|pair| is_name_once(kind, line, pair.name()))
+}
+
+// ---- events
+
 #[tactic(auto, unfolding(crate::specs::Script::event_of_pairs))]
 fn read_event(alloc: Global, line: &Pairs) -> Result<Event, LineError>
     ensures { Reads (λ event. event) result (event_of_pairs line.now) }
 {
-    match kind_of(line) {
-        Some("client") => Ok(Event::Client(read_client(alloc, line)?)),
-        Some("begin") => Ok(Event::Begin(read_begin(alloc, line)?)),
-        Some("callback") => Ok(Event::Callback(read_callback(alloc, line)?)),
-        _ => Err(LineError::NoEvent),
+    let Some(kind) = kind_of(line) else {
+        return Err(LineError::NoEvent);
+    };
+    if !has_each_name_once(kind, line) {
+        return Err(LineError::NoEvent);
     }
-}
-
-// One pair, where a line has this name.
-fn one_if_there(line: &Pairs, name: &str) -> usize
-    ensures count { result ≡ spec.one_if_there line.now name.now }
-    ensures few { result ≤ 1 }
-{
-    if lacks(line, name) { 0 } else { 1 }
-}
-
-// How many pairs a client line has.
-fn client_pairs(line: &Pairs) -> usize
-    ensures { result ≡ spec.client_pairs line.now }
-{
-    6 + one_if_there(line, "secret")
-        + one_if_there(line, "userinfo")
-        + one_if_there(line, "redirect")
-}
-
-// How many pairs a begin line has.
-fn begin_pairs(line: &Pairs) -> usize
-    ensures { result ≡ spec.begin_pairs line.now }
-{
-    4 + one_if_there(line, "redirect") + one_if_there(line, "userinfo")
+    read_values(alloc, kind, line)
 }
 
 // The secret on a client line, where it has one.
@@ -131,18 +187,8 @@ fn read_urls(alloc: Global, line: &Pairs) -> Result<ProviderUrls, LineError>
     })
 }
 
-#[tactic(auto, unfolding(crate::specs::Script::client_event_of))]
 fn read_client(alloc: Global, line: &Pairs) -> Result<ClientLine, LineError>
-    ensures { Reads (λ read. read) result (client_event_of line.now) }
-{
-    if line.len() != client_pairs(line) {
-        return Err(LineError::NoEvent);
-    }
-    client_values(alloc, line)
-}
-
-fn client_values(alloc: Global, line: &Pairs) -> Result<ClientLine, LineError>
-    ensures { Reads (λ read. read) result (spec.client_values line.now) }
+    ensures { Reads (λ read. read) result (client_values line.now) }
 {
     let id = pair_text(alloc, line, "id")?;
     let with_secret = beside(id, read_secret(alloc, line))?;
@@ -159,13 +205,9 @@ fn client_values(alloc: Global, line: &Pairs) -> Result<ClientLine, LineError>
     })
 }
 
-#[tactic(auto, unfolding(crate::specs::Script::begin_event_of))]
 fn read_begin(alloc: Global, line: &Pairs) -> Result<BeginLine, LineError>
-    ensures { Reads (λ read. read) result (begin_event_of line.now) }
+    ensures { Reads (λ read. read) result (begin_values line.now) }
 {
-    if line.len() != begin_pairs(line) {
-        return Err(LineError::NoEvent);
-    }
     let state = pair_text(alloc, line, "state")?;
     let nonce = pair_text(alloc, line, "nonce")?;
     let redirect = optional_url(alloc, line, "redirect")?;
@@ -181,42 +223,9 @@ fn read_begin(alloc: Global, line: &Pairs) -> Result<BeginLine, LineError>
     })
 }
 
-// Whether a callback line may have a name.
-fn is_callback_name(name: &str) -> bool
-    ensures { result ≡ spec.is_callback_name name.now }
-{
-    matches!(
-        name,
-        "op" | "now"
-            | "query"
-            | "token_status"
-            | "token_type"
-            | "token_body"
-            | "token_fault"
-            | "info_status"
-            | "info_type"
-            | "info_body"
-            | "info_fault"
-    )
-}
-
-// Whether a line has names of a callback line alone.
-fn has_callback_names(line: &Pairs) -> bool
-    ensures { result ≡ list_all (λ pair. spec.is_callback_name pair.0) line.now }
-{
-    line.as_slice()
-        .iter()
-        .all(|pair| is_callback_name(pair.name()))
-}
-
-#[tactic(auto, unfolding(crate::specs::Script::callback_event_of))]
 fn read_callback(alloc: Global, line: &Pairs) -> Result<CallbackLine, LineError>
-    ensures { Reads (λ read. read) result (callback_event_of line.now) }
+    ensures { Reads (λ read. read) result (callback_values line.now) }
 {
-    if !has_callback_names(line) {
-        return Err(LineError::NoEvent);
-    }
-    only_text(line, "op")?;
     let now = pair_moment(line, "now")?;
     let query = pair_text(alloc, line, "query")?;
     let answers = read_answers(alloc, line)?;
@@ -225,4 +234,15 @@ fn read_callback(alloc: Global, line: &Pairs) -> Result<CallbackLine, LineError>
         query,
         answers,
     })
+}
+
+// The event of a line of this kind, whose names are right.
+fn read_values(alloc: Global, kind: LineKind, line: &Pairs) -> Result<Event, LineError>
+    ensures { Reads (λ event. event) result (spec.event_values kind line.now) }
+{
+    match kind {
+        LineKind::Client => Ok(Event::Client(read_client(alloc, line)?)),
+        LineKind::Begin => Ok(Event::Begin(read_begin(alloc, line)?)),
+        LineKind::Callback => Ok(Event::Callback(read_callback(alloc, line)?)),
+    }
 }

@@ -11,11 +11,11 @@ use Rattle.oidc_oauth2.specs.declared.token_answers.RequestTokenError.{RequestTo
 use Rattle.oidc_oauth2.specs.declared.token_answers.RequestTokenError.TheVariants as token
 use Rattle.oidc_oauth2.specs.AnswerCauses.{HoldsTokens, StatusCause}
 use Rattle.oidc_oauth2.proofs.Theorems.{IsJudged, status_worth-judged, StatusRests, status-rests, tokens_worth, refusal_worth}
-use Rattle.oidc_login.specs.SiteTypes.{SiteTypes}
-use Rattle.oidc_login.specs.TokenResponse.{Tokens, TokenError, error_read, tokens_read, tokens_or_refusal}
+use Rattle.oidc_login.specs.Types.{SiteTypes}
+use Rattle.oidc_login.specs.Token.{Tokens, TokenError, error_read, tokens_read, tokens_or_refusal}
 use Rattle.oidc_login.specs.Errors.{login_errors, faulted, spent_of}
-use Rattle.oidc_login.specs.Steps.{of_token}
-use Rattle.oidc_login.specs.Rows.{Meant, tokens_in}
+use Rattle.oidc_login.specs.Steps.{of_token, tokens_of}
+use Rattle.oidc_login.specs.Callback.{Meant}
 use Rattle.oidc_login.specs.declared.errors.TooLong.TheVariants as place
 use Rattle.oidc_login.specs.declared.errors.LoginError.TheVariants as login
 
@@ -98,16 +98,16 @@ module _ {AC GC Key Use : Type 0} (types : SiteTypes AC GC Key Use) (r : SeenRes
   unfolding tokens_or_refusal
   refusal_back e cause = refusal_worth error_read (tokens_read types) r e cause
 
-  pub tokens_given : (tokens : Tokens AC GC) → token_answer (error_response_of error_of) (tokens_read types) r ≡ Ok tokens → tokens_in types r ≡ Ok tokens
-  unfolding token_answer tokens_in tokens_or_refusal
+  pub tokens_given : (tokens : Tokens AC GC) → token_answer (error_response_of error_of) (tokens_read types) r ≡ Ok tokens → tokens_of types r ≡ Ok tokens
+  unfolding token_answer tokens_of tokens_or_refusal
   tokens_given tokens is = ok_row (is_over_long r.body) r.body (tokens_or_refusal types r) tokens is
 
   module _ {E : Type 0} where
     abbrev Answered : Result (Tokens AC GC) (RequestTokenError E CoreError) → Type 0
     Answered result = Gives token_errors result (token_answer (error_response_of error_of) (tokens_read types) r)
 
-    pub refusal_given : (e : RequestTokenError E CoreError) → Answered (Err e) → Gives login_errors {A = Tokens AC GC} (Err (of_token e)) (tokens_in types r)
-    unfolding token_answer tokens_in tokens_or_refusal
+    pub refusal_given : (e : RequestTokenError E CoreError) → Answered (Err e) → Gives login_errors {A = Tokens AC GC} (Err (of_token e)) (tokens_of types r)
+    unfolding token_answer tokens_of tokens_or_refusal
     refusal_given e is = err_row (is_over_long r.body) r.body (tokens_or_refusal types r) e judged is
 
     pub no_fault_given : (e : RequestTokenError E CoreError) → Answered (Err e) → faulted (of_token e) ≡ false

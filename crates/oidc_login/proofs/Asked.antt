@@ -12,12 +12,13 @@ use Rattle.oidc_user_info.specs.declared.errors.InfoOther.TheVariants as info_ot
 use Rattle.oidc_user_info.specs.declared.errors.PrepareInfoError.TheVariants.{Bearer, Uri, Memory}
 use Rattle.oidc_user_info.specs.declared.errors.UserInfoError.TheVariants as info_error
 use Rattle.oidc_client.specs.Client.{info_request_at}
-use Rattle.oidc_login.specs.Client.{SeenLoginClient}
-use Rattle.oidc_login.specs.IdTokens.{subject_of}
+use Rattle.oidc_login.specs.Types.{SeenLoginClient}
+use Rattle.oidc_login.specs.Token.{subject_of}
 use Rattle.oidc_login.specs.SignedIn.{SeenSignedIn}
 use Rattle.oidc_login.specs.UserInfo.{demanded, info_ask}
-use Rattle.oidc_login.specs.Rows.{Meant, SeenAsked, prepared, asking}
-use Rattle.oidc_login.specs.declared.demand.UserInfoDemand.{UserInfoDemand}
+use Rattle.oidc_login.specs.Callback.{Meant, SeenPreparedInfo, prepared_info}
+use Rattle.oidc_login.specs.Steps.{prepared_by}
+use Rattle.oidc_login.specs.declared.types.UserInfoDemand.{UserInfoDemand}
 use Rattle.oidc_login.specs.declared.errors.LoginError.TheVariants.{UserInfo}
 
 -- ---- the rows of the request
@@ -99,22 +100,22 @@ module _ {Key : Type 0} (client : SeenLoginClient Key) (demand : UserInfoDemand)
 -- ---- the step before the request
 
 module _ {AC GC Key : Type 0} (client : SeenLoginClient Key) (demand : UserInfoDemand) (user : SeenSignedIn AC GC) where
-  abbrev uri_missing : Option (SeenInfoRequest Key) → Meant (SeenAsked Key)
-  uri_missing o = (o or UserInfo (info_error.Other info_other.Uri)) >>= prepared
+  abbrev uri_missing : Option (SeenInfoRequest Key) → Meant (SeenPreparedInfo Key)
+  uri_missing o = (o or UserInfo (info_error.Other info_other.Uri)) >>= prepared_by
 
   -- by what the client is asked
-  pub asking_of : (ask : SeenInfoRequest Key) → info_ask client demand user.access_token (subject_of user.id_token) ≡ Some ask → asking client demand user ≡ prepared ask
-  unfolding asking
+  pub asking_of : (ask : SeenInfoRequest Key) → info_ask client demand user.access_token (subject_of user.id_token) ≡ Some ask → prepared_info client demand user ≡ prepared_by ask
+  unfolding prepared_info
   asking_of ask is = ap uri_missing is
 
-  pub asking_nowhere : client.user_info_url ≡ None → asking client demand user ≡ Err (UserInfo (info_error.Other info_other.Uri))
-  unfolding asking
+  pub asking_nowhere : client.user_info_url ≡ None → prepared_info client demand user ≡ Err (UserInfo (info_error.Other info_other.Uri))
+  unfolding prepared_info
   asking_nowhere none =
       ap (λ o. uri_missing (option_map (λ e. demanded demand (info_request_at client user.access_token (Some (subject_of user.id_token)) e)) o)) none
 
   -- the request that the client makes, by the copies of token and subject
   pub asked : (token subject : List ℕ) (ask : SeenInfoRequest Key) → token ≡ user.access_token → subject ≡ subject_of user.id_token
-      → IsSomeAnd client.user_info_url (λ e. ask ≡ info_request_at client token (Some subject) e) → asking client demand user ≡ prepared (demanded demand ask)
+      → IsSomeAnd client.user_info_url (λ e. ask ≡ info_request_at client token (Some subject) e) → prepared_info client demand user ≡ prepared_by (demanded demand ask)
   asked token subject ask same_token same_subject own =
       asking_of (demanded demand ask)
       (subst (λ t. info_ask client demand t (subject_of user.id_token) ≡ Some (demanded demand ask)) same_token

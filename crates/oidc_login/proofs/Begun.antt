@@ -9,7 +9,7 @@ use Rattle.oidc_oauth2.specs.Pkce.{is_verifier, s256}
 use Rattle.oidc_oauth2.specs.Replies.{◌>>=◌, ◌>>◌, ◌when◌}
 use Rattle.oidc_client.specs.Authorization.{IsUnmanagedBeside, StandOnce}
 use Rattle.oidc_login.specs.Logins.{Pending}
-use Rattle.oidc_login.specs.Begins.{LoginRequest, Begin, Meant, Begins, is_code_flow, is_long_url, url_with, challenge_or_refusal, url_or_refusal, reply_by}
+use Rattle.oidc_login.specs.Begin.{LoginRequest, Begin, Meant, Begins, is_code_flow, is_long_url, url_with, challenge_or_refusal, url_or_refusal, reply_by}
 use Rattle.oidc_login.specs.declared.errors.BeginError.{BeginError}
 use Rattle.oidc_login.specs.declared.errors.BeginError.TheVariants as begin
 use Rattle.oidc_login.proofs.TokenHash.{differ_back}

@@ -1,5 +1,5 @@
 -- What the whole of a callback says of single refusals, and of an Ok.
-use Rattle.std.proofs.Common.{◌≡◌, ◌≢◌, ℕ, List, Bool, true, false, Option, None, Some, Result, Ok, Err, refl, sym, ap, subst, ◌∙◌}
+use Rattle.std.proofs.Common.{◌≡◌, ◌≢◌, ℕ, List, drop, Bool, true, false, Option, None, Some, Result, Ok, Err, refl, sym, ap, subst, ◌∙◌}
 use Rattle.std.specs.Prelude.{is_some, IfOk, IfErr, IfSome, IsSome, IsSomeAnd, OnOk}
 use Rattle.oidc_pairs.specs.Pairs.{pairs}
 use Rattle.oidc_keys.specs.declared.refusals.SignatureVerificationError.TheVariants as signature
@@ -28,13 +28,13 @@ use Rattle.oidc_user_info.specs.InfoRequests.{SeenInfoRequest}
 use Rattle.oidc_user_info.specs.InfoCauses as info_causes
 use Rattle.oidc_user_info.specs.declared.errors.UserInfoError.{UserInfoError}
 use Rattle.oidc_user_info.specs.declared.errors.UserInfoError.TheVariants as info_error
-use Rattle.oidc_login.specs.SiteTypes.{SiteTypes}
+use Rattle.oidc_login.specs.Types.{SiteTypes}
 use Rattle.oidc_login.specs.Logins.{SeenLogin}
-use Rattle.oidc_login.specs.IdTokens.{subject_of, verifier_of, IsAcceptedBy}
-use Rattle.oidc_login.specs.TokenHash.{FitsHash, HasOwnHash}
+use Rattle.oidc_login.specs.Token.{subject_of, verifier_of, IsAcceptedBy, FitsHash, HasOwnHash}
 use Rattle.oidc_login.specs.SignedIn.{SeenSignedIn}
 use Rattle.oidc_login.specs.Errors.{Error, seen, wants_memory, is_wanting, hides_memory, login_errors}
-use Rattle.oidc_login.specs.Rows.{Attempt, login_named_by, rest_of}
+use Rattle.oidc_login.specs.BeforeRequest.{login_named_by}
+use Rattle.oidc_login.specs.Callback.{Attempt}
 use Rattle.oidc_login.specs.Causes.{HasError, LacksCode, HasNoRequest, Held, HoldsInfo, HasInfo, IsSignedIn, UserInfoCause, Cause}
 use Rattle.oidc_login.specs.Runs.{Ran}
 use Rattle.oidc_login.specs.declared.errors.LoginError.{LoginError}
@@ -236,7 +236,7 @@ module _ {AC GC Key Use : Type 0} (types : SiteTypes AC GC Key Use) (a : Attempt
       token_hides token_error.Memory c = absurd c
 
       info_hides : (e : UserInfoError E) → UserInfoCause types a ran.exchanged.answers (seen_info e) → hides_memory (login.UserInfo e) ≡ false
-      info_hides (info_error.ClaimsVerification kind) c = caused_wanted c.ask (rest_of ran.exchanged.answers) kind c.cause
+      info_hides (info_error.ClaimsVerification kind) c = caused_wanted c.ask (drop 1 ran.exchanged.answers) kind c.cause
       info_hides (info_error.Parse refusal) c = refl
       info_hides (info_error.Request cause) c = refl
       info_hides (info_error.Response status body cause) c = refl

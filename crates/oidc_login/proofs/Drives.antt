@@ -1,5 +1,5 @@
 -- A callback, return by return: what was handed over, and which reply and requests are meant.
-use Rattle.std.proofs.Common.{◌≡◌, ℕ, ℤ, zero, suc, List, [], ◌∷◌, ◌++◌, length, take, drop, Bool, true, Option, None, Some, Result, Ok, Err, refl, sym, ap, subst, ◌∙◌, ◌≤◌, lit≤, arith, append-nil, append_assoc, inl, inr, ⊎_elim}
+use Rattle.std.proofs.Common.{◌≡◌, ℕ, ℤ, zero, suc, List, [], ◌∷◌, ◌++◌, length, take, drop, Option, None, Some, Result, Ok, Err, refl, sym, ap, subst, ◌∙◌, ◌≤◌, lit≤, arith, append_assoc, inl, inr, ⊎_elim}
 use Rattle.std.specs.Prelude.{◌⊎◌, IfOk, IfErr, IsOk, OnOk}
 use Rattle.oidc_oauth2.specs.Replies.{Unless, OrMemory, Gives}
 use Rattle.oidc_oauth2.specs.Messages.{SeenRequest, SeenAnswer}
@@ -7,15 +7,15 @@ use Rattle.oidc_oauth2.specs.Transport.{Log, log_after, first_answer, Plays}
 use Rattle.oidc_oauth2.specs.Exchanges.{Known, Exchanged, Follows}
 use Rattle.oidc_oauth2.proofs.Runs.{unless_map, or_map, or_known, settled}
 use Rattle.oidc_user_info.specs.InfoRequests.{SeenInfoRequest}
-use Rattle.oidc_login.specs.Client.{SeenLoginClient}
-use Rattle.oidc_login.specs.SiteTypes.{SiteTypes}
+use Rattle.oidc_login.specs.Types.{SeenLoginClient, SiteTypes}
 use Rattle.oidc_login.specs.Logins.{SeenLogin}
 use Rattle.oidc_login.specs.SignedIn.{SeenSignedIn, signed_by}
 use Rattle.oidc_login.specs.Errors.{Error, seen, wants_memory, login_errors}
-use Rattle.oidc_login.specs.Rows.{Attempt, Meant, SeenOpened, SeenAsked, LoginRun, rest_of, preceded_by, answered_alone, opening, after_token, asking, after_info, asked_run, info_run, token_run, opened_run, outcome}
+use Rattle.oidc_login.specs.Callback.{Attempt, Meant, SeenTaken, SeenPreparedInfo, LoginRun, replied, taken_login, user_of_answer, prepared_info, user_with_info, demand_run, outcome}
+use Rattle.oidc_login.specs.Steps.{preceded_by, prepared_run, token_run, taken_run}
 use Rattle.oidc_login.specs.Causes.{Asks, AsksNothing, Held, Cause, IsSignedIn}
 use Rattle.oidc_login.specs.Runs.{IsItsRequest, AreBothRequests, AreItsRequests, handed_over, Ran}
-use Rattle.oidc_login.specs.declared.demand.UserInfoDemand.{UserInfoDemand}
+use Rattle.oidc_login.specs.declared.types.UserInfoDemand.{UserInfoDemand}
 use Rattle.oidc_login.specs.declared.errors.LoginError.{LoginError}
 use Rattle.oidc_login.proofs.Walks.{Walk}
 use Rattle.oidc_login.proofs.NoMemory.{NeverWants}
@@ -67,7 +67,7 @@ plays_twice (Some script) mid left x later first second =
 
 module _ {A E : Type 0} where
   -- a step before any request refused
-  pub refused : {B : Type 0} (run : List SeenAnswer → Meant B → LoginRun A) (old : Known) (e : LoginError E) (m : Meant B) → ((x : Error) → run [] (Err x) ≡ answered_alone (Err x))
+  pub refused : {B : Type 0} (run : List SeenAnswer → Meant B → LoginRun A) (old : Known) (e : LoginError E) (m : Meant B) → ((x : Error) → run [] (Err x) ≡ replied (Err x) [])
       → Gives login_errors {A = B} (Err e) m → Follows login_errors (λ answers. run answers m) old old (Err e)
   refused run old e m alone gives =
       settled login_errors (λ answers. run answers m) old (Err e)
@@ -76,7 +76,7 @@ module _ {A E : Type 0} where
 
   -- one request, and what follows it
   pub continued : (whole : SeenAnswer → List SeenAnswer → LoginRun A) (request : SeenRequest) (old mid new : Known) (x : SeenAnswer) (result : Result A (LoginError E))
-      → Exchanged old mid request x → Follows login_errors (whole x) mid new result → Follows login_errors (λ answers. preceded_by request (whole (first_answer answers) (rest_of answers))) old new result
+      → Exchanged old mid request x → Follows login_errors (whole x) mid new result → Follows login_errors (λ answers. preceded_by request (whole (first_answer answers) (drop 1 answers))) old new result
   continued whole request old mid new x result sent later = record {
     answers = x ∷ later.answers;
     logged = later.logged
@@ -91,8 +91,8 @@ module _ {A E : Type 0} where
 -- ---- user info
 
 module _ {AC GC Key Use E : Type 0} (types : SiteTypes AC GC Key Use) (user : SeenSignedIn AC GC) (old new : Known) (result : Result (SeenSignedIn AC GC) (LoginError E)) where
-  one_answered : (asked : SeenAsked Key) (x : SeenAnswer) → Exchanged old new asked.request x → Gives login_errors result (after_info types asked.ask.demand user x)
-      → Follows login_errors (λ answers. asked_run types user answers (Ok asked)) old new result
+  one_answered : (asked : SeenPreparedInfo Key) (x : SeenAnswer) → Exchanged old new asked.request x → Gives login_errors result (user_with_info types asked.ask.demand user x)
+      → Follows login_errors (λ answers. prepared_run types user answers (Ok asked)) old new result
   one_answered asked x sent gives = record {
     answers = x ∷ [];
     logged = sent.0;
@@ -103,35 +103,35 @@ module _ {AC GC Key Use E : Type 0} (types : SiteTypes AC GC Key Use) (user : Se
   }
 
   -- the answer to the request was judged
-  pub info_answered : (asked : SeenAsked Key) (ask : SeenInfoRequest Key) (request : SeenRequest) → record { ask = ask; request = request } ≡ asked → (x : SeenAnswer)
-      → Exchanged old new request x → Gives login_errors result (after_info types ask.demand user x) → Follows login_errors (λ answers. asked_run types user answers (Ok asked)) old new result
+  pub info_answered : (asked : SeenPreparedInfo Key) (ask : SeenInfoRequest Key) (request : SeenRequest) → record { ask = ask; request = request } ≡ asked → (x : SeenAnswer)
+      → Exchanged old new request x → Gives login_errors result (user_with_info types ask.demand user x) → Follows login_errors (λ answers. prepared_run types user answers (Ok asked)) old new result
   info_answered asked ask request same x sent gives =
-      subst (λ (o : SeenAsked Key). Follows login_errors (λ answers. asked_run types user answers (Ok o)) old new result) same (one_answered (record { ask = ask; request = request }) x sent gives)
+      subst (λ (o : SeenPreparedInfo Key). Follows login_errors (λ answers. prepared_run types user answers (Ok o)) old new result) same (one_answered (record { ask = ask; request = request }) x sent gives)
 
   -- the request was made
-  pub info_asked : (client : SeenLoginClient Key) (demand : UserInfoDemand) (asked : SeenAsked Key) → asking client demand user ≡ Ok asked
-      → Follows login_errors (λ answers. asked_run types user answers (Ok asked)) old new result → Follows login_errors (info_run types client (Some demand) user) old new result
-  info_asked client demand asked is x = subst (λ (m : Meant (SeenAsked Key)). Follows login_errors (λ answers. asked_run types user answers m) old new result) (sym is) x
+  pub info_asked : (client : SeenLoginClient Key) (demand : UserInfoDemand) (asked : SeenPreparedInfo Key) → prepared_info client demand user ≡ Ok asked
+      → Follows login_errors (λ answers. prepared_run types user answers (Ok asked)) old new result → Follows login_errors (demand_run types client (Some demand) user) old new result
+  info_asked client demand asked is x = subst (λ (m : Meant (SeenPreparedInfo Key)). Follows login_errors (λ answers. prepared_run types user answers m) old new result) (sym is) x
 
 module _ {AC GC Key Use E : Type 0} (types : SiteTypes AC GC Key Use) (client : SeenLoginClient Key) (user : SeenSignedIn AC GC) (old : Known) where
   -- the request wasn't made
-  pub info_refused : (demand : UserInfoDemand) (e : LoginError E) → Gives login_errors {A = SeenAsked Key} (Err e) (asking client demand user)
-      → Follows login_errors (info_run types client (Some demand) user) old old (Err e)
-  info_refused demand e gives = refused (λ answers m. asked_run types user answers m) old e (asking client demand user) (λ x. refl) gives
+  pub info_refused : (demand : UserInfoDemand) (e : LoginError E) → Gives login_errors {A = SeenPreparedInfo Key} (Err e) (prepared_info client demand user)
+      → Follows login_errors (demand_run types client (Some demand) user) old old (Err e)
+  info_refused demand e gives = refused (λ answers m. prepared_run types user answers m) old e (prepared_info client demand user) (λ x. refl) gives
 
   -- no user info is demanded
-  pub info_undemanded : Follows (login_errors {E = E}) (info_run types client None user) old old (Ok user)
-  info_undemanded = settled login_errors (info_run types client None user) old (Ok user) refl refl
+  pub info_undemanded : Follows (login_errors {E = E}) (demand_run types client None user) old old (Ok user)
+  info_undemanded = settled login_errors (demand_run types client None user) old (Ok user) refl refl
 
 -- ---- behind the token request
 
 module _ {AC GC Key Use E : Type 0} (types : SiteTypes AC GC Key Use) (client : SeenLoginClient Key) (login : SeenLogin) (old new : Known) where
   -- the ID token was accepted
   pub token_followed : (m : Meant (SeenSignedIn AC GC)) (user : SeenSignedIn AC GC) (demand : Option UserInfoDemand) (result : Result (SeenSignedIn AC GC) (LoginError E))
-      → m ≡ Ok user → demand ≡ login.user_info → Follows login_errors (info_run types client demand user) old new result → Follows login_errors (λ later. token_run types client login later m) old new result
+      → m ≡ Ok user → demand ≡ login.user_info → Follows login_errors (demand_run types client demand user) old new result → Follows login_errors (λ later. token_run types client login later m) old new result
   token_followed m user demand result is own x =
       subst (λ (n : Meant (SeenSignedIn AC GC)). Follows login_errors (λ later. token_run types client login later n) old new result) (sym is)
-      (subst (λ (d : Option UserInfoDemand). Follows login_errors (info_run types client d user) old new result) own x)
+      (subst (λ (d : Option UserInfoDemand). Follows login_errors (demand_run types client d user) old new result) own x)
 
 module _ {AC GC Key Use E : Type 0} (types : SiteTypes AC GC Key Use) (client : SeenLoginClient Key) (login : SeenLogin) (old : Known) where
   -- the token answer was refused
@@ -141,52 +141,52 @@ module _ {AC GC Key Use E : Type 0} (types : SiteTypes AC GC Key Use) (client : 
 
 module _ {AC GC Key Use E : Type 0} (types : SiteTypes AC GC Key Use) (client : SeenLoginClient Key) (now : ℤ) (old mid new : Known) (result : Result (SeenSignedIn AC GC) (LoginError E)) where
   -- the token request was sent
-  pub opened_followed : (o : SeenOpened) (login : SeenLogin) (request : SeenRequest) → record { login = login; request = request } ≡ o → (x : SeenAnswer) → Exchanged old mid request x
-      → Follows login_errors (λ later. token_run types client login later (after_token types client now login x)) mid new result → Follows login_errors (λ answers. opened_run types client now answers (Ok o)) old new result
+  pub opened_followed : (o : SeenTaken) (login : SeenLogin) (request : SeenRequest) → record { login = login; request = request } ≡ o → (x : SeenAnswer) → Exchanged old mid request x
+      → Follows login_errors (λ later. token_run types client login later (user_of_answer types client now login x)) mid new result → Follows login_errors (λ answers. taken_run types client now answers (Ok o)) old new result
   opened_followed o login request same x sent later =
-      subst (λ (p : SeenOpened). Follows login_errors (λ answers. opened_run types client now answers (Ok p)) old new result) same
-      (continued (λ y more. token_run types client login more (after_token types client now login y)) request old mid new x result sent later)
+      subst (λ (p : SeenTaken). Follows login_errors (λ answers. taken_run types client now answers (Ok p)) old new result) same
+      (continued (λ y more. token_run types client login more (user_of_answer types client now login y)) request old mid new x result sent later)
 
 -- ---- the whole
 
 module _ {AC GC Key Use : Type 0} (types : SiteTypes AC GC Key Use) (a : Attempt Key) where
-  abbrev opens : Meant SeenOpened
-  opens = opening a.client a.pending a.query
+  abbrev opens : Meant SeenTaken
+  opens = taken_login a.client a.pending a.query
 
   -- the query asks for the token request of what was opened
-  asks : (o : SeenOpened) → opens ≡ Ok o → AsksNothing a → ⊥
-  asks o is nothing = nothing o.login o.request (subst (Walk (λ x. Asks a x.login x.request) (Cause types a [])) is (rows.opening-walk types a []))
+  asks : (o : SeenTaken) → opens ≡ Ok o → AsksNothing a → ⊥
+  asks o is nothing = nothing o.login o.request (subst (Walk (λ x. Asks a x.login x.request) (Cause types a [])) is (rows.taken_login-walk types a []))
 
   module _ (answers : List SeenAnswer) where
     -- none, the token request, or both
-    abbrev Sendable : List SeenRequest → Type 0
+    abbrev pub Sendable : List SeenRequest → Type 0
     Sendable sent = (sent ≡ []) ⊎ AreItsRequests types a answers sent
 
-    both_sent : (h : Held AC GC) (first : SeenRequest) → Asks a h.login first → (m : Meant (SeenAsked Key)) → Walk (rows.IsAskedOf types a answers h) (Cause types a answers) m
-        → AreItsRequests types a answers (first ∷ (asked_run types (signed_by h.token h.tokens) (rest_of answers) m).sent)
+    both_sent : (h : Held AC GC) (first : SeenRequest) → Asks a h.login first → (m : Meant (SeenPreparedInfo Key)) → Walk (rows.IsAskedOf types a answers h) (Cause types a answers) m
+        → AreItsRequests types a answers (first ∷ (prepared_run types (signed_by h.token h.tokens) (drop 1 answers) m).sent)
     both_sent h first asked (Err e) walk = inl (record { login = h.login; request = first; asked = asked; alone = refl })
     both_sent h first asked (Ok x) walk =
         inr (record { held = h; first = first; asked = asked; ask = x.ask; second = x.request; asked_info = walk; both = refl })
 
     info_sent : (l : SeenLogin) (first : SeenRequest) → Asks a l first → (user : SeenSignedIn AC GC) → rows.IsHeld types a answers l user → (demand : Option UserInfoDemand) → l.user_info ≡ demand
-        → AreItsRequests types a answers (first ∷ (info_run types a.client demand user (rest_of answers)).sent)
+        → AreItsRequests types a answers (first ∷ (demand_run types a.client demand user (drop 1 answers)).sent)
     info_sent l first asked user x None none = inl (record { login = l; request = first; asked = asked; alone = refl })
     info_sent l first asked user x (Some demand) is =
         let h = rows.held types a answers l x.tokens x.token in
-        subst (λ u. AreItsRequests types a answers (first ∷ (asked_run types u (rest_of answers) (asking a.client demand u)).sent)) x.own
-        (both_sent h first asked (asking a.client demand (signed_by x.token x.tokens)) (rows.asking-walk types a answers h x.fits demand is))
+        subst (λ u. AreItsRequests types a answers (first ∷ (prepared_run types u (drop 1 answers) (prepared_info a.client demand u)).sent)) x.own
+        (both_sent h first asked (prepared_info a.client demand (signed_by x.token x.tokens)) (rows.prepared_info-walk types a answers h x.fits demand is))
 
     token_sent : (l : SeenLogin) (first : SeenRequest) → Asks a l first → (m : Meant (SeenSignedIn AC GC)) → Walk (rows.IsHeld types a answers l) (Cause types a answers) m
-        → AreItsRequests types a answers (first ∷ (token_run types a.client l (rest_of answers) m).sent)
+        → AreItsRequests types a answers (first ∷ (token_run types a.client l (drop 1 answers) m).sent)
     token_sent l first asked (Err e) walk = inl (record { login = l; request = first; asked = asked; alone = refl })
     token_sent l first asked (Ok user) walk = info_sent l first asked user walk l.user_info refl
 
-    opened_sent : (m : Meant SeenOpened) → Walk (λ o. Asks a o.login o.request) (Cause types a answers) m → Sendable (opened_run types a.client a.now answers m).sent
+    opened_sent : (m : Meant SeenTaken) → Walk (λ o. Asks a o.login o.request) (Cause types a answers) m → Sendable (taken_run types a.client a.now answers m).sent
     opened_sent (Err e) walk = inl refl
-    opened_sent (Ok o) walk = inr (token_sent o.login o.request walk _ (rows.after_token-walk types a answers o.login o.request walk))
+    opened_sent (Ok o) walk = inr (token_sent o.login o.request walk _ (rows.user_of_answer-walk types a answers o.login o.request walk))
 
-    sendable : Sendable (outcome types a answers).sent
-    sendable = opened_sent opens (rows.opening-walk types a answers)
+    pub sendable : Sendable (outcome types a answers).sent
+    sendable = opened_sent opens (rows.taken_login-walk types a answers)
 
     -- ---- the first of them
 
@@ -229,7 +229,7 @@ module _ {AC GC Key Use : Type 0} (types : SiteTypes AC GC Key Use) (a : Attempt
     both_counted : (sent : List SeenRequest) → AreBothRequests types a answers sent → length sent ≤ 2
     both_counted sent b = subst (λ (s : List SeenRequest). length s ≤ 2) (sym b.both) (lit≤ tt)
 
-    at_most_two : (sent : List SeenRequest) → (sent ≡ []) ⊎ AreItsRequests types a answers sent → length sent ≤ 2
+    pub at_most_two : (sent : List SeenRequest) → (sent ≡ []) ⊎ AreItsRequests types a answers sent → length sent ≤ 2
     at_most_two sent may = ⊎_elim (none_counted sent) (λ its. ⊎_elim (one_counted sent) (both_counted sent) its) may
 
     take_all : (sent : List SeenRequest) → take (length sent) sent ≡ sent
@@ -237,14 +237,14 @@ module _ {AC GC Key Use : Type 0} (types : SiteTypes AC GC Key Use) (a : Attempt
     take_all (r ∷ later) = ap (λ s. r ∷ s) (take_all later)
 
     -- behind an Ok they were all sent
-    own_sent : {E : Type 0} (m : Meant SeenOpened) (result : Result (SeenSignedIn AC GC) (LoginError E)) → Walk (λ o. Asks a o.login o.request) (Cause types a answers) m
-        → Gives login_errors result (opened_run types a.client a.now answers m).reply → OrMemory login_errors result (length answers ≡ length (opened_run types a.client a.now answers m).sent)
-        → OnOk result (AreItsRequests types a answers (take (length answers) (opened_run types a.client a.now answers m).sent))
+    own_sent : {E : Type 0} (m : Meant SeenTaken) (result : Result (SeenSignedIn AC GC) (LoginError E)) → Walk (λ o. Asks a o.login o.request) (Cause types a answers) m
+        → Gives login_errors result (taken_run types a.client a.now answers m).reply → OrMemory login_errors result (length answers ≡ length (taken_run types a.client a.now answers m).sent)
+        → OnOk result (AreItsRequests types a answers (take (length answers) (taken_run types a.client a.now answers m).sent))
     own_sent (Err e) (Ok signed) walk gives all = absurd cc
     own_sent (Ok o) (Ok signed) walk gives all =
-        let sent = (opened_run types a.client a.now answers (Ok o)).sent in
+        let sent = (taken_run types a.client a.now answers (Ok o)).sent in
         subst (AreItsRequests types a answers) (sym (ap (λ n. take n sent) all ∙ take_all sent))
-        (token_sent o.login o.request walk _ (rows.after_token-walk types a answers o.login o.request walk))
+        (token_sent o.login o.request walk _ (rows.user_of_answer-walk types a answers o.login o.request walk))
     own_sent m (Err e) walk gives all = tt
 
   -- ---- what was handed over and is meant makes the whole
@@ -257,7 +257,7 @@ module _ {AC GC Key Use : Type 0} (types : SiteTypes AC GC Key Use) (a : Attempt
         exchanged = x;
         at_most_two_requests = at_most_two answers (handed_over types a answers) only;
         only_its_requests = only;
-        own_requests = own_sent answers opens result (rows.opening-walk types a answers) x.reply x.all_sent;
+        own_requests = own_sent answers opens result (rows.taken_login-walk types a answers) x.reply x.all_sent;
         cause = walked_err (IsSignedIn types a answers) (Cause types a answers) result (outcome types a answers).reply walk x.reply;
         refused = λ e cause. subst (Gives login_errors result) (causes.refused types a answers e cause) x.reply;
         signed_in = walked_ok (IsSignedIn types a answers) (Cause types a answers) result (outcome types a answers).reply walk x.reply;
@@ -268,15 +268,15 @@ module _ {AC GC Key Use : Type 0} (types : SiteTypes AC GC Key Use) (a : Attempt
       }
 
   -- nothing was sent
-  pub unopened : {E : Type 0} → NeverWants types → (old : Known) (e : LoginError E) → Gives login_errors {A = SeenOpened} (Err e) opens → Ran types a old old (Err e)
-  unopened never old e gives = ran never old old (Err e) (refused (λ answers m. opened_run types a.client a.now answers m) old e opens (λ x. refl) gives)
+  pub unopened : {E : Type 0} → NeverWants types → (old : Known) (e : LoginError E) → Gives login_errors {A = SeenTaken} (Err e) opens → Ran types a old old (Err e)
+  unopened never old e gives = ran never old old (Err e) (refused (λ answers m. taken_run types a.client a.now answers m) old e opens (λ x. refl) gives)
 
   -- what was opened was followed
-  pub signed : {E : Type 0} → NeverWants types → (o : SeenOpened) → opens ≡ Ok o → (old new : Known) (result : Result (SeenSignedIn AC GC) (LoginError E))
-      → Follows login_errors (λ answers. opened_run types a.client a.now answers (Ok o)) old new result → Ran types a old new result
-  signed never o is old new result x = ran never old new result (subst (λ m. Follows login_errors (λ answers. opened_run types a.client a.now answers m) old new result) (sym is) x)
+  pub signed : {E : Type 0} → NeverWants types → (o : SeenTaken) → opens ≡ Ok o → (old new : Known) (result : Result (SeenSignedIn AC GC) (LoginError E))
+      → Follows login_errors (λ answers. taken_run types a.client a.now answers (Ok o)) old new result → Ran types a old new result
+  signed never o is old new result x = ran never old new result (subst (λ m. Follows login_errors (λ answers. taken_run types a.client a.now answers m) old new result) (sym is) x)
 
   -- and a query that asks for nothing opens nothing
-  pub asks_of : {E : Type 0} (o : SeenOpened) → opens ≡ Ok o → (old new : Known) (result : Result (SeenSignedIn AC GC) (LoginError E))
-      → Follows login_errors (λ answers. opened_run types a.client a.now answers (Ok o)) old new result → AsksNothing a → ⊥
+  pub asks_of : {E : Type 0} (o : SeenTaken) → opens ≡ Ok o → (old new : Known) (result : Result (SeenSignedIn AC GC) (LoginError E))
+      → Follows login_errors (λ answers. taken_run types a.client a.now answers (Ok o)) old new result → AsksNothing a → ⊥
   asks_of o is old new result x nothing = asks o is nothing

@@ -8,8 +8,9 @@ use Rattle.std.proofs.lemmas.Cmp.{nat_list_cmp_total}
 use Rattle.url.specs.Parts.{Parts}
 use Rattle.oidc_types.specs.{TextAndUrl}
 use Rattle.oidc_login.specs.Logins.{SeenLogin, Pending, HasEndpoints}
-use Rattle.oidc_login.specs.Begins.{Begin, Meant, Begins, reply_by, with_login}
-use Rattle.oidc_login.specs.Rows.{state_in, without_named}
+use Rattle.oidc_login.specs.Begin.{Begin, Meant, Begins, reply_by, with_login}
+use Rattle.oidc_login.specs.BeforeRequest.{state_in}
+use Rattle.oidc_login.specs.Callback.{without_named}
 use Rattle.oidc_login.proofs.Begun.{endpoint_there}
 use Rattle.oidc_login.proofs.Entries.{ties, chosen, unchosen}
 

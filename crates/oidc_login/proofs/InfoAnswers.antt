@@ -22,10 +22,10 @@ use Rattle.oidc_user_info.specs.declared.errors.InfoOther.TheVariants as other
 use Rattle.oidc_user_info.specs.declared.errors.ResponseCause.TheVariants.{Status}
 use Rattle.oidc_user_info.specs.declared.errors.UserInfoError.{UserInfoError}
 use Rattle.oidc_user_info.specs.declared.errors.UserInfoError.TheVariants as info
-use Rattle.oidc_login.specs.SiteTypes.{SiteTypes}
+use Rattle.oidc_login.specs.Types.{SiteTypes}
 use Rattle.oidc_login.specs.Errors.{login_errors, faulted, spent_of}
-use Rattle.oidc_login.specs.Steps.{of_info}
-use Rattle.oidc_login.specs.Rows.{Meant, info_in}
+use Rattle.oidc_login.specs.Steps.{of_info, info_of}
+use Rattle.oidc_login.specs.Callback.{Meant}
 use Rattle.oidc_login.specs.declared.errors.TooLong.TheVariants as place
 use Rattle.oidc_login.specs.declared.errors.LoginError.TheVariants as login
 use Rattle.oidc_login.proofs.NoMemory.{NeverWants}
@@ -171,13 +171,13 @@ module _ {E : Type 0} where
   of_info_spent info.Memory = refl
 
 module _ {AC GC Key Use : Type 0} (types : SiteTypes AC GC Key Use) (demand : Demand Key) (r : SeenResponse) where
-  pub info_given : (found : SeenUserInfoClaims AC GC) → info_answer types demand r ≡ Ok found → info_in types demand r ≡ Ok found
-  unfolding info_answer info_in
+  pub info_given : (found : SeenUserInfoClaims AC GC) → info_answer types demand r ≡ Ok found → info_of types demand r ≡ Ok found
+  unfolding info_answer info_of
   info_given found is = ok_row (IsAbout types demand) (is_over_long r.body) r.body (short_worth types demand r) found is
 
   module _ {E : Type 0} (e : UserInfoError E) (is : Gives info_errors {A = SeenUserInfoClaims AC GC} (Err e) (info_answer types demand r)) where
-    pub info_refusal_given : Gives login_errors {A = SeenUserInfoClaims AC GC} (Err (of_info e)) (info_in types demand r)
-    unfolding info_answer info_in
+    pub info_refusal_given : Gives login_errors {A = SeenUserInfoClaims AC GC} (Err (of_info e)) (info_of types demand r)
+    unfolding info_answer info_of
     info_refusal_given = err_row (IsAbout types demand) (is_over_long r.body) r.body (short_worth types demand r) e (short_own types demand r) is
 
     pub info_no_fault : faulted (of_info e) ≡ false

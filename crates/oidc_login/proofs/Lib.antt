@@ -5,6 +5,7 @@ pub mod Endpoints
 pub mod Verification
 pub mod TokenHash
 pub mod Walks
+pub mod Parts
 pub mod NoMemory
 pub mod Answers
 pub mod InfoAnswers

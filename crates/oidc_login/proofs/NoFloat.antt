@@ -1,5 +1,5 @@
 -- Where all additional claims are kept, those of the ID token of a user who is signed in hold no float.
-use Rattle.std.proofs.Common.{◌≡◌, ℕ, List, false, Result, Ok, Err, refl, ap, ◌∙◌}
+use Rattle.std.proofs.Common.{◌≡◌, ℕ, List, false, Result, Ok, ap, ◌∙◌}
 use Rattle.oidc_members.specs.Seen.{SeenMember}
 use Rattle.oidc_members.specs.Objects.{split_of}
 use Rattle.oidc_members.specs.Write.{any_float}
@@ -12,13 +12,13 @@ use Rattle.oidc_keys.specs.declared.jwk.JsonWebKeyUse.{Ghosts as Uses}
 use Rattle.oidc_claims.specs.Others.{Others, list_of, read_others}
 use Rattle.oidc_oauth2.specs.Messages.{SeenAnswer}
 use Rattle.oidc_oauth2.specs.TokenAnswers.{record_in}
-use Rattle.oidc_oauth2.specs.TokenResponse.{token_rule, access_token, token_type, tokens_of}
+use Rattle.oidc_oauth2.specs.TokenResponse.{token_rule, access_token, token_type, tokens_among}
 use Rattle.oidc_jwt.proofs.Theorems.{after, same_ok}
 use Rattle.oidc_tokens.proofs.Theorems.{response_free}
-use Rattle.oidc_login.specs.SiteTypes.{SiteTypes, site_types}
-use Rattle.oidc_login.specs.TokenResponse.{Tokens, no_others, fields_of, tokens_read}
+use Rattle.oidc_login.specs.Types.{SiteTypes, site_types}
+use Rattle.oidc_login.specs.Token.{Tokens, no_others, fields_of, tokens_read}
 use Rattle.oidc_login.specs.SignedIn.{SeenSignedIn}
-use Rattle.oidc_login.specs.Rows.{Attempt}
+use Rattle.oidc_login.specs.Callback.{Attempt}
 use Rattle.oidc_login.specs.Causes.{IsSignedIn}
 
 module _ {GC Key Use : Type 0} (gender : SeenMember → Result GC Refusal) (keys : Keys Key Use CoreJwsSigningAlgorithm CoreJsonWebKeyType) (uses : Uses Use) where
@@ -27,7 +27,7 @@ module _ {GC Key Use : Type 0} (gender : SeenMember → Result GC Refusal) (keys
   keeping = site_types read_others gender keys uses
 
   fields_read : (members : List SeenMember) (tokens : Tokens Others GC) → tokens_read keeping members ≡ Ok tokens → fields_of keeping members ≡ Ok tokens.extra_fields
-  unfolding tokens_of
+  unfolding tokens_among
   fields_read members tokens h =
       after (faultless token_rule members) _ tokens h λ _ _ first.
       after (required access_token members) _ tokens first λ access _ second.

@@ -5,9 +5,8 @@ use Rattle.oidc_keys.specs.declared.refusals.SignatureVerificationError.TheVaria
 use Rattle.oidc_tokens.specs.declared.verification.refusals.ClaimsVerificationError.{ClaimsVerificationError}
 use Rattle.oidc_tokens.specs.declared.verification.refusals.ClaimsVerificationError.TheVariants.{SignatureVerification, Memory}
 use Rattle.oidc_tokens.proofs.Theorems as tokens
-use Rattle.oidc_login.specs.Client.{SeenLoginClient}
-use Rattle.oidc_login.specs.SiteTypes.{SiteTypes}
-use Rattle.oidc_login.specs.IdTokens.{SeenIdToken, verifier_of, is_nonce, failure_for}
+use Rattle.oidc_login.specs.Types.{SeenLoginClient, SiteTypes}
+use Rattle.oidc_login.specs.Token.{SeenIdToken, verifier_of, is_nonce, failure_for}
 
 abbrev pub wanting : ClaimsVerificationError
 wanting = SignatureVerification signature.Memory

@@ -1,5 +1,5 @@
 -- Each row of the table has its cause: one line for each row, in the order of the table.
-use Rattle.std.proofs.Common.{◌≡◌, ℕ, List, [], ◌∷◌, true, false, Option, None, Some, Result, Ok, Err, refl, sym, ap, subst, ◌∙◌, inl, inr}
+use Rattle.std.proofs.Common.{◌≡◌, ℕ, List, [], ◌∷◌, drop, true, false, Option, None, Some, Result, Ok, Err, refl, sym, ap, subst, ◌∙◌, inl, inr}
 use Rattle.std.specs.Prelude.{not, option_map, codes}
 use Rattle.std.specs.Option.{ok_or}
 use Rattle.std.specs.Str.{bytes_eq}
@@ -26,26 +26,25 @@ use Rattle.oidc_user_info.specs.declared.errors.InfoOther.TheVariants as info_ot
 use Rattle.oidc_user_info.specs.declared.errors.PrepareInfoError.{PrepareInfoError}
 use Rattle.oidc_user_info.specs.declared.errors.PrepareInfoError.TheVariants as prepare
 use Rattle.oidc_user_info.specs.declared.errors.UserInfoError.TheVariants as info_error
-use Rattle.oidc_login.specs.SiteTypes.{SiteTypes}
+use Rattle.oidc_login.specs.Types.{SiteTypes}
 use Rattle.oidc_login.specs.Logins.{SeenLogin}
-use Rattle.oidc_login.specs.TokenRequest.{token_request}
-use Rattle.oidc_login.specs.TokenResponse.{Tokens, TokenError, error_read, tokens_read, tokens_or_refusal}
-use Rattle.oidc_login.specs.IdTokens.{SeenIdToken, subject_of, verifier_of, is_nonce, failure_for}
-use Rattle.oidc_login.specs.TokenHash.{claimed_hash}
+use Rattle.oidc_login.specs.BeforeRequest.{token_request, error_word, login_named_by, error_in, code_in}
+use Rattle.oidc_login.specs.Token.{Tokens, TokenError, error_read, tokens_read, tokens_or_refusal, SeenIdToken, subject_of, verifier_of, is_nonce, failure_for, claimed_hash}
 use Rattle.oidc_login.specs.SignedIn.{SeenSignedIn, signed_by}
 use Rattle.oidc_login.specs.UserInfo.{info_ask}
 use Rattle.oidc_login.specs.Errors.{Error}
-use Rattle.oidc_login.specs.Rows.{Attempt, Meant, SeenOpened, SeenAsked, error_word, login_named_by, error_in, code_in, rest_of, opening_by, opening, tokens_in, hash_rows, accepting, signing_in, after_token, prepared, asking, info_in, after_info, asked_run, info_run, token_run, opened_run, outcome}
+use Rattle.oidc_login.specs.Callback.{Attempt, Meant, SeenTaken, SeenPreparedInfo, taken_login, user_of_answer, prepared_info, user_with_info, demand_run, outcome}
+use Rattle.oidc_login.specs.Steps.{prepared_by, prepared_run, token_run, taken_run}
 use Rattle.oidc_login.specs.Causes.{Names, HasCode, Asks, Held, Answered, Reads, Holds, Accepted, own_hash, Fits, Demands, AsksInfo, InfoAnswered, IsSignedIn, TokenCause, UserInfoCause, Cause}
-use Rattle.oidc_login.specs.declared.demand.UserInfoDemand.{UserInfoDemand}
+use Rattle.oidc_login.specs.declared.types.UserInfoDemand.{UserInfoDemand}
 use Rattle.oidc_login.specs.declared.errors.LoginError.TheVariants.{UserInfo}
-use Rattle.oidc_login.proofs.Walks.{Walk, at_or, at_meant, at_or_as, at_last, at_when, at_for, at_then, at_end, walked_err, walked_ok}
+use Rattle.oidc_login.proofs.Walks.{Walk, at_or, at_or_as, at_when, at_for}
 use Rattle.oidc_login.proofs.Answers.{rests}
 use Rattle.oidc_login.proofs.InfoAnswers.{IsOwn, IsAbout, info_own, info_rests}
 use Rattle.oidc_login.proofs.NoMemory.{NeverWants}
 use Rattle.oidc_login.proofs.Asked.{bearer, uri, never_memory, no_endpoint, own_token}
 use Rattle.oidc_login.proofs.Verification.{accepts}
-use Rattle.oidc_login.proofs.TokenHash.{beside, differ_back, same_back}
+use Rattle.oidc_login.proofs.TokenHash.{beside, differ_back, same_back, by_hash, by_check}
 
 no_value : (values : List (List ℕ)) → option_map error_word (first_value values) ≡ None → values ≡ []
 no_value [] is = refl
@@ -57,12 +56,13 @@ module _ {AC GC Key Use : Type 0} (types : SiteTypes AC GC Key Use) (a : Attempt
 
   -- ---- before the token request
 
-  abbrev pub IsOpened : SeenOpened → Type 0
+  abbrev pub IsOpened : SeenTaken → Type 0
   IsOpened o = Asks a o.login o.request
 
-  pairs-walk : is_over_long a.query ≡ false → Walk IsOpened Q (opening_by a.client a.pending (pairs a.query))
-  unfolding opening_by
-  pairs-walk short =
+  pub taken_login-walk : Walk IsOpened Q (taken_login a.client a.pending a.query)
+  unfolding taken_login
+  taken_login-walk =
+      at_when _ _ (is_over_long a.query) _ _ (λ long. long) (λ short.
       at_or _ _ (login_named_by a.pending (pairs a.query)) _ _
       (λ none. record { short_query = short; none_named = none }) (λ l is_named.
       let names : Names a l = record { short_query = short; login_named = is_named } in
@@ -74,11 +74,7 @@ module _ {AC GC Key Use : Type 0} (types : SiteTypes AC GC Key Use) (a : Attempt
       let has_code : HasCode a l code = record { names = names; no_error = no_error; one_code = one_code } in
       at_or _ _ (token_request a.client l code) _ _
       (λ none_made. record { login = l; code = code; has_code = has_code; no_request = none_made }) (λ r made.
-      record { code = code; has_code = has_code; request_made = made }))))
-
-  pub opening-walk : Walk IsOpened Q (opening a.client a.pending a.query)
-  unfolding opening
-  opening-walk = at_when _ _ (is_over_long a.query) _ _ (λ long. long) (λ short. pairs-walk short)
+      record { code = code; has_code = has_code; request_made = made })))))
 
   -- ---- behind it
 
@@ -95,55 +91,6 @@ module _ {AC GC Key Use : Type 0} (types : SiteTypes AC GC Key Use) (a : Attempt
   abbrev IsHeldBy : SeenResponse → Result (Tokens AC GC) TokenError → Type 0
   IsHeldBy r worth = StatusRests error_read (tokens_read types) r worth
 
-  tokens_in-walk : (l : SeenLogin) (request : SeenRequest) (r : SeenResponse) → Asks a l request → first_answer answers ≡ Some r
-      → Walk (λ ts. Reads types a answers l ts) Q (tokens_in types r)
-  unfolding tokens_in
-  tokens_in-walk l request r asked came =
-      at_when _ _ (is_over_long r.body) _ _
-      (λ long. record { login = l; request = request; asked = asked; response = r; response_came = came; too_long = long }) (λ short.
-      let answered : Answered types a answers l r = record { request = request; asked = asked; response_came = came; not_too_long = short } in
-      at_last _ _ (tokens_or_refusal types r) _ (λ e is. token_row l r e answered (subst (IsHeldBy r) is (rests types r))) (λ ts is.
-      record { response = r; answered = answered; tokens_held = subst (IsHeldBy r) is (rests types r) }))
-
-  -- by the claim in the ID token, and by the hash of the access token, where there is one
-  claim-walk : (h : Held AC GC) (accepted : Accepted types a answers h) (claim own : Option (List ℕ)) → claimed_hash h.token ≡ claim → own_hash types a answers h accepted ≡ own
-      → Walk (λ u. Fits types a answers h) Q (hash_rows claim (ok_or own (UnsupportedAlg (signing_text accepted.accepts.alg))))
-  claim-walk h accepted None own is_claim is_own = record { accepted = accepted; fits_hash = λ claim is. let none = sym is_claim ∙ is in cc }
-  claim-walk h accepted (Some claim) None is_claim is_own = record {
-    held = h;
-    claim = claim;
-    names_hash = record { accepted = accepted; own_claim = is_claim };
-    no_hash = is_own;
-    names_algorithm = refl;
-  }
-  claim-walk h accepted (Some claim) (Some hash) is_claim is_own =
-      at_end (λ u. Fits types a answers h) Q (not (bytes_eq hash claim)) _
-      (λ other. record {
-        held = h;
-        claim = claim;
-        names_hash = record { accepted = accepted; own_claim = is_claim };
-        hash = hash;
-        has_hash = is_own;
-        other = differ_back hash claim other;
-      }) (λ same. record {
-        accepted = accepted;
-        fits_hash = λ c is. is_own ∙ ap Some (same_back hash claim same) ∙ sym is_claim ∙ is;
-      })
-
-  accepting-walk : (h : Held AC GC) → Holds types a answers h → Walk (λ u. Fits types a answers h) Q (accepting types a.client a.now h.login h.token h.tokens.access_token)
-  unfolding accepting
-  accepting-walk h holds =
-      at_for _ _ (failure_for types a.client h.login.nonce a.now h.token) _ _ (λ kind is. record {
-        held = h;
-        holds = holds;
-        check_failed = is;
-        cause = failure_cause types.keys (verifier_of types a.client) (is_nonce h.login.nonce) a.now h.token kind is;
-      }) (λ none_fails.
-      let accepted : Accepted types a answers h = record { holds = holds; accepts = accepts types a.client h.login.nonce a.now h.token none_fails } in
-      let x = accepted.accepts in
-      subst (λ r. Walk (λ u. Fits types a answers h) Q (hash_rows (claimed_hash h.token) r)) (sym (beside types (verifier_of types a.client) h.token x.alg x.key x.signed x.chosen h.tokens.access_token))
-      (claim-walk h accepted _ _ refl refl))
-
   abbrev pub held : SeenLogin → Tokens AC GC → SeenIdToken AC GC → Held AC GC
   held l ts token = record { login = l; tokens = ts; token = token }
 
@@ -154,23 +101,62 @@ module _ {AC GC Key Use : Type 0} (types : SiteTypes AC GC Key Use) (a : Attempt
     pub fits : Fits types a answers (held l tokens token)
     pub own : signed_by token tokens ≡ user
 
-  signing_in-walk : (l : SeenLogin) (ts : Tokens AC GC) → Reads types a answers l ts → Walk (IsHeld l) Q (signing_in types a.client a.now l ts)
-  unfolding signing_in
-  signing_in-walk l ts reads =
-      at_or _ _ ts.extra_fields.id_token _ _ (λ none. record { login = l; tokens = ts; reads = reads; no_id_token = none }) (λ token own.
-      let holds : Holds types a answers (held l ts token) = record { reads = reads; own_id_token = own } in
-      at_then _ _ (accepting types a.client a.now l token ts.access_token) _ (accepting-walk (held l ts token) holds) (λ fits.
-      record { tokens = ts; token = token; fits = fits; own = refl }))
+  is_held : (h : Held AC GC) → Fits types a answers h → IsHeld h.login (signed_by h.token h.tokens)
+  is_held h fits = record { tokens = h.tokens; token = h.token; fits = fits; own = refl }
 
-  pub after_token-walk : (l : SeenLogin) (request : SeenRequest) → Asks a l request
-      → Walk (IsHeld l) Q (after_token types a.client a.now l (first_answer answers))
-  unfolding after_token
-  after_token-walk l request asked =
+  -- by the claim in the ID token, and by the hash of the access token, where there is one
+  claim-walk : (h : Held AC GC) (accepted : Accepted types a answers h) (claim own : Option (List ℕ)) → claimed_hash h.token ≡ claim → own_hash types a answers h accepted ≡ own
+      → Walk (IsHeld h.login) Q (by_hash h claim (ok_or own (UnsupportedAlg (signing_text accepted.accepts.alg))))
+  claim-walk h accepted None own is_claim is_own = is_held h (record { accepted = accepted; fits_hash = λ claim is. let none = sym is_claim ∙ is in cc })
+  claim-walk h accepted (Some claim) None is_claim is_own = record {
+    held = h;
+    claim = claim;
+    names_hash = record { accepted = accepted; own_claim = is_claim };
+    no_hash = is_own;
+    names_algorithm = refl;
+  }
+  claim-walk h accepted (Some claim) (Some hash) is_claim is_own =
+      at_when (IsHeld h.login) Q (not (bytes_eq hash claim)) _ _
+      (λ other. record {
+        held = h;
+        claim = claim;
+        names_hash = record { accepted = accepted; own_claim = is_claim };
+        hash = hash;
+        has_hash = is_own;
+        other = differ_back hash claim other;
+      }) (λ same. is_held h (record {
+        accepted = accepted;
+        fits_hash = λ c is. is_own ∙ ap Some (same_back hash claim same) ∙ sym is_claim ∙ is;
+      }))
+
+  check-walk : (h : Held AC GC) → Holds types a answers h → Walk (IsHeld h.login) Q (by_check types a.client h (failure_for types a.client h.login.nonce a.now h.token))
+  check-walk h holds =
+      at_for (IsHeld h.login) Q (failure_for types a.client h.login.nonce a.now h.token) _ _ (λ kind is. record {
+        held = h;
+        holds = holds;
+        check_failed = is;
+        cause = failure_cause types.keys (verifier_of types a.client) (is_nonce h.login.nonce) a.now h.token kind is;
+      }) (λ none_fails.
+      let accepted : Accepted types a answers h = record { holds = holds; accepts = accepts types a.client h.login.nonce a.now h.token none_fails } in
+      let x = accepted.accepts in
+      subst (λ r. Walk (IsHeld h.login) Q (by_hash h (claimed_hash h.token) r)) (sym (beside types (verifier_of types a.client) h.token x.alg x.key x.signed x.chosen h.tokens.access_token))
+      (claim-walk h accepted _ _ refl refl))
+
+  pub user_of_answer-walk : (l : SeenLogin) (request : SeenRequest) → Asks a l request
+      → Walk (IsHeld l) Q (user_of_answer types a.client a.now l (first_answer answers))
+  unfolding user_of_answer
+  user_of_answer-walk l request asked =
       at_or _ _ (first_answer answers) _ _
       (λ none. record { login = l; request = request; asked = asked; no_response = none }) (λ r came.
-      at_meant _ _ (tokens_in types r) _
-      (λ e is. walked_err _ _ (tokens_in types r) e (tokens_in-walk l request r asked came) is)
-      (λ ts is. signing_in-walk l ts (walked_ok _ _ (tokens_in types r) ts (tokens_in-walk l request r asked came) is)))
+      at_when _ _ (is_over_long r.body) _ _
+      (λ long. record { login = l; request = request; asked = asked; response = r; response_came = came; too_long = long }) (λ short.
+      let answered : Answered types a answers l r = record { request = request; asked = asked; response_came = came; not_too_long = short } in
+      at_or_as _ _ (tokens_or_refusal types r) _ _
+      (λ e is. token_row l r e answered (subst (IsHeldBy r) is (rests types r))) (λ ts is.
+      let reads : Reads types a answers l ts = record { response = r; answered = answered; tokens_held = subst (IsHeldBy r) is (rests types r) } in
+      at_or _ _ ts.extra_fields.id_token _ _
+      (λ none. record { login = l; tokens = ts; reads = reads; no_id_token = none }) (λ token own.
+      check-walk (held l ts token) (record { reads = reads; own_id_token = own })))))
 
   -- ---- user info
 
@@ -183,19 +169,19 @@ module _ {AC GC Key Use : Type 0} (types : SiteTypes AC GC Key Use) (a : Attempt
       inl (record { held = h; ask = ask; demands = demands; header_text = subst (λ t. is_visible_text t ≡ true) same both.0; no_address = both.1 })
   unmade_row h ask demands same prepare.Memory is = absurd (never_memory ask is)
 
-  abbrev pub IsAskedOf : Held AC GC → SeenAsked Key → Type 0
+  abbrev pub IsAskedOf : Held AC GC → SeenPreparedInfo Key → Type 0
   IsAskedOf h asked = AsksInfo types a answers h asked.ask asked.request
 
-  prepared-walk : (h : Held AC GC) (ask : SeenInfoRequest Key) → Demands types a answers h ask → ask.access_token ≡ h.tokens.access_token
-      → Walk (IsAskedOf h) Q (prepared ask)
-  prepared-walk h ask demands same =
+  prepared_by-walk : (h : Held AC GC) (ask : SeenInfoRequest Key) → Demands types a answers h ask → ask.access_token ≡ h.tokens.access_token
+      → Walk (IsAskedOf h) Q (prepared_by ask)
+  prepared_by-walk h ask demands same =
       at_or_as _ _ (info_request ask) _ _ (λ e is. unmade_row h ask demands same e is)
       (λ r made. record { demands = demands; request_made = made })
 
-  pub asking-walk : (h : Held AC GC) → Fits types a answers h → (demand : UserInfoDemand) → h.login.user_info ≡ Some demand
-      → Walk (IsAskedOf h) Q (asking a.client demand (signed_by h.token h.tokens))
-  unfolding asking
-  asking-walk h fits demand is_demand =
+  pub prepared_info-walk : (h : Held AC GC) → Fits types a answers h → (demand : UserInfoDemand) → h.login.user_info ≡ Some demand
+      → Walk (IsAskedOf h) Q (prepared_info a.client demand (signed_by h.token h.tokens))
+  unfolding prepared_info
+  prepared_info-walk h fits demand is_demand =
       at_or _ _ (info_ask a.client demand h.tokens.access_token (subject_of h.token)) _ _
       (λ none. inr (record {
         held = h;
@@ -204,7 +190,7 @@ module _ {AC GC Key Use : Type 0} (types : SiteTypes AC GC Key Use) (a : Attempt
         demanded = is_demand;
         no_endpoint = no_endpoint a.client demand h.tokens.access_token (subject_of h.token) none;
       })) (λ ask own.
-      prepared-walk h ask (record { fits = fits; demand = demand; demanded = is_demand; own_ask = own })
+      prepared_by-walk h ask (record { fits = fits; demand = demand; demanded = is_demand; own_ask = own })
       (own_token a.client demand h.tokens.access_token (subject_of h.token) ask own))
 
   module _ (h : Held AC GC) (ask : SeenInfoRequest Key) (r : SeenResponse) (answered : InfoAnswered types a answers h ask r) where
@@ -214,7 +200,7 @@ module _ {AC GC Key Use : Type 0} (types : SiteTypes AC GC Key Use) (a : Attempt
     own_row : (e : InfoRefusal) → info_answer types ask.demand r ≡ Err e → Own e
     own_row e is = subst (IsOwn (IsAbout types ask.demand)) is (info_own types ask.demand r answered.not_too_long)
 
-    info_row : (e : InfoRefusal) → info_answer types ask.demand r ≡ Err e → info_causes.Cause ask (rest_of answers) types e → UserInfoCause types a answers e
+    info_row : (e : InfoRefusal) → info_answer types ask.demand r ≡ Err e → info_causes.Cause ask (drop 1 answers) types e → UserInfoCause types a answers e
     info_row (info_error.Request cause) is why = absurd (own_row (info_error.Request cause) is)
     info_row (info_error.Other info_other.Bearer) is why = absurd (own_row (info_error.Other info_other.Bearer) is)
     info_row (info_error.Other info_other.Uri) is why = absurd (own_row (info_error.Other info_other.Uri) is)
@@ -229,18 +215,7 @@ module _ {AC GC Key Use : Type 0} (types : SiteTypes AC GC Key Use) (a : Attempt
   pub record IsFoundFor (h : Held AC GC) (ask : SeenInfoRequest Key) (found : SeenUserInfoClaims AC GC) : Type 0 where
     pub response : SeenResponse
     pub answered : InfoAnswered types a answers h ask response
-    pub info_held : info_causes.IsUserInfo ask (rest_of answers) types found
-
-  info_in-walk : NeverWants types → (h : Held AC GC) (ask : SeenInfoRequest Key) (request : SeenRequest) (r : SeenResponse) → AsksInfo types a answers h ask request → first_answer (rest_of answers) ≡ Some r
-      → Walk (IsFoundFor h ask) Q (info_in types ask.demand r)
-  unfolding info_in
-  info_in-walk never h ask request r asked came =
-      at_when _ _ (is_over_long r.body) _ _
-      (λ long. record { held = h; ask = ask; request = request; asked = asked; response = r; response_came = came; too_long = long }) (λ short.
-      let answered : InfoAnswered types a answers h ask r = record { request = request; asked = asked; response_came = came; not_too_long = short } in
-      let rests = info_rests types ask (rest_of answers) request asked.request_made r came never in
-      at_last _ _ (info_answer types ask.demand r) _ (λ e is. info_row h ask r answered e is (subst (Rests types ask (rest_of answers)) is rests)) (λ found is.
-      record { response = r; answered = answered; info_held = subst (Rests types ask (rest_of answers)) is rests }))
+    pub info_held : info_causes.IsUserInfo ask (drop 1 answers) types found
 
   signed : (h : Held AC GC) → Fits types a answers h → (ask : SeenInfoRequest Key) (found : SeenUserInfoClaims AC GC) → IsFoundFor h ask found
       → IsSignedIn types a answers (record (signed_by h.token h.tokens) { user_info = Some found })
@@ -255,26 +230,30 @@ module _ {AC GC Key Use : Type 0} (types : SiteTypes AC GC Key Use) (a : Attempt
     info = record { ask = ask; response = x.response; answered = x.answered; info_held = x.info_held };
   }
 
-  after_info-walk : NeverWants types → (h : Held AC GC) (ask : SeenInfoRequest Key) (request : SeenRequest) → AsksInfo types a answers h ask request
-      → Walk (IsSignedIn types a answers) Q (after_info types ask.demand (signed_by h.token h.tokens) (first_answer (rest_of answers)))
-  unfolding after_info
-  after_info-walk never h ask request asked =
-      at_or _ _ (first_answer (rest_of answers)) _ _
+  user_with_info-walk : NeverWants types → (h : Held AC GC) (ask : SeenInfoRequest Key) (request : SeenRequest) → AsksInfo types a answers h ask request
+      → Walk (IsSignedIn types a answers) Q (user_with_info types ask.demand (signed_by h.token h.tokens) (first_answer (drop 1 answers)))
+  unfolding user_with_info
+  user_with_info-walk never h ask request asked =
+      at_or _ _ (first_answer (drop 1 answers)) _ _
       (λ none. record { held = h; ask = ask; request = request; asked = asked; no_response = none }) (λ r came.
-      at_meant _ _ (info_in types ask.demand r) _
-      (λ e is. walked_err _ _ (info_in types ask.demand r) e (info_in-walk never h ask request r asked came) is)
-      (λ found is. signed h asked.demands.fits ask found (walked_ok _ _ (info_in types ask.demand r) found (info_in-walk never h ask request r asked came) is)))
+      at_when _ _ (is_over_long r.body) _ _
+      (λ long. record { held = h; ask = ask; request = request; asked = asked; response = r; response_came = came; too_long = long }) (λ short.
+      let answered : InfoAnswered types a answers h ask r = record { request = request; asked = asked; response_came = came; not_too_long = short } in
+      let rests = info_rests types ask (drop 1 answers) request asked.request_made r came never in
+      at_or_as _ _ (info_answer types ask.demand r) _ _
+      (λ e is. info_row h ask r answered e is (subst (Rests types ask (drop 1 answers)) is rests)) (λ found is.
+      signed h asked.demands.fits ask found (record { response = r; answered = answered; info_held = subst (Rests types ask (drop 1 answers)) is rests }))))
 
   -- ---- the whole
 
-  asked_run-walk : NeverWants types → (h : Held AC GC) (m : Meant (SeenAsked Key)) → Walk (IsAskedOf h) Q m
-      → Walk (IsSignedIn types a answers) Q (asked_run types (signed_by h.token h.tokens) (rest_of answers) m).reply
-  asked_run-walk never h (Err e) walk = walk
-  asked_run-walk never h (Ok asked) walk = after_info-walk never h asked.ask asked.request walk
+  prepared_run-walk : NeverWants types → (h : Held AC GC) (m : Meant (SeenPreparedInfo Key)) → Walk (IsAskedOf h) Q m
+      → Walk (IsSignedIn types a answers) Q (prepared_run types (signed_by h.token h.tokens) (drop 1 answers) m).reply
+  prepared_run-walk never h (Err e) walk = walk
+  prepared_run-walk never h (Ok asked) walk = user_with_info-walk never h asked.ask asked.request walk
 
-  info_run-walk : NeverWants types → (h : Held AC GC) → Fits types a answers h → (demand : Option UserInfoDemand) → h.login.user_info ≡ demand
-      → Walk (IsSignedIn types a answers) Q (info_run types a.client demand (signed_by h.token h.tokens) (rest_of answers)).reply
-  info_run-walk never h fits None none = record {
+  demand_run-walk : NeverWants types → (h : Held AC GC) → Fits types a answers h → (demand : Option UserInfoDemand) → h.login.user_info ≡ demand
+      → Walk (IsSignedIn types a answers) Q (demand_run types a.client demand (signed_by h.token h.tokens) (drop 1 answers)).reply
+  demand_run-walk never h fits None none = record {
     held = h;
     holds = fits.accepted.holds;
     accepted = fits.accepted.accepts;
@@ -284,19 +263,19 @@ module _ {AC GC Key Use : Type 0} (types : SiteTypes AC GC Key Use) (a : Attempt
     own_refresh_token = refl;
     info = none;
   }
-  info_run-walk never h fits (Some demand) is = asked_run-walk never h _ (asking-walk h fits demand is)
+  demand_run-walk never h fits (Some demand) is = prepared_run-walk never h _ (prepared_info-walk h fits demand is)
 
   token_run-walk : NeverWants types → (l : SeenLogin) (m : Meant (SeenSignedIn AC GC)) → Walk (IsHeld l) Q m
-      → Walk (IsSignedIn types a answers) Q (token_run types a.client l (rest_of answers) m).reply
+      → Walk (IsSignedIn types a answers) Q (token_run types a.client l (drop 1 answers) m).reply
   token_run-walk never l (Err e) walk = walk
   token_run-walk never l (Ok user) x =
-      subst (λ u. Walk (IsSignedIn types a answers) Q (info_run types a.client l.user_info u (rest_of answers)).reply) x.own
-      (info_run-walk never (held l x.tokens x.token) x.fits l.user_info refl)
+      subst (λ u. Walk (IsSignedIn types a answers) Q (demand_run types a.client l.user_info u (drop 1 answers)).reply) x.own
+      (demand_run-walk never (held l x.tokens x.token) x.fits l.user_info refl)
 
-  opened_run-walk : NeverWants types → (opened : Meant SeenOpened) → Walk IsOpened Q opened → Walk (IsSignedIn types a answers) Q (opened_run types a.client a.now answers opened).reply
-  opened_run-walk never (Err e) walk = walk
-  opened_run-walk never (Ok opened) walk = token_run-walk never opened.login _ (after_token-walk opened.login opened.request walk)
+  taken_run-walk : NeverWants types → (opened : Meant SeenTaken) → Walk IsOpened Q opened → Walk (IsSignedIn types a answers) Q (taken_run types a.client a.now answers opened).reply
+  taken_run-walk never (Err e) walk = walk
+  taken_run-walk never (Ok opened) walk = token_run-walk never opened.login _ (user_of_answer-walk opened.login opened.request walk)
 
   -- a reply rests on its cause, and an Ok on all that signs in
   pub outcome-walk : NeverWants types → Walk (IsSignedIn types a answers) Q (outcome types a answers).reply
-  outcome-walk never = opened_run-walk never (opening a.client a.pending a.query) opening-walk
+  outcome-walk never = taken_run-walk never (taken_login a.client a.pending a.query) taken_login-walk

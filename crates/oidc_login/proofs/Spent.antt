@@ -1,5 +1,5 @@
 -- A login that was taken out is not there for the next callback.
-use Rattle.std.proofs.Common.{◌≡◌, ◌≤◌, ℕ, ◌+◌, suc, List, [], ◌∷◌, ◌++◌, length, take, Bool, true, false, Option, None, Some, Ok, Err, cond, refl, sym, ap, subst, ◌∙◌, arith, inl, inr, ⊎_elim, lit≤}
+use Rattle.std.proofs.Common.{◌≡◌, ◌≤◌, ℕ, ◌+◌, suc, List, [], ◌∷◌, ◌++◌, length, map, take, Bool, true, false, Option, None, Some, Ok, Err, cond, refl, sym, ap, subst, ◌∙◌, arith, inl, inr, ⊎_elim, lit≤}
 use Rattle.std.specs.Prelude.{◌⊎◌, ◌&&◌, not, if◌then◌else◌, option_and_then}
 use Rattle.std.specs.List.{filter, take_while, prefix_len, zip}
 use Rattle.std.specs.FinMap as finite
@@ -12,16 +12,17 @@ use Rattle.url.specs.Parts.{Parts}
 use Rattle.oidc_pairs.specs.Pairs.{pairs}
 use Rattle.oidc_oauth2.specs.Messages.{SeenRequest, SeenAnswer}
 use Rattle.oidc_oauth2.specs.TokenAnswers.{is_over_long}
-use Rattle.oidc_login.specs.Client.{SeenLoginClient}
-use Rattle.oidc_login.specs.SiteTypes.{SiteTypes}
+use Rattle.oidc_login.specs.Types.{SeenLoginClient, SiteTypes}
 use Rattle.oidc_login.specs.Logins.{SeenLogin, Pending}
-use Rattle.oidc_login.specs.Begins.{Begin, Meant as BeginMeant, begin_reply, begin_store}
-use Rattle.oidc_login.specs.Rows.{Attempt, Meant, SeenOpened, state_in, login_named_by, opening, opened_run, outcome}
+use Rattle.oidc_login.specs.Begin.{Begin, Meant as BeginMeant, begin_reply, begin_store}
+use Rattle.oidc_login.specs.BeforeRequest.{state_in, login_named_by}
+use Rattle.oidc_login.specs.Callback.{Attempt, Meant, SeenTaken, taken_login, outcome}
+use Rattle.oidc_login.specs.Steps.{taken_run}
 use Rattle.oidc_login.specs.Causes.{Asks, Cause}
-use Rattle.oidc_login.specs.Events.{Event, begins, calls, Step, called_with, begin_step, callback_step, steps_from, store_of, is_accepted, is_of_state, has_any, begins_again, has_sent, SpentOnce}
+use Rattle.oidc_login.specs.Events.{Call, Event, begins, calls, Step, called_with, begin_step, callback_step, steps_from, store_of, is_accepted, is_of_state, has_any, Turn, has_sent, begins_again, calls_back, turns_behind, SpentOnce}
 use Rattle.oidc_login.proofs.Turns.{turns_dropped}
 use Rattle.oidc_login.proofs.Walks.{Walk}
-use Rattle.oidc_login.proofs.Rows.{opening-walk}
+use Rattle.oidc_login.proofs.Rows.{taken_login-walk}
 
 -- ---- stores at one state
 
@@ -72,25 +73,31 @@ at_most_one : (sent : List SeenRequest) → one_if_any sent ≤ 1
 at_most_one [] = lit≤ tt
 at_most_one (r ∷ later) = lit≤ tt
 
+-- of those that sent anything, one more
+one_counted : {A : Type 0} (sent : List SeenRequest) (x : A) (others : List A) (n : ℕ) → length others ≡ n
+    → length (cond (has_any sent) (x ∷ others) others) ≡ one_if_any sent + n
+one_counted [] x others n rest = omega (arith, rest)
+one_counted (r ∷ later) x others n rest = omega (arith, rest)
+
 -- ---- what a callback sends
 
 module _ {AC GC Key Use : Type 0} (types : SiteTypes AC GC Key Use) (a : Attempt Key) (answers : List SeenAnswer) where
-  abbrev Opens : Meant SeenOpened → Type 0
+  abbrev Opens : Meant SeenTaken → Type 0
   Opens m = Walk (λ o. Asks a o.login o.request) (Cause types a answers) m
 
-  none_sent : (m : Meant SeenOpened) → Opens m → login_named_by a.pending (pairs a.query) ≡ None → one_if_any (opened_run types a.client a.now answers m).sent ≡ 0
+  none_sent : (m : Meant SeenTaken) → Opens m → login_named_by a.pending (pairs a.query) ≡ None → one_if_any (taken_run types a.client a.now answers m).sent ≡ 0
   none_sent (Err e) walk none = refl
   none_sent (Ok o) walk none = let both : Some o.login ≡ None = sym walk.has_code.names.login_named ∙ none in absurd cc
 
   sent_none : login_named_by a.pending (pairs a.query) ≡ None → one_if_any (outcome types a answers).sent ≡ 0
-  sent_none none = none_sent (opening a.client a.pending a.query) (opening-walk types a answers) none
+  sent_none none = none_sent (taken_login a.client a.pending a.query) (taken_login-walk types a answers) none
 
-  sent_or_short : (m : Meant SeenOpened) → Opens m → (one_if_any (opened_run types a.client a.now answers m).sent ≡ 0) ⊎ (is_over_long a.query ≡ false)
+  sent_or_short : (m : Meant SeenTaken) → Opens m → (one_if_any (taken_run types a.client a.now answers m).sent ≡ 0) ⊎ (is_over_long a.query ≡ false)
   sent_or_short (Err e) walk = inl refl
   sent_or_short (Ok o) walk = inr walk.has_code.names.short_query
 
   unsent_or_short : (one_if_any (outcome types a answers).sent ≡ 0) ⊎ (is_over_long a.query ≡ false)
-  unsent_or_short = sent_or_short (opening a.client a.pending a.query) (opening-walk types a answers)
+  unsent_or_short = sent_or_short (taken_login a.client a.pending a.query) (taken_login-walk types a answers)
 
 -- ---- how many callbacks of a state send anything, before the next accepted begin of it
 
@@ -155,22 +162,22 @@ module _ {AC GC Key Use : Type 0} (types : SiteTypes AC GC Key Use) (client : Se
 -- ---- the same among the turns of a run
 
 module _ {AC GC : Type 0} (s : List ℕ) where
-  abbrev goes_on : Event × Step AC GC → Bool
+  abbrev goes_on : Turn AC GC → Bool
   goes_on turn = not (begins_again s turn)
 
-  abbrev sent_among : List (Event × Step AC GC) → ℕ
-  sent_among turns = length (filter (has_sent s) turns)
+  abbrev sent_among : List (Turn AC GC) → ℕ
+  sent_among turns = length (filter (λ (turn : Turn AC GC). has_sent turn.1) (filter (calls_back s) turns))
 
-  begin_counted : (again : Bool) (b : Begin) (step : Step AC GC) (turns : List (Event × Step AC GC)) (n : ℕ) → sent_among turns ≡ n
+  begin_counted : (again : Bool) (b : Begin) (step : Step AC GC) (turns : List (Turn AC GC)) (n : ℕ) → sent_among turns ≡ n
       → sent_among (cond (not again) ((begins b, step) ∷ turns) []) ≡ (if again then 0 else n)
   begin_counted true b step turns n rest = refl
   begin_counted false b step turns n rest = rest
 
-  call_counted : (own : Bool) (sent : List SeenRequest) (turn : Event × Step AC GC) (turns : List (Event × Step AC GC)) (n : ℕ) → sent_among turns ≡ n
-      → length (cond (own && has_any sent) (turn ∷ filter (has_sent s) turns) (filter (has_sent s) turns)) ≡ (if own then one_if_any sent else 0) + n
-  call_counted true [] turn turns n rest = omega (arith, rest)
-  call_counted true (r ∷ later) turn turns n rest = omega (arith, rest)
-  call_counted false sent turn turns n rest = omega (arith, rest)
+  call_counted : (own : Bool) (turn : Turn AC GC) (turns : List (Turn AC GC)) (n : ℕ) → sent_among turns ≡ n
+      → length (filter (λ (turn : Turn AC GC). has_sent turn.1) (cond own (turn ∷ filter (calls_back s) turns) (filter (calls_back s) turns)))
+      ≡ (if own then one_if_any turn.1.sent else 0) + n
+  call_counted true turn turns n rest = one_counted turn.1.sent turn _ n rest
+  call_counted false turn turns n rest = omega (arith, rest)
 
 taken_by : {A : Type 0} (x : A) (xs : List A) (n : ℕ) (b : Bool) → take (cond b (1 + n) 0) (x ∷ xs) ≡ cond b (x ∷ take n xs) []
 taken_by x xs n true =
@@ -183,7 +190,7 @@ taken_more p x xs = taken_by x xs (prefix_len p xs) (p x)
 
 module _ {AC GC Key Use : Type 0} (types : SiteTypes AC GC Key Use) (client : SeenLoginClient Key) where
   -- the turns of events from a store on, up to the next accepted begin of a state
-  abbrev going_on : List ℕ → List Event → Pending → List (Event × Step AC GC)
+  abbrev going_on : List ℕ → List Event → Pending → List (Turn AC GC)
   going_on s later m = take_while (goes_on s) (zip later (steps_from types client m later))
 
   counted : (s : List ℕ) (later : List Event) (m : Pending) → sent_among s (going_on s later m) ≡ sending types client s m later
@@ -194,13 +201,48 @@ module _ {AC GC Key Use : Type 0} (types : SiteTypes AC GC Key Use) (client : Se
       (counted s later (begin_step types client m b).pending)
   counted s (calls c ∷ later) m =
       ap (sent_among s) (taken_more (goes_on s) (calls c, callback_step types client m c) _)
-      ∙ call_counted s (is_of_state s (state_in (pairs c.query))) (callback_step types client m c).sent (calls c, callback_step types client m c) (going_on s later (callback_step types client m c).pending) _
+      ∙ call_counted s (is_of_state s (state_in (pairs c.query))) (calls c, callback_step types client m c) (going_on s later (callback_step types client m c).pending) _
       (counted s later (callback_step types client m c).pending)
+
+-- ---- the run of a begin and its callbacks alone
+
+module _ {AC GC Key Use : Type 0} (types : SiteTypes AC GC Key Use) (client : SeenLoginClient Key) (s : List ℕ) where
+  -- the callbacks of a state among turns, as events
+  abbrev calls_among : List (Turn AC GC) → List Event
+  calls_among turns = map (λ turn. turn.0) (filter (calls_back s) turns)
+
+  abbrev sent_by : Pending → List Event → ℕ
+  sent_by m events = length (filter has_sent (steps_from types client m events))
+
+  own_call_counted : (own : Bool) (c : Call) (events : List Event) (m : Pending) → is_of_state s (state_in (pairs c.query)) ≡ own
+      → ((n : Pending) → sent_by n events ≡ sending types client s n events)
+      → sent_by m (cond own (calls c ∷ events) events) ≡ sending types client s m (cond own (calls c ∷ events) events)
+  own_call_counted true c events m own rest =
+      let next = callback_step types client m c in
+      one_counted next.sent next (filter has_sent (steps_from types client next.pending events)) _ (rest next.pending)
+      ∙ ap (λ o. (if o then one_if_any next.sent else 0) + sending types client s next.pending events) (sym own)
+  own_call_counted false c events m own rest = rest m
+
+  mapped : (own : Bool) (turn : Turn AC GC) (turns : List (Turn AC GC)) → map (λ (t : Turn AC GC). t.0) (cond own (turn ∷ turns) turns) ≡ cond own (turn.0 ∷ map (λ (t : Turn AC GC). t.0) turns) (map (λ (t : Turn AC GC). t.0) turns)
+  mapped true turn turns = refl
+  mapped false turn turns = refl
+
+  alone_counted : (turns : List (Turn AC GC)) (m : Pending) → sent_by m (calls_among turns) ≡ sending types client s m (calls_among turns)
+  alone_counted [] m = refl
+  alone_counted ((begins b, step) ∷ turns) m = alone_counted turns m
+  alone_counted ((calls c, step) ∷ turns) m =
+      let own = is_of_state s (state_in (pairs c.query)) in
+      subst (λ events. sent_by m events ≡ sending types client s m events) (sym (mapped own (calls c, step) (filter (calls_back s) turns)))
+      (own_call_counted own c (calls_among turns) m refl (alone_counted turns))
 
 module _ {AC GC Key Use : Type 0} (types : SiteTypes AC GC Key Use) where
   pub spent_once : SpentOnce types
   spent_once client earlier later b =
       let s = b.request.state in
       let m = store_of types client (earlier ++ begins b ∷ []) in
-      subst (λ (turns : List (Event × Step AC GC)). sent_among s (take_while (goes_on s) turns) ≤ 1) (sym (turns_dropped types client earlier (begins b) later finite.empty))
-      (subst (λ n. n ≤ 1) (sym (counted types client s later m)) (sending_once types client s later m))
+      let turns = turns_behind types client earlier b later in
+      let begun = (begin_step types client finite.empty b).pending in (
+        subst (λ (turns : List (Turn AC GC)). sent_among s (take_while (goes_on s) turns) ≤ 1) (sym (turns_dropped types client earlier (begins b) later finite.empty))
+            (subst (λ n. n ≤ 1) (sym (counted types client s later m)) (sending_once types client s later m)),
+        subst (λ n. n ≤ 1) (sym (alone_counted types client s turns begun)) (sending_once types client s (calls_among types client s turns) begun),
+      )

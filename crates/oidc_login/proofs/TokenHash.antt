@@ -1,20 +1,23 @@
 -- The hash beside an accepted ID token is that of its algorithm under its key, and what its rows say.
-use Rattle.std.proofs.Common.{◌≡◌, ◌≢◌, ℕ, List, Bool, true, false, Some, Ok, Err, refl, sym, ap, ◌∙◌}
+use Rattle.std.proofs.Common.{◌≡◌, ◌≢◌, ℕ, List, Bool, true, false, Option, Some, Result, Ok, refl, sym, ap, ◌∙◌}
 use Rattle.std.specs.Prelude.{not}
 use Rattle.std.specs.Option.{ok_or}
 use Rattle.std.specs.Str.{bytes_eq}
 use Rattle.std.proofs.lemmas.Slice.Eq.{bytes_eq-Decides}
 use Rattle.oidc_types.specs.{signing_text}
+use Rattle.oidc_types.specs.declared.signing_error.SigningError.{SigningError}
 use Rattle.oidc_types.specs.declared.signing_error.SigningError.TheVariants.{UnsupportedAlg}
 use Rattle.oidc_types.specs.declared.core_algorithms.CoreJwsSigningAlgorithm.{CoreJwsSigningAlgorithm}
 use Rattle.oidc_jwt.specs.declared.header.JsonWebTokenAlgorithm.TheVariants as algorithm
 use Rattle.oidc_tokens.specs.Hashes.{hashing, hash_or_refusal}
 use Rattle.oidc_tokens.specs.Signatures.{signing_alg, key_for}
-use Rattle.oidc_login.specs.SiteTypes.{SiteTypes}
-use Rattle.oidc_login.specs.IdTokens.{SeenIdToken, KeyVerifier}
-use Rattle.oidc_login.specs.TokenHash.{hash_under, hashing_found, or_no_hash, hash_beside}
-use Rattle.oidc_oauth2.specs.Replies.{◌>>=◌, ◌when◌}
-use Rattle.oidc_login.specs.Rows.{Meant, hash_rows}
+use Rattle.oidc_tokens.specs.declared.verification.refusals.ClaimsVerificationError.{ClaimsVerificationError}
+use Rattle.oidc_oauth2.specs.Replies.{◌>>=◌, ◌>>◌, ◌when◌, ◌for◌}
+use Rattle.oidc_login.specs.Types.{SiteTypes, SeenLoginClient}
+use Rattle.oidc_login.specs.Token.{SeenIdToken, KeyVerifier, verifier_of, claimed_hash, hash_under, hashing_found, or_no_hash, hash_beside, refusal_of_claim, claims_another}
+use Rattle.oidc_login.specs.SignedIn.{SeenSignedIn, signed_by}
+use Rattle.oidc_login.specs.Callback.{Meant}
+use Rattle.oidc_login.specs.Causes.{Held}
 use Rattle.oidc_login.specs.declared.errors.LoginError.TheVariants as login
 
 module _ {AC GC Key Use : Type 0} (types : SiteTypes AC GC Key Use) (v : KeyVerifier Key) (token : SeenIdToken AC GC) (alg : CoreJwsSigningAlgorithm) (key : Key)
@@ -48,13 +51,24 @@ same_by xs ys false equal is = cc
 pub same_back : (xs ys : List ℕ) → not (bytes_eq xs ys) ≡ false → xs ≡ ys
 same_back xs ys is = same_by xs ys (bytes_eq xs ys) refl is
 
-abbrev when_other : Bool → Meant (Unit {0})
-when_other equal = login.TokenHash when not equal
-
 -- another hash is claimed
-pub other_claim : (claim hash : List ℕ) → hash ≢ claim → hash_rows (Some claim) (Ok hash) ≡ Err login.TokenHash
-other_claim claim hash other = ap when_other (differ hash claim other)
+pub other_claim : (claim hash : List ℕ) → hash ≢ claim → claims_another (Some claim) (Ok hash) ≡ true
+other_claim claim hash other = ap not (differ hash claim other)
 
 -- the own hash is claimed
-pub own_claim : (claim : List ℕ) → hash_rows (Some claim) (Ok claim) ≡ Ok tt
-own_claim claim = ap when_other ((bytes_eq-Decides claim claim).1 refl)
+pub own_claim : (claim : List ℕ) → claims_another (Some claim) (Ok claim) ≡ false
+own_claim claim = ap not ((bytes_eq-Decides claim claim).1 refl)
+
+-- ---- the rows on an ID token that came: from the first check that fails on, and from the hash on
+
+module _ {AC GC : Type 0} (h : Held AC GC) where
+  abbrev pub by_claim : Bool → Meant (SeenSignedIn AC GC)
+  by_claim another = (login.TokenHash when another) >> Ok (signed_by h.token h.tokens)
+
+  abbrev pub by_hash : Option (List ℕ) → Result (List ℕ) SigningError → Meant (SeenSignedIn AC GC)
+  by_hash claim hash = (login.Signing for refusal_of_claim claim hash) >> by_claim (claims_another claim hash)
+
+module _ {AC GC Key Use : Type 0} (types : SiteTypes AC GC Key Use) (client : SeenLoginClient Key) (h : Held AC GC) where
+  abbrev pub by_check : Option ClaimsVerificationError → Meant (SeenSignedIn AC GC)
+  by_check failure =
+      (login.Claims for failure) >> by_hash h (claimed_hash h.token) (hash_beside types (verifier_of types client) h.token h.tokens.access_token)

@@ -1,5 +1,5 @@
 -- A valid login signs in.
-use Rattle.std.proofs.Common.{◌≡◌, ℕ, List, false, Option, None, Some, refl, sym, ap, ◌∙◌, inl, ⊎_elim}
+use Rattle.std.proofs.Common.{◌≡◌, ℕ, List, drop, false, Option, None, Some, refl, sym, ap, ◌∙◌, inl, ⊎_elim}
 use Rattle.std.specs.Prelude.{option_map}
 use Rattle.oidc_oauth2.specs.Messages.{SeenResponse, SeenAnswer}
 use Rattle.oidc_oauth2.specs.Transport.{first_answer}
@@ -8,15 +8,14 @@ use Rattle.oidc_user_info.specs.UserInfoClaims.{SeenUserInfoClaims}
 use Rattle.oidc_user_info.specs.InfoRequests.{SeenInfoRequest}
 use Rattle.oidc_user_info.specs.InfoCauses.{IsAsked, Fits as FitsAnswer, HoldsObject, ReadsObject, IsUserInfo}
 use Rattle.oidc_client.specs.Client.{info_request_at}
-use Rattle.oidc_login.specs.SiteTypes.{SiteTypes}
-use Rattle.oidc_login.specs.TokenResponse.{Tokens, error_read, tokens_read}
-use Rattle.oidc_login.specs.IdTokens.{subject_of}
+use Rattle.oidc_login.specs.Types.{SiteTypes}
+use Rattle.oidc_login.specs.Token.{Tokens, error_read, tokens_read, subject_of}
 use Rattle.oidc_login.specs.SignedIn.{SeenSignedIn}
 use Rattle.oidc_login.specs.UserInfo.{demanded, info_ask}
-use Rattle.oidc_login.specs.Rows.{Attempt, rest_of}
+use Rattle.oidc_login.specs.Callback.{Attempt}
 use Rattle.oidc_login.specs.Causes.{Names, HasCode, Asks, Held, Answered, Reads, Holds, Accepted, Fits, Demands, AsksInfo, InfoAnswered, HoldsInfo, IsSignedIn}
 use Rattle.oidc_login.specs.ValidLogin.{IsValidTokenAnswer, IsValidInfoAnswer, IsValidInfo, IsValidLogin}
-use Rattle.oidc_login.specs.declared.demand.UserInfoDemand.{UserInfoDemand}
+use Rattle.oidc_login.specs.declared.types.UserInfoDemand.{UserInfoDemand}
 use Rattle.oidc_login.proofs.Asked.{made}
 
 module _ {AC GC Key Use : Type 0} (types : SiteTypes AC GC Key Use) where
@@ -100,7 +99,7 @@ module _ {AC GC Key Use : Type 0} (types : SiteTypes AC GC Key Use) where
             ask = ask;
             response = i.response;
             answered = answered;
-            info_held = info_held ask (rest_of answers) (subject_of v.token) i.found i.response (record { token_fits = i.header_text; address_fits = i.address }) i.response_came
+            info_held = info_held ask (drop 1 answers) (subject_of v.token) i.found i.response (record { token_fits = i.header_text; address_fits = i.address }) i.response_came
                 i.info_answer i.unsigned_allowed refl;
           }
 

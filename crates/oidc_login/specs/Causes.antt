@@ -1,5 +1,5 @@
 -- What each reply to a callback rests on, said without the table.
-use Rattle.std.specs.Prelude.{◌≡◌, ◌≢◌, ◌⊎◌, ℕ, List, [], Option, None, Some, false, true, Ok, codes}
+use Rattle.std.specs.Prelude.{◌≡◌, ◌≢◌, ◌⊎◌, ℕ, List, [], drop, Option, None, Some, false, true, Ok, codes}
 use Rattle.http_header.specs.FieldValue.{is_visible_text}
 use Rattle.oidc_pairs.specs.Pairs.{pairs, values, only_of}
 use Rattle.oidc_types.specs.{signing_text}
@@ -20,17 +20,15 @@ use Rattle.oidc_user_info.specs.InfoRequests.{SeenInfoRequest, info_request}
 use Rattle.oidc_user_info.specs.InfoCauses as info_causes
 use Rattle.oidc_user_info.specs.declared.errors.InfoOther.TheVariants as info_other
 use Rattle.oidc_user_info.specs.declared.errors.UserInfoError.TheVariants as info_error
-use Rattle.oidc_login.specs.SiteTypes.{SiteTypes}
+use Rattle.oidc_login.specs.Types.{SiteTypes}
 use Rattle.oidc_login.specs.Logins.{SeenLogin}
-use Rattle.oidc_login.specs.TokenRequest.{token_request}
-use Rattle.oidc_login.specs.TokenResponse.{Tokens, TokenError, error_read, tokens_read}
-use Rattle.oidc_login.specs.IdTokens.{SeenIdToken, subject_of, IsAcceptedBy, failure_for, FailsFor}
-use Rattle.oidc_login.specs.TokenHash.{claimed_hash, hash_under, FitsHash}
+use Rattle.oidc_login.specs.BeforeRequest.{token_request, login_named_by, error_in}
+use Rattle.oidc_login.specs.Token.{Tokens, TokenError, error_read, tokens_read, SeenIdToken, subject_of, IsAcceptedBy, failure_for, FailsFor, claimed_hash, hash_under, FitsHash}
 use Rattle.oidc_login.specs.SignedIn.{SeenSignedIn}
 use Rattle.oidc_login.specs.UserInfo.{info_ask}
 use Rattle.oidc_login.specs.Errors.{Error}
-use Rattle.oidc_login.specs.Rows.{Attempt, login_named_by, error_in, rest_of}
-use Rattle.oidc_login.specs.declared.demand.UserInfoDemand.{UserInfoDemand}
+use Rattle.oidc_login.specs.Callback.{Attempt}
+use Rattle.oidc_login.specs.declared.types.UserInfoDemand.{UserInfoDemand}
 use Rattle.oidc_login.specs.declared.errors.TooLong.{TooLong}
 use Rattle.oidc_login.specs.declared.errors.TooLong.TheVariants as place
 use Rattle.oidc_login.specs.declared.errors.LoginError.TheVariants as login
@@ -149,7 +147,7 @@ module _ {AC GC Key Use : Type 0} (types : SiteTypes AC GC Key Use) (a : Attempt
   pub record InfoAnswered (h : Held AC GC) (ask : SeenInfoRequest Key) (response : SeenResponse) : Type 0 where
     pub request : SeenRequest
     pub asked : AsksInfo h ask request
-    pub response_came : first_answer (rest_of answers) ≡ Some response
+    pub response_came : first_answer (drop 1 answers) ≡ Some response
     pub not_too_long : is_over_long response.body ≡ false
 
   -- and holds this user info
@@ -157,7 +155,7 @@ module _ {AC GC Key Use : Type 0} (types : SiteTypes AC GC Key Use) (a : Attempt
     pub ask : SeenInfoRequest Key
     pub response : SeenResponse
     pub answered : InfoAnswered h ask response
-    pub info_held : info_causes.IsUserInfo ask (rest_of answers) types found
+    pub info_held : info_causes.IsUserInfo ask (drop 1 answers) types found
 
   -- user info is there exactly where the login demands it
   abbrev pub HasInfo : Held AC GC → Option (SeenUserInfoClaims AC GC) → Type 0
@@ -268,7 +266,7 @@ module _ {AC GC Key Use : Type 0} (types : SiteTypes AC GC Key Use) (a : Attempt
     pub ask : SeenInfoRequest Key
     pub request : SeenRequest
     pub asked : AsksInfo held ask request
-    pub no_response : first_answer (rest_of answers) ≡ None
+    pub no_response : first_answer (drop 1 answers) ≡ None
 
   -- the body of its response is too long
   pub record HasLongInfo : Type 0 where
@@ -277,7 +275,7 @@ module _ {AC GC Key Use : Type 0} (types : SiteTypes AC GC Key Use) (a : Attempt
     pub request : SeenRequest
     pub asked : AsksInfo held ask request
     pub response : SeenResponse
-    pub response_came : first_answer (rest_of answers) ≡ Some response
+    pub response_came : first_answer (drop 1 answers) ≡ Some response
     pub too_long : is_over_long response.body ≡ true
 
   -- its response is refused: by its status, by its media type, as unsigned, or by what it says
@@ -286,7 +284,7 @@ module _ {AC GC Key Use : Type 0} (types : SiteTypes AC GC Key Use) (a : Attempt
     pub ask : SeenInfoRequest Key
     pub response : SeenResponse
     pub answered : InfoAnswered held ask response
-    pub cause : info_causes.Cause ask (rest_of answers) types e
+    pub cause : info_causes.Cause ask (drop 1 answers) types e
 
   -- ---- the cause of each refusal
 

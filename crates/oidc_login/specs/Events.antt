@@ -6,13 +6,13 @@ use Rattle.std.specs.Str.{bytes_eq}
 use Rattle.url.specs.Parts.{Parts}
 use Rattle.oidc_pairs.specs.Pairs.{pairs}
 use Rattle.oidc_oauth2.specs.Messages.{SeenRequest, SeenAnswer}
-use Rattle.oidc_login.specs.Client.{SeenLoginClient}
-use Rattle.oidc_login.specs.SiteTypes.{SiteTypes}
+use Rattle.oidc_login.specs.Types.{SeenLoginClient, SiteTypes}
 use Rattle.oidc_login.specs.Logins.{Pending}
-use Rattle.oidc_login.specs.Begins.{Begin, Meant as BeginMeant, begin_reply, begin_store}
+use Rattle.oidc_login.specs.Begin.{Begin, Meant as BeginMeant, begin_reply, begin_store}
 use Rattle.oidc_login.specs.SignedIn.{SeenSignedIn}
-use Rattle.oidc_login.specs.Rows.{Attempt, Meant, state_in, outcome, callback_store}
-use Rattle.oidc_login.specs.Runs.{start}
+use Rattle.oidc_login.specs.BeforeRequest.{state_in}
+use Rattle.oidc_login.specs.Callback.{Attempt, Meant, outcome, callback_store}
+use Rattle.oidc_login.specs.Runs.{attempt_by}
 use Rattle.oidc_login.specs.ValidLogin.{IsValidLogin}
 
 -- a callback: its query, its moment, and the answers that its requests get
@@ -36,7 +36,7 @@ pub record Step (AC GC : Type 0) : Type 0 where
   pub pending : Pending
 
 abbrev pub called_with : {Key : Type 0} → SeenLoginClient Key → Pending → Call → Attempt Key
-called_with client pending c = start client pending c.query c.now
+called_with client pending c = attempt_by client pending c.query c.now
 
 module _ {AC GC Key Use : Type 0} (types : SiteTypes AC GC Key Use) (client : SeenLoginClient Key) where
   abbrev pub begin_step : Pending → Begin → Step AC GC
@@ -89,42 +89,59 @@ abbrev pub has_any : List SeenRequest → Bool
 has_any [] = false
 has_any (request ∷ later) = true
 
+-- a turn of a run: an event, and its step
+abbrev pub Turn : Type 0 → Type 0 → Type 0
+Turn AC GC = Event × Step AC GC
+
 module _ {AC GC : Type 0} where
   abbrev pub is_begun : Reply AC GC → Bool
   is_begun (begun reply) = is_accepted reply
   is_begun (called reply) = false
 
-  -- an event and its step: an accepted begin of this state
-  abbrev pub begins_again : List ℕ → Event × Step AC GC → Bool
+  -- a step that sent something
+  abbrev pub has_sent : Step AC GC → Bool
+  has_sent s = has_any s.sent
+
+  -- an accepted begin of this state
+  abbrev pub begins_again : List ℕ → Turn AC GC → Bool
   begins_again state (begins b, s) = is_begun s.reply && bytes_eq state b.request.state
   begins_again state (calls c, s) = false
 
-  -- a callback of this state, which sent something
-  abbrev pub has_sent : List ℕ → Event × Step AC GC → Bool
-  has_sent state (begins b, s) = false
-  has_sent state (calls c, s) = is_of_state state (state_in (pairs c.query)) && has_any s.sent
+  -- a callback whose query has one state, and it is this
+  abbrev pub calls_back : List ℕ → Turn AC GC → Bool
+  calls_back state (begins b, s) = false
+  calls_back state (calls c, s) = is_of_state state (state_in (pairs c.query))
 
 module _ {AC GC Key Use : Type 0} (types : SiteTypes AC GC Key Use) where
-  -- the turns of a run: its events, each with its step
-  abbrev pub turns_of : SeenLoginClient Key → List Event → List (Event × Step AC GC)
+  abbrev pub turns_of : SeenLoginClient Key → List Event → List (Turn AC GC)
   turns_of client events = zip events (run_of types client events)
 
   abbrev pub replies_of : SeenLoginClient Key → List Event → List (Reply AC GC)
   replies_of client events = map (λ s. s.reply) (run_of types client events)
 
   -- the turns behind a begin, up to the next accepted begin of its state
-  abbrev pub turns_behind : SeenLoginClient Key → List Event → Begin → List Event → List (Event × Step AC GC)
+  abbrev pub turns_behind : SeenLoginClient Key → List Event → Begin → List Event → List (Turn AC GC)
   turns_behind client earlier b later =
       take_while (λ turn. not (begins_again b.request.state turn))
       (drop (suc (length earlier)) (turns_of client (earlier ++ begins b ∷ later)))
 
+  -- The callbacks of a begin: those with one state, its own, behind it and before the next accepted begin of that state.
+  abbrev pub callbacks_of : SeenLoginClient Key → List Event → Begin → List Event → List (Turn AC GC)
+  callbacks_of client earlier b later = filter (calls_back b.request.state) (turns_behind client earlier b later)
+
+  -- the begin and these alone
+  abbrev pub alone : SeenLoginClient Key → List Event → Begin → List Event → List Event
+  alone client earlier b later = begins b ∷ map (λ turn. turn.0) (callbacks_of client earlier b later)
+
   -- ---- the laws
 
-  -- Of the callbacks of one begin at most one sends anything, whatever came before and comes between.
+  -- Of the callbacks of one begin at most one sends anything, whatever came before and comes between; nor does more than
+  -- one in the run of the begin and these alone.
   abbrev pub SpentOnce : Type 0
   SpentOnce =
       (client : SeenLoginClient Key) (earlier later : List Event) (b : Begin)
-      → length (filter (has_sent b.request.state) (turns_behind client earlier b later)) ≤ 1
+      → (length (filter (λ turn. has_sent turn.1) (callbacks_of client earlier b later)) ≤ 1)
+      × (length (filter has_sent (run_of types client (alone client earlier b later))) ≤ 1)
 
   -- A callback that is a valid login signs in, whatever came before and comes behind: its reply is the first behind
   -- those to the earlier events.

@@ -1,19 +1,16 @@
--- In reading order: the types that a site brings; the client; the ID tokens that it accepts; pending logins, what a
--- begin answers and what it leaves; the token request and its answer, and the hash of its access token; the request
--- for user info; the table of a callback, what each reply rests on, which logins are valid, and what a callback
--- leaves of a transport and of the store; begins and callbacks, one after another.
-pub mod SiteTypes
-pub mod Client
-pub mod IdTokens
+-- In reading order: what a site brings; pending logins, what a begin answers and what it leaves; what the query of a
+-- callback names and the token request; its answer with the ID token and the hash in it; the request for user info; who
+-- is signed in; the table of a callback, what each reply rests on, which logins are valid, and what a callback leaves of
+-- a transport and of the store; begins and callbacks, one after another.
+pub mod Types
 pub mod Logins
-pub mod Begins
-pub mod TokenRequest
-pub mod TokenResponse
-pub mod TokenHash
+pub mod Begin
+pub mod BeforeRequest
+pub mod Token
 pub mod UserInfo
 pub mod SignedIn
 pub mod Errors
-pub mod Rows
+pub mod Callback
 pub mod Causes
 pub mod ValidLogin
 pub mod Runs

@@ -10,8 +10,8 @@ use Rattle.oidc_types.specs.UrlText.{text_and_url_code}
 use Rattle.oidc_oauth2.specs.Pkce.{is_verifier}
 use Rattle.oidc_user_info.specs.declared.requests.UserInfoResponseType.{UserInfoResponseType}
 use Rattle.oidc_user_info.specs.declared.requests.UserInfoResponseType.TheVariants.{Json, Jwt}
-use Rattle.oidc_login.specs.Client.{SeenLoginClient}
-use Rattle.oidc_login.specs.declared.demand.UserInfoDemand.{UserInfoDemand}
+use Rattle.oidc_login.specs.Types.{SeenLoginClient}
+use Rattle.oidc_login.specs.declared.types.UserInfoDemand.{UserInfoDemand}
 
 -- what is kept of a login beside its state
 pub record SeenLogin : Type 0 where

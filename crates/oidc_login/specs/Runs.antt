@@ -5,12 +5,11 @@ use Rattle.oidc_oauth2.specs.Messages.{SeenRequest, SeenAnswer}
 use Rattle.oidc_oauth2.specs.Replies.{Unless, OrMemory, Gives}
 use Rattle.oidc_oauth2.specs.Exchanges.{Known, Follows}
 use Rattle.oidc_user_info.specs.InfoRequests.{SeenInfoRequest}
-use Rattle.oidc_login.specs.SiteTypes.{SiteTypes}
+use Rattle.oidc_login.specs.Types.{SiteTypes, SeenLoginClient}
 use Rattle.oidc_login.specs.Logins.{SeenLogin, Pending, SeenLogins}
-use Rattle.oidc_login.specs.Client.{SeenLoginClient}
 use Rattle.oidc_login.specs.SignedIn.{SeenSignedIn}
 use Rattle.oidc_login.specs.Errors.{Error, seen, wants_memory, is_spent_by, login_errors}
-use Rattle.oidc_login.specs.Rows.{Attempt, outcome, without_named}
+use Rattle.oidc_login.specs.Callback.{Attempt, outcome, without_named}
 use Rattle.oidc_login.specs.Causes.{Asks, Held, AsksInfo, Cause, IsSignedIn}
 use Rattle.oidc_login.specs.ValidLogin.{IsValidLogin}
 use Rattle.oidc_login.specs.declared.errors.LoginError.{LoginError}
@@ -62,13 +61,13 @@ module _ {AC GC Key Use : Type 0} (types : SiteTypes AC GC Key Use) where
 
 -- ---- where a callback starts, and what it leaves of the store
 
-abbrev pub start : {Key : Type 0} → SeenLoginClient Key → Pending → List ℕ → ℤ → Attempt Key
-start client pending query now =
+abbrev pub attempt_by : {Key : Type 0} → SeenLoginClient Key → Pending → List ℕ → ℤ → Attempt Key
+attempt_by client pending query now =
     record { client = client; pending = pending; query = query; now = now }
 
 -- a callback with this query, at this moment
 abbrev pub attempt : {Key : Type 0} → SeenLogins Key → List ℕ → ℤ → Attempt Key
-attempt logins query now = start logins.client logins.pending query now
+attempt logins query now = attempt_by logins.client logins.pending query now
 
 -- the login that the query names is removed where the result says so, and nothing else
 abbrev pub Leaves : {Key A E : Type 0} → Attempt Key → Pending → Result A (LoginError E) → Type 0

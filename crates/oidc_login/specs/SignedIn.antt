@@ -2,8 +2,7 @@
 use Rattle.std.specs.Prelude.{◌≡◌, ℕ, List, true, Option, None, Some, is_some}
 use Rattle.std.proofs.lemmas.Bool.{false≢true}
 use Rattle.oidc_user_info.specs.UserInfoClaims.{SeenUserInfoClaims}
-use Rattle.oidc_login.specs.IdTokens.{SeenIdToken}
-use Rattle.oidc_login.specs.TokenResponse.{Tokens}
+use Rattle.oidc_login.specs.Token.{SeenIdToken, Tokens}
 
 -- the ID token with its claims, the access token and any refresh token that came beside it, and user info, where
 -- the login asks for it

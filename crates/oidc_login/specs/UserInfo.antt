@@ -3,8 +3,8 @@
 use Rattle.std.specs.Prelude.{ℕ, List, Option, Some, option_map}
 use Rattle.oidc_user_info.specs.InfoRequests.{SeenInfoRequest}
 use Rattle.oidc_client.specs.Client.{info_request_at}
-use Rattle.oidc_login.specs.Client.{SeenLoginClient}
-use Rattle.oidc_login.specs.declared.demand.UserInfoDemand.{UserInfoDemand}
+use Rattle.oidc_login.specs.Types.{SeenLoginClient}
+use Rattle.oidc_login.specs.declared.types.UserInfoDemand.{UserInfoDemand}
 
 module _ {Key : Type 0} where
   -- a request with the four values of a demand

@@ -1,6 +1,6 @@
 -- A login that is valid, said at once, without the table of a callback: RFC 6749 section 4.1, OpenID Connect Core
 -- 1.0 sections 3.1.3.3 to 3.1.3.8, 5.3.1 and 5.3.2.
-use Rattle.std.specs.Prelude.{◌≡◌, ◌⊎◌, ℕ, List, [], None, Some, false, true, Ok, codes}
+use Rattle.std.specs.Prelude.{◌≡◌, ◌⊎◌, ℕ, List, [], drop, None, Some, false, true, Ok, codes}
 use Rattle.http_header.specs.FieldValue.{is_visible_text}
 use Rattle.oidc_pairs.specs.Pairs.{pairs, values, only_of}
 use Rattle.oidc_oauth2.specs.Messages.{SeenRequest, SeenResponse, SeenAnswer}
@@ -10,14 +10,12 @@ use Rattle.oidc_oauth2.specs.TokenAnswers.{is_over_long, is_empty, may_be_json, 
 use Rattle.oidc_user_info.specs.UserInfoClaims.{SeenUserInfoClaims}
 use Rattle.oidc_user_info.specs.InfoAnswers.{claims_in}
 use Rattle.oidc_types.specs.{TextAndUrl}
-use Rattle.oidc_login.specs.SiteTypes.{SiteTypes}
+use Rattle.oidc_login.specs.Types.{SiteTypes}
 use Rattle.oidc_login.specs.Logins.{SeenLogin}
-use Rattle.oidc_login.specs.TokenRequest.{token_request}
-use Rattle.oidc_login.specs.TokenResponse.{Tokens, tokens_read}
-use Rattle.oidc_login.specs.IdTokens.{SeenIdToken, subject_of, IsAcceptedBy}
-use Rattle.oidc_login.specs.TokenHash.{FitsHash}
-use Rattle.oidc_login.specs.Rows.{Attempt, login_named_by, rest_of}
-use Rattle.oidc_login.specs.declared.demand.UserInfoDemand.{UserInfoDemand}
+use Rattle.oidc_login.specs.BeforeRequest.{token_request, login_named_by}
+use Rattle.oidc_login.specs.Token.{Tokens, tokens_read, SeenIdToken, subject_of, IsAcceptedBy, FitsHash}
+use Rattle.oidc_login.specs.Callback.{Attempt}
+use Rattle.oidc_login.specs.declared.types.UserInfoDemand.{UserInfoDemand}
 
 module _ {AC GC Key Use : Type 0} (types : SiteTypes AC GC Key Use) where
   -- a response of status 200 and media type JSON, or none, whose body of 1 to 1,048,576 bytes reads as these tokens
@@ -46,7 +44,7 @@ module _ {AC GC Key Use : Type 0} (types : SiteTypes AC GC Key Use) where
       pub own_endpoint : a.client.user_info_url ≡ Some endpoint
       pub address : is_address endpoint.text ≡ true
       pub response : SeenResponse
-      pub response_came : first_answer (rest_of answers) ≡ Some response
+      pub response_came : first_answer (drop 1 answers) ≡ Some response
       pub found : SeenUserInfoClaims AC GC
       pub info_answer : IsValidInfoAnswer subject found response
 

@@ -1,7 +1,7 @@
 //! Laws of whole runs, each the contract of a function that does nothing; and the laws on the claims of ID tokens and
 //! of user info, passed on.
 
-ghost use Rattle.oidc_login.specs.SiteTypes.{site_types};
+ghost use Rattle.oidc_login.specs.Types.{site_types};
 ghost use Rattle.oidc_login.specs.Events.{SpentOnce, ValidSignsIn};
 
 use oidc_claims::{AdditionalClaims, GenderClaim};
@@ -10,9 +10,9 @@ pub use oidc_tokens::laws::claims_one_home;
 use oidc_types::CoreJwsSigningAlgorithm;
 pub use oidc_user_info::laws::info_claims_one_home;
 
-/// Of the callbacks of one begin, up to the next accepted begin of its state, at most one sends anything: in the run of
-/// every list of begins and callbacks, over every client.
-#[tactic(auto, using(crate::proofs::Spent::spent_once))]
+/// Of the callbacks of one begin, which are those of its state up to the next accepted begin of that, at most one sends
+/// anything: in the run of every list of begins and callbacks, over every client, and in that of the begin and these
+/// alone.
 pub fn spent_once<
     AC: AdditionalClaims,
     GC: GenderClaim,
@@ -24,7 +24,6 @@ pub fn spent_once<
 {}
 
 /// A callback that is a valid login signs in, whatever begins and callbacks came before and come behind.
-#[tactic(auto, using(crate::proofs::Valid::valid_signs_in))]
 pub fn valid_signs_in<
     AC: AdditionalClaims,
     GC: GenderClaim,

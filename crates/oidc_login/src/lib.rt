@@ -19,7 +19,7 @@
 //! that for the code, and behind an accepted ID token that for user info. Unless the named login is gone
 //! afterwards, the transport is as it was. A callback leaves every other login as it was. Every refusal but want of
 //! memory has its cause, and a valid login is signed in, or the answer is want of memory. The contracts of `begin` and
-//! `callback` say so by the definitions in `specs/`: the table of a callback in `specs/Rows.antt`, what each reply
+//! `callback` say so by the definitions in `specs/`: the table of a callback in `specs/Callback.antt`, what each reply
 //! rests on in `specs/Causes.antt`, a valid login in `specs/ValidLogin.antt`, and all together as `Ran` in
 //! `specs/Runs.antt`; whole runs in `specs/Events.antt`.
 //!
@@ -35,19 +35,16 @@
 //! Core 1.0 (sections 2, 3.1.2.1, 3.1.3.3, 3.1.3.6, 3.1.3.7, 5.3.2 and 5.3.4).
 #![tactic(auto)]
 
-mod begins;
-mod client;
-mod demand;
+mod begin;
+mod callback;
 mod errors;
 pub mod laws;
 mod logins;
 mod signed_in;
-mod steps;
 mod store;
-mod user_info;
+mod types;
 
-pub use client::{LoginClient, LoginRequest, MetadataClient};
-pub use demand::UserInfoDemand;
 pub use errors::{BeginError, LoginError, NewLoginsError, TooLong};
 pub use logins::Logins;
 pub use signed_in::{LoginIdToken, SignedIn};
+pub use types::{LoginClient, LoginRequest, MetadataClient, UserInfoDemand};

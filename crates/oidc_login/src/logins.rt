@@ -11,24 +11,23 @@ ghost use Rattle.oidc_oauth2.specs.TokenAnswers.{is_over_long};
 ghost use Rattle.oidc_client.specs.Authorization.{HasChallenge, IsUnmanagedBeside, StandOnce};
 ghost use Rattle.oidc_types.specs.declared.core_authorization.CoreAuthErrorResponseType.{CoreAuthErrorResponseType};
 ghost use Rattle.oidc_login.specs.Errors.{hides_memory, is_spent_by, login_errors};
-ghost use Rattle.oidc_login.specs.SiteTypes.{site_types};
-ghost use Rattle.oidc_login.specs.IdTokens.{subject_of, IsAcceptedBy};
-ghost use Rattle.oidc_login.specs.TokenHash.{HasOwnHash};
+ghost use Rattle.oidc_login.specs.Types.{site_types};
+ghost use Rattle.oidc_login.specs.Token.{subject_of, IsAcceptedBy, HasOwnHash};
 ghost use Rattle.oidc_login.specs.Logins.{HasVerifiers, HasEndpoints};
-ghost use Rattle.oidc_login.specs.Begins.{begin_of, begin_reply, is_code_flow, url_with, Begins, with_login};
-ghost use Rattle.oidc_login.specs.Rows.{login_named_by, callback_store};
+ghost use Rattle.oidc_login.specs.Begin.{begin_of, begin_reply, is_code_flow, url_with, Begins, with_login};
+ghost use Rattle.oidc_login.specs.BeforeRequest.{login_named_by};
+ghost use Rattle.oidc_login.specs.Callback.{callback_store};
 ghost use Rattle.oidc_login.specs.Causes.{AsksNothing, HasError, LacksCode, HasNoRequest};
 ghost use Rattle.oidc_login.specs.Runs.{Ran, Leaves, attempt};
 ghost use Rattle.oidc_oauth2.specs.declared.token_answers.OtherCause.TheVariants as other;
 ghost use Rattle.oidc_oauth2.specs.declared.token_answers.RequestTokenError.TheVariants as token;
 
-use crate::begins::start;
-use crate::client::{LoginRequest, MetadataClient};
-use crate::demand::UserInfoDemand;
+use crate::begin::begun_url;
+use crate::callback::callback_reply;
 use crate::errors::{BeginError, LoginError, NewLoginsError, TooLong};
 use crate::signed_in::SignedIn;
-use crate::steps::drive;
 use crate::store::Store;
+use crate::types::{LoginRequest, MetadataClient, UserInfoDemand};
 use jiff::Timestamp;
 use oidc_claims::{AdditionalClaims, GenderClaim};
 use oidc_keys::JsonWebKey;
@@ -164,7 +163,7 @@ impl<
         ensures too_long { IsErrOf result BeginError.TooLong
             → 1_048_576 < length (serialize (url_with request.entry (s256 verifier))) }
     {
-        start(
+        begun_url(
             self.alloc,
             self.client.client_id(),
             has_user_info(self.client),
@@ -284,6 +283,6 @@ impl<
         // Want of memory is `Memory`, and never stands inside another refusal, nor does a body that is too long.
         ensures no_inner_memory { IfErr result (λ e. hides_memory e ≡ false) }
     {
-        drive(self.alloc, self.client, &mut self.pending, query, http, now)
+        callback_reply(self.alloc, self.client, &mut self.pending, query, http, now)
     }
 }

@@ -2,7 +2,7 @@
 
 ghost use Rattle.std.specs.Prelude.{◌≡◌, Bool, Some, is_some, true};
 ghost use Rattle.std.specs.Option.{option_copied};
-ghost use Rattle.oidc_login.specs.IdTokens.{SeenIdToken};
+ghost use Rattle.oidc_login.specs.Token.{SeenIdToken};
 ghost use Rattle.oidc_login.specs.SignedIn.{signed_by, with_user_info};
 
 use oidc_claims::{AdditionalClaims, GenderClaim};

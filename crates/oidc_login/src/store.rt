@@ -6,7 +6,7 @@ ghost use Rattle.std.specs.FinMap as finite;
 ghost use Rattle.oidc_oauth2.specs.Pkce.{is_verifier};
 ghost use Rattle.oidc_login.specs.Logins.{HasVerifiers};
 
-use crate::demand::UserInfoDemand;
+use crate::types::UserInfoDemand;
 use oidc_types::{Nonce, PkceCodeVerifier, RedirectUrl};
 use std::alloc::{AllocError, Global};
 use std::collections::HashMap;

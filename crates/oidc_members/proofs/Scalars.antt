@@ -25,7 +25,7 @@ use Rattle.oidc_members.proofs.Blank.{Around, around, lex_lead, lex_trail, trail
 
 -- ---- from lexemes to the value
 
-abbrev whole : Option (json.Json × List Token) → Option Data
+abbrev pub whole : Option (json.Json × List Token) → Option Data
 whole o = option_and_then of_json (option_and_then (λ p. json.if_last p.0 p.1) o)
 
 read_by : (bytes : List ℕ) (ls : List Lexeme) → lex between bytes ≡ ls → read bytes ≡ whole (json.value 127 (punctuate fresh ls))
@@ -36,7 +36,7 @@ alone : (text : List ℕ) (ls : List Lexeme) → ((rest : List ℕ) → list_all
     → (bytes : List ℕ) → Around bytes text → lex between bytes ≡ ls
 alone text ls each bytes a = ap (lex between) a.whole ∙ lex_lead a.lead (text ++ a.trail) a.before ∙ each a.trail a.after
 
-reads : (text : List ℕ) (ls : List Lexeme) (d : Data) → IsUtf8 text
+pub reads : (text : List ℕ) (ls : List Lexeme) (d : Data) → IsUtf8 text
     → ((rest : List ℕ) → list_all is_space rest ≡ true → lex between (text ++ rest) ≡ ls)
     → whole (json.value 127 (punctuate fresh ls)) ≡ Some d → ReadsAs text d
 reads text ls d utf8 each is bytes e =
@@ -56,7 +56,7 @@ plain_facts x h =
     let first = or_parts (nat_lt x 32) (x == 34) none.0 in
     record { control = first.0; quote = first.1; backslash = none.1 }
 
-content_plain : (s rest : List ℕ) → list_all is_plain s ≡ true → content plain (s ++ 34 ∷ rest) ≡ Some s
+pub content_plain : (s rest : List ℕ) → list_all is_plain s ≡ true → content plain (s ++ 34 ∷ rest) ≡ Some s
 unfolding content
 content_plain [] rest h = refl
 content_plain (x ∷ xs) rest h =
@@ -69,7 +69,7 @@ passes true s x xs k = refl
 passes false true x xs k = refl
 passes false false x xs k = refl
 
-lex_plain : (s rest : List ℕ) → list_all is_plain s ≡ true → lex in_string (s ++ 34 ∷ rest) ≡ lex between rest
+pub lex_plain : (s rest : List ℕ) → list_all is_plain s ≡ true → lex in_string (s ++ 34 ∷ rest) ≡ lex between rest
 unfolding lex
 lex_plain [] rest h = refl
 lex_plain (x ∷ xs) rest h =
@@ -92,8 +92,8 @@ string_reads text s e h utf8 =
     let whole_utf8 : IsUtf8 quoted = IsUtf8-append (34 ∷ []) (s ++ 34 ∷ []) quote_utf8 (IsUtf8-append s (34 ∷ []) utf8 quote_utf8) in
     subst (λ t. ReadsAs t (string s)) (sym e) (reads quoted (token (Token.string s) ∷ []) (string s) whole_utf8 (string_lexed s h) (ap whole (value_is 127 (Token.string s ∷ []))))
 
-pub quoted_parts : (text : List ℕ) → 2 ≤ length text → get_or text 0 0 ≡ 34 → get_or text (length text - 1) 0 ≡ 34 → text ≡ 34 ∷ (slice_range text 1 (length text - 1) ++ 34 ∷ [])
-quoted_parts text two first last =
+pub framed_parts : (text : List ℕ) (a b : ℕ) → 2 ≤ length text → get_or text 0 0 ≡ a → get_or text (length text - 1) 0 ≡ b → text ≡ a ∷ (slice_range text 1 (length text - 1) ++ b ∷ [])
+framed_parts text a b two first last =
     let n : ℕ = length text in
     let front : text ≡ get_or text 0 0 ∷ drop 1 text = drop-cons text 0 0 (omega arith) in
     let back : drop (n - 1) text ≡ get_or text (n - 1) 0 ∷ drop (suc (n - 1)) text = drop-cons text (n - 1) 0 (omega arith) in
@@ -153,7 +153,7 @@ number_of-digits (x ∷ xs) o h some e =
 
 -- ---- the three words
 
-word_utf8 : (s : List ℕ) → list_all (λ x. nat_lt x 128) s ≡ true → IsUtf8 s
+pub word_utf8 : (s : List ℕ) → list_all (λ x. nat_lt x 128) s ≡ true → IsUtf8 s
 word_utf8 = passed_utf8 (λ x. nat_lt x 128) (λ x h. ltb-true x 128 h)
 
 pub true_reads : ReadsAs (codes "true") (boolean true)

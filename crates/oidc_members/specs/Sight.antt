@@ -1,5 +1,6 @@
--- Scalars that are known at sight, and what every text that is one of them reads as.
-use Rattle.std.specs.Prelude.{◌≡◌, ℕ, ◌==◌, ◌||◌, nat_lt, Bool, not, List, Some}
+-- Values that are known at sight, and what every text that is one of them reads as.
+use Rattle.std.specs.Prelude.{◌≡◌, ℕ, ◌==◌, ◌||◌, nat_lt, Bool, true, not, List, [], ◌∷◌, ◌++◌, Some, IsUtf8}
+use Rattle.std.specs.List.{list_all}
 use Rattle.serde_json.specs.Data.{Data, null, boolean, number, unsigned, string}
 use Rattle.oidc_members.specs.declared.sight.Scalar.{Scalar}
 use Rattle.oidc_members.specs.declared.sight.Scalar.TheVariants.{Text, Whole, Bool as Truth, Null}
@@ -14,6 +15,12 @@ data_of (Text s) = string s.now
 data_of (Whole n) = number (unsigned n)
 data_of (Truth b) = boolean b
 data_of Null = null
+
+-- the bytes are a string of these plain bytes
+pub record IsQuoted (bytes s : List ℕ) : Type 0 where
+  pub whole : bytes ≡ 34 ∷ (s ++ 34 ∷ [])
+  pub plain : list_all is_plain s ≡ true
+  pub utf8 : IsUtf8 s
 
 -- Every text that is this one, but for the white space around it, reads as the value.
 abbrev pub ReadsAs : List ℕ → Data → Type 0

@@ -1,10 +1,11 @@
 // The values that the bytes of names and values are.
 ghost use Rattle.std.specs.Prelude.{◌≡◌, IfOk, option_and_then, option_map, string_bytes};
+ghost use Rattle.serde_json.specs.Data.{array, item, no_items, string};
 ghost use Rattle.serde_json.specs.Find.{as_str};
 ghost use Rattle.serde_json.specs.View.{view};
 ghost use Rattle.oidc_members.specs.Objects.{read_bytes, trimmed};
 
-use crate::sight::{Scalar, at_sight, plain_text};
+use crate::sight::{Scalar, at_sight, lone_text, plain_text};
 use serde_json::{Number, Value};
 use std::alloc::{AllocError, Global};
 
@@ -17,6 +18,26 @@ fn read_whole(alloc: Global, bytes: &[u8]) -> Result<Option<Value>, AllocError>
         Ok(value) => Ok(Some(value)),
         Err(error) if error.is_memory() => Err(AllocError),
         Err(_) => Ok(None),
+    }
+}
+
+// An array of one text.
+fn array_of_one(alloc: Global, text: &str) -> Result<Value, AllocError>
+    ensures { IfOk result (λ value. view value ≡ array (item (string text.now) no_items)) }
+{
+    let mut items = Vec::with_capacity(alloc, 1)?;
+    items.push(Value::String(String::from_str(alloc, text)?))?;
+    Ok(Value::Array(items))
+}
+
+// A value that is no scalar known at sight.
+fn other_value(alloc: Global, bytes: &[u8], text: &[u8]) -> Result<Option<Value>, AllocError>
+    requires { text.now ≡ trimmed bytes.now }
+    ensures { IfOk result (λ found. option_map view found ≡ read_bytes bytes.now) }
+{
+    match lone_text(text) {
+        Some(text) => Ok(Some(array_of_one(alloc, text)?)),
+        None => read_whole(alloc, bytes),
     }
 }
 
@@ -34,7 +55,7 @@ pub(crate) fn value_of(
         Some(Scalar::Whole(n)) => Ok(Some(Value::Number(Number::from(n)))),
         Some(Scalar::Bool(b)) => Ok(Some(Value::Bool(b))),
         Some(Scalar::Null) => Ok(Some(Value::Null)),
-        None => read_whole(alloc, bytes),
+        None => other_value(alloc, bytes, text),
     }
 }
 

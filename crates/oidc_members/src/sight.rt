@@ -1,10 +1,11 @@
-// Scalars that are known at sight: their bytes say what they are, and nothing need be unescaped.
+// Values that are known at sight, scalars and an array of one text: their bytes say what they are, and nothing need be
+// unescaped.
 ghost use Rattle.std.specs.Prelude.{◌≡◌, ◌==◌, ◌&&◌, ◌<◌, IfSome, Some, false, length, nat_lt, slice_index};
 ghost use Rattle.std.specs.Char.{is_ascii_digit};
 ghost use Rattle.std.specs.List.{list_all};
-ghost use Rattle.serde_json.specs.Data.{number, string, unsigned};
+ghost use Rattle.serde_json.specs.Data.{array, item, no_items, number, string, unsigned};
 ghost use Rattle.serde_json.specs.Read.{number_from};
-ghost use Rattle.oidc_members.specs.Sight.{is_plain as is_plain_byte, data_of, ReadsAs};
+ghost use Rattle.oidc_members.specs.Sight.{is_plain as is_plain_byte, data_of, IsQuoted, ReadsAs};
 
 use fast_float::Numeral;
 
@@ -24,7 +25,7 @@ fn is_plain(byte: u8) -> bool
 }
 
 // Whether all bytes are plain. It goes on to the end, so that LLVM tests many at once.
-fn is_plain_text(bytes: &[u8]) -> bool
+pub(crate) fn is_plain_text(bytes: &[u8]) -> bool
     ensures { result ≡ list_all is_plain_byte bytes.now }
 {
     let mut plain = true;
@@ -36,7 +37,8 @@ fn is_plain_text(bytes: &[u8]) -> bool
 
 // The text of a string without escapes, where the bytes are one.
 pub(crate) fn plain_text(bytes: &[u8]) -> Option<&str>
-    ensures { IfSome result (λ text. ReadsAs bytes.now (string text.now)) }
+    ensures reads { IfSome result (λ text. ReadsAs bytes.now (string text.now)) }
+    ensures quoted { IfSome result (λ text. IsQuoted bytes.now text.now) }
 {
     if bytes.len() < 2 || bytes[0] != b'"' || bytes[bytes.len() - 1] != b'"' {
         return None;
@@ -48,6 +50,18 @@ pub(crate) fn plain_text(bytes: &[u8]) -> Option<&str>
     let Ok(text) = str::from_utf8(content) else {
         return None;
     };
+    Some(text)
+}
+
+// The text of an array of one such string, where the bytes are one and no white space stands in it.
+pub(crate) fn lone_text(bytes: &[u8]) -> Option<&str>
+    ensures { IfSome result
+        (λ text. ReadsAs bytes.now (array (item (string text.now) no_items))) }
+{
+    if bytes.len() < 2 || bytes[0] != b'[' || bytes[bytes.len() - 1] != b']' {
+        return None;
+    }
+    let text = plain_text(&bytes[1..bytes.len() - 1])?;
     Some(text)
 }
 

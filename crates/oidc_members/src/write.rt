@@ -1,10 +1,14 @@
 // Members that are written.
-ghost use Rattle.std.specs.Prelude.{◌≡◌, ◌∷◌, ◌++◌, false, IfOk, OnOk};
+ghost use Rattle.std.specs.Prelude.{◌≡◌, ◌∷◌, ◌++◌, true, false, IfOk, OnOk};
+ghost use Rattle.std.specs.List.{list_all};
 ghost use Rattle.serde_json.specs.Data.{string};
 ghost use Rattle.serde_json.specs.Written.{comma_if, compact_text, has_float};
+ghost use Rattle.serde_json.specs.View.{view};
+ghost use Rattle.oidc_members.specs.Sight.{is_plain};
 ghost use Rattle.oidc_members.specs.Write.{any_float, object_text};
 
 use crate::field_name::FieldName;
+use crate::sight::is_plain_text;
 use serde_json::Value;
 use std::alloc::{AllocError, Global};
 use std::marker::Model;
@@ -37,6 +41,56 @@ fn quoted_name(alloc: Global, name: &str) -> Result<Vec<u8>, AllocError>
     Value::String(String::from_str(alloc, name)?).to_vec(alloc)
 }
 
+// Adds a text in quotes that needs no escape.
+fn push_plain(out: &mut Vec<u8>, text: &[u8]) -> Result<(), AllocError>
+    requires { list_all is_plain text.now ≡ true }
+    ensures { OnOk result (out.new.items ≡ out.old.items ++ compact_text (string text.now)) }
+{
+    out.push(b'"')?;
+    out.extend_from_slice(text)?;
+    out.push(b'"')?;
+    Ok(())
+}
+
+// Adds a text in quotes, with its escapes.
+fn push_quoted(alloc: Global, out: &mut Vec<u8>, text: &str) -> Result<(), AllocError>
+    ensures { OnOk result (out.new.items ≡ out.old.items ++ compact_text (string text.now)) }
+{
+    out.extend_from_slice(&quoted_name(alloc, text)?)?;
+    Ok(())
+}
+
+// The same. A text that needs no escape is copied as it is.
+fn push_text(alloc: Global, out: &mut Vec<u8>, text: &str) -> Result<(), AllocError>
+    ensures { OnOk result (out.new.items ≡ out.old.items ++ compact_text (string text.now)) }
+{
+    if is_plain_text(text.as_bytes()) {
+        push_plain(out, text.as_bytes())
+    } else {
+        push_quoted(alloc, out, text)
+    }
+}
+
+// Adds the text of any value.
+fn push_other(alloc: Global, out: &mut Vec<u8>, value: &Value) -> Result<(), AllocError>
+    ensures { OnOk result (has_float (view value.now) ≡ false
+        → out.new.items ≡ out.old.items ++ compact_text (view value.now)) }
+{
+    out.extend_from_slice(&value.to_vec(alloc)?)?;
+    Ok(())
+}
+
+// The same. A text that needs no escape is copied as it is.
+fn push_value(alloc: Global, out: &mut Vec<u8>, value: &Value) -> Result<(), AllocError>
+    ensures { OnOk result (has_float (view value.now) ≡ false
+        → out.new.items ≡ out.old.items ++ compact_text (view value.now)) }
+{
+    match value {
+        Value::String(text) => push_text(alloc, out, text.as_str()),
+        _ => push_other(alloc, out, value),
+    }
+}
+
 // Appends a member, behind a comma where another stands before it.
 fn push_member(
     alloc: Global,
@@ -51,10 +105,9 @@ fn push_member(
     if later {
         text.push(b',')?;
     }
-    text.extend_from_slice(&quoted_name(alloc, member.name.as_str())?)?;
+    push_text(alloc, text, member.name.as_str())?;
     text.push(b':')?;
-    text.extend_from_slice(&member.value.to_vec(alloc)?)?;
-    Ok(())
+    push_value(alloc, text, &member.value)
 }
 
 /// The compact text of the object that has these members, in the order of the list, where no value

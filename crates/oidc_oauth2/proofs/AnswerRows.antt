@@ -140,7 +140,7 @@ module _ {TE TR : Type 0} (error_of : List SeenMember → Result TE Refusal) (to
 
     -- ---- the size, which is looked at first
 
-    abbrev AnswerRests : Result TR (TokenRefusal TE) → Type 0
+    abbrev pub AnswerRests : Result TR (TokenRefusal TE) → Type 0
     AnswerRests (Ok tokens) = IsTokenAnswer error_of token_of r tokens
     AnswerRests (Err e) = AnswerCause error_of token_of r e
 
@@ -157,7 +157,7 @@ module _ {TE TR : Type 0} (error_of : List SeenMember → Result TE Refusal) (to
     size_rests true is = record { too_long = is; own_body = refl }
     size_rests false is = short_rests is (status_worth error_of token_of r) status-rests
 
-    answer-rests : AnswerRests (token_answer error_of token_of r)
+    pub answer-rests : AnswerRests (token_answer error_of token_of r)
     unfolding token_answer
     answer-rests = size_rests (is_over_long r.body) refl
 
@@ -169,13 +169,13 @@ module _ {TE TR : Type 0} (error_of : List SeenMember → Result TE Refusal) (to
     unfolding token_answer
     long_answer body c = ap (λ long. (TooLong r.body when long) >> status_worth error_of token_of r) c.too_long ∙ ap (λ b. Err (TooLong b)) c.own_body
 
-    tokens_answer : (tokens : TR) → IsTokenAnswer error_of token_of r tokens → token_answer error_of token_of r ≡ Ok tokens
+    pub tokens_answer : (tokens : TR) → IsTokenAnswer error_of token_of r tokens → token_answer error_of token_of r ≡ Ok tokens
     tokens_answer tokens c = short_worth c.not_too_long ∙ tokens_worth tokens c.tokens_held
 
     failed_answer : (e : TokenRefusal TE) → FailsWith error_of token_of r e → token_answer error_of token_of r ≡ Err e
     failed_answer e c = short_worth c.not_too_long ∙ refusal_worth e c.cause
 
-    refused_answer : (e : TokenRefusal TE) → AnswerCause error_of token_of r e → token_answer error_of token_of r ≡ Err e
+    pub refused_answer : (e : TokenRefusal TE) → AnswerCause error_of token_of r e → token_answer error_of token_of r ≡ Err e
     refused_answer (ServerResponse error) c = failed_answer _ c
     refused_answer (Request u) c = failed_answer _ c
     refused_answer (Parse refusal body) c = failed_answer _ c

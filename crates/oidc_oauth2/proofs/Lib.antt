@@ -1,6 +1,7 @@
 pub mod Runs
 pub mod Theorems
 mod AnswerRows
+mod AnswerSteps
 mod Bearers
 mod Credentials
 mod Cuts

@@ -1,5 +1,5 @@
--- What crates above may cite: the refusals that a response is never worth, and what each reply to a request for tokens
--- rests on.
+-- What crates above may cite: the refusals that a response is never worth, what each reply to a request for tokens
+-- rests on, and by which steps a response is judged.
 use Rattle.std.proofs.Common.{◌==◌, ℕ, List, Bool, true, false, cond, Result, Ok, Err, refl, subst}
 use Rattle.std.specs.Prelude.{◌≡◌, not, IfErr}
 use Rattle.oidc_members.specs.Seen.{SeenMember}
@@ -10,7 +10,8 @@ use Rattle.oidc_oauth2.specs.TokenAnswers.{TokenRefusal, record_in, error_in, to
 use Rattle.oidc_oauth2.specs.declared.token_answers.OtherCause.TheVariants.{Uri, EmptyBody, MediaType}
 use Rattle.oidc_oauth2.specs.declared.token_answers.RequestTokenError.{RequestTokenError}
 use Rattle.oidc_oauth2.specs.declared.token_answers.RequestTokenError.TheVariants.{ServerResponse, Request, Parse, Other, TooLong, Memory}
-pub use Rattle.oidc_oauth2.proofs.AnswerRows.{StatusRests, status-rests, tokens_worth, refusal_worth}
+pub use Rattle.oidc_oauth2.proofs.AnswerRows.{StatusRests, status-rests, tokens_worth, refusal_worth, AnswerRests, answer-rests, tokens_answer, refused_answer}
+pub use Rattle.oidc_oauth2.proofs.AnswerSteps.{answer_by_success, record_refused, record_read}
 
 module _ (A TE : Type 0) where
   -- no refusal that comes without a response, and no over-long body

@@ -44,6 +44,10 @@ post_of address client pairs = record {
   body = form pairs;
 }
 
+-- the same, where the address is one that is sent to
+abbrev pub posted : List ℕ → SeenClientAuth → List (List ℕ × List ℕ) → Option SeenRequest
+posted address client pairs = if is_address address then Some (post_of address client pairs) else None
+
 -- ---- the request that exchanges a code
 
 -- the address of the token endpoint, the client, the code, its verifier, the redirect of its

@@ -1,11 +1,12 @@
 -- What a response to a token request is worth (RFC 6749 sections 5.1 and 5.2).
-use Rattle.std.specs.Prelude.{◌==◌, nat_lt, not, ℕ, List, length, Bool, true, false, Result, Ok, Err, if◌then◌else◌, codes}
+use Rattle.std.specs.Prelude.{◌≡◌, ◌==◌, nat_lt, not, ℕ, List, length, Bool, true, false, Result, Ok, Err, if◌then◌else◌, codes}
 use Rattle.oidc_members.specs.Seen.{SeenMember}
 use Rattle.oidc_members.specs.Objects.{split_of}
 use Rattle.oidc_members.specs.declared.refusal.Refusal.{Refusal}
 pub use Rattle.oidc_oauth2.specs.Replies.{◌>>=◌, ◌>>◌, ◌when◌, ◌or_as◌}
-use Rattle.oidc_oauth2.specs.Replies.{ErrorMeaning}
-use Rattle.oidc_oauth2.specs.Messages.{SeenResponse}
+use Rattle.http.specs.declared.response.Response.{Response}
+use Rattle.oidc_oauth2.specs.Replies.{ErrorMeaning, Unless}
+use Rattle.oidc_oauth2.specs.Messages.{SeenResponse, seen_response}
 use Rattle.oidc_oauth2.specs.HttpUtils.{may_be}
 use Rattle.oidc_oauth2.specs.declared.token_answers.OtherCause.TheVariants.{EmptyBody, MediaType}
 use Rattle.oidc_oauth2.specs.declared.token_answers.RequestTokenError.{RequestTokenError}
@@ -55,6 +56,43 @@ module _ {TE TR : Type 0} (error_of : List SeenMember → Result TE Refusal) (to
     TooLong r.body when is_over_long r.body
     status_worth r
 
+-- ---- the steps that answers to all requests share
+
+-- what was read of a body, or the refusal beside that body
+abbrev pub read_in : {A TE : Type 0} → List ℕ → Result A Refusal → Result A (TokenRefusal TE)
+read_in body read = read or_as (λ refusal. Parse refusal body)
+
+-- the members of the object that a body is, and the body
+abbrev pub members_in : {TE : Type 0} → List ℕ → Result (List SeenMember × List ℕ) (TokenRefusal TE)
+members_in body = read_in body (split_of body) >>= (λ members. Ok (members, body))
+
+-- the object that a response of status 200 is
+unfoldable pub object_in : {TE : Type 0} → SeenResponse → Result (List SeenMember × List ℕ) (TokenRefusal TE)
+object_in r = do
+  Other MediaType when not (may_be_json r)
+  Other EmptyBody when is_empty r.body
+  members_in r.body
+
+module _ {TE : Type 0} (error_of : List SeenMember → Result TE Refusal) where
+  -- the refusal by what was read as an error response
+  abbrev pub refused_by : List ℕ → Result TE Refusal → TokenRefusal TE
+  refused_by body (Ok error) = ServerResponse error
+  refused_by body (Err refusal) = Parse refusal body
+
+  -- the refusal that a response of another status is (section 5.2), whatever its media type is
+  unfoldable pub refusal_in : SeenResponse → TokenRefusal TE
+  refusal_in r = if is_empty r.body then Other EmptyBody else refused_by r.body (record_in error_of r.body)
+
+  -- the response, where its body isn't too long and its status is 200
+  unfoldable pub success_in : SeenResponse → Result SeenResponse (TokenRefusal TE)
+  success_in r = do
+    TooLong r.body when is_over_long r.body
+    if r.status == 200 then Ok r else Err (refusal_in r)
+
+  -- the object that it holds, where it should be a record
+  abbrev pub object_answer : SeenResponse → Result (List SeenMember × List ℕ) (TokenRefusal TE)
+  object_answer r = success_in r >>= object_in
+
 -- ---- what is seen of an error
 
 module _ {RE TE : Type 0} where
@@ -77,3 +115,8 @@ module _ {RE TE : Type 0} where
 
   abbrev pub token_errors : ErrorMeaning (RequestTokenError RE TE) (TokenRefusal TE)
   token_errors = record { seen = seen_refusal; wants_memory = wants_memory; is_fault = is_fault }
+
+-- the result is the response that is meant, or the refusal, or want of memory
+abbrev pub GivesResponse : {RE TE : Type 0} → Result (Response (List ℕ)) (RequestTokenError RE TE) → Result SeenResponse (TokenRefusal TE) → Type 0
+GivesResponse (Ok response) reply = reply ≡ Ok (seen_response response)
+GivesResponse (Err e) reply = Unless (wants_memory e) (reply ≡ Err (seen_refusal e))

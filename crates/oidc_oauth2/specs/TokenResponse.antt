@@ -59,8 +59,8 @@ joined [] = []
 joined (text ∷ later) = text ++ flat_map (λ next. 32 ∷ next) later
 
 module _ {T E : Type 0} (type_of : List ℕ → T) (extra_of : List SeenMember → Result E Refusal) where
-  unfoldable pub tokens_of : List SeenMember → Result (SeenTokens T E) Refusal
-  tokens_of members = do
+  unfoldable pub tokens_among : List SeenMember → Result (SeenTokens T E) Refusal
+  tokens_among members = do
     u ← faultless token_rule members
     access ← required access_token members
     kind ← required token_type members

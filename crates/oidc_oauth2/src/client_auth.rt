@@ -118,13 +118,9 @@ pub(crate) fn authorization(
     }
 }
 
-// Adds a pair, where there is a value.
-pub(crate) fn push_optional(
-    form: &mut FormText,
-    name: &str,
-    value: Option<&str>,
-) -> Result<(), AllocError>
-    ensures { let pairs = spec.pair_if name.now (option_copied value.entry) in
+/// Adds a pair, where there is a value.
+pub fn push_optional(form: &mut FormText, name: &str, value: Option<&str>) -> Result<(), AllocError>
+    ensures added { let pairs = spec.pair_if name.now (option_copied value.entry) in
         OnOk result (form.new ≡ form.old ++ pairs) }
 {
     match value {
@@ -156,9 +152,9 @@ fn push_own(
     push_optional(form, "client_secret", text_of(secret))
 }
 
-// Adds the pairs that name a client, where no header does.
-pub(crate) fn push_client(form: &mut FormText, auth: &ClientAuth<'_>) -> Result<(), AllocError>
-    ensures { let pairs = spec.client_pairs (spec.seen_client auth.now) in
+/// Adds the pairs that name a client, where no header does.
+pub fn push_client(form: &mut FormText, auth: &ClientAuth<'_>) -> Result<(), AllocError>
+    ensures added { let pairs = spec.client_pairs (spec.seen_client auth.now) in
         OnOk result (form.new ≡ form.old ++ pairs) }
 {
     match auth.auth_type {

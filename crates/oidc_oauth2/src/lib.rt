@@ -7,6 +7,8 @@
 //! - [`CodeTokenRequest`] exchanges a code for tokens (RFC 6749 section 4.1.3, RFC 7636 section 4.5),
 //!   for a client that authenticates by [`ClientAuth`] (section 2.3.1).
 //! - [`token_answer`] is what a response to it is worth (RFC 6749 sections 5.1 and 5.2).
+//! - [`post_form`], and [`success_in`] and [`object_answer`], are the steps by which every request of form pairs is made
+//!   and every answer to one is judged, for the requests of the crate above, `oidc_oauth2_requests`.
 //! - The records of answers are read by their tables: [`StandardTokenResponse`],
 //!   [`StandardErrorResponse`], [`DeviceAuthorizationResponse`] (RFC 8628 section 3.2) and
 //!   [`StandardTokenIntrospectionResponse`] (RFC 7662 section 2.2).
@@ -41,7 +43,9 @@ mod token_type;
 mod transport;
 
 pub use crate::adapter::Adapter;
-pub use crate::client_auth::{AuthType, ClientAuth, ConfigurationError};
+pub use crate::client_auth::{
+    AuthType, ClientAuth, ConfigurationError, push_client, push_optional,
+};
 pub use crate::device::{CoreDeviceAuthorizationResponse, DeviceAuthorizationResponse};
 pub use crate::error_response::{
     CoreRevocationErrorResponse, DeviceCodeErrorResponse, ErrorResponse, StandardErrorResponse,
@@ -63,11 +67,13 @@ pub use crate::introspection::{
 };
 pub use crate::pkce::{PkceCodeChallenge, PkceError};
 pub use crate::recorded::{Answer, Fault, Recorded};
-pub use crate::requests::{CodeTokenRequest, PrepareError, is_address};
+pub use crate::requests::{CodeTokenRequest, PrepareError, is_address, post_form, push_all};
 pub use crate::revocation::{CoreRevocableToken, RevocableToken};
+pub use crate::scopes::joined_scopes;
 pub use crate::token::{OAuth2TokenResponse, StandardTokenResponse};
 pub use crate::token_answers::{
-    CoreRequestTokenError, MAX_BODY, OtherCause, RequestTokenError, token_answer,
+    CoreRequestTokenError, MAX_BODY, OtherCause, RequestTokenError, object_answer,
+    record_or_refusal, success_in, token_answer,
 };
 pub use crate::token_type::{CoreTokenType, TokenType};
 pub use crate::transport::{CallError, HttpRequest, HttpResponse, SyncHttpClient};

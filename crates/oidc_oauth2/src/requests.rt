@@ -103,6 +103,24 @@ fn headers_for(alloc: Global, auth: &ClientAuth<'_>) -> Result<HeaderMap, AllocE
     }
 }
 
+/// The POST of a client's form to an address, which is every request of a client to its authorization server.
+/// `Uri` exactly where the address has more than 65,534 bytes, or one that isn't from 0x21 to 0x7E.
+pub fn post_form(
+    alloc: Global,
+    address: &str,
+    auth: &ClientAuth<'_>,
+    form: FormText,
+) -> Result<HttpRequest, PrepareError>
+    ensures prepared { spec.Prepares result
+        (spec.posted address.now (seen_client auth.now) form) }
+{
+    if !is_address(address) {
+        return Err(PrepareError::Uri);
+    }
+    let request = post(alloc, address, auth, form)?;
+    Ok(request)
+}
+
 // The POST of a form to an address.
 fn post(
     alloc: Global,
@@ -119,9 +137,9 @@ fn post(
     Ok(HttpRequest::new(Method::POST, address, headers, body))
 }
 
-// Adds each pair.
-fn push_all(form: &mut FormText, pairs: &[(String, String)]) -> Result<(), AllocError>
-    ensures { OnOk result
+/// Adds each of these pairs, in their order.
+pub fn push_all(form: &mut FormText, pairs: &[(String, String)]) -> Result<(), AllocError>
+    ensures added { OnOk result
         (form.new ≡ form.old ++ map (λ p. (string_bytes p.0, string_bytes p.1)) pairs.now) }
 {
     for (name, value) in pairs {
@@ -264,13 +282,8 @@ impl<'a, TE, TR> CodeTokenRequest<'a, TE, TR> {
     pub fn prepare(&self, alloc: Global) -> Result<HttpRequest, PrepareError>
         ensures prepared { spec.Prepares result (spec.code_request self.now) }
     {
-        let address = self.endpoint.url().as_str();
-        if !is_address(address) {
-            return Err(PrepareError::Uri);
-        }
         let form = self.form(alloc)?;
-        let request = post(alloc, address, &self.auth, form)?;
-        Ok(request)
+        post_form(alloc, self.endpoint.url().as_str(), &self.auth, form)
     }
 }
 

@@ -6,7 +6,7 @@ ghost use Rattle.std.specs.Option.{option_copied};
 use oidc_types::{AccessToken, RefreshToken};
 
 /// A token that can be revoked.
-pub trait RevocableToken {
+pub trait RevocableToken: Drop {
     /// The token's text.
     ghost secret: { Self → List ℕ };
 

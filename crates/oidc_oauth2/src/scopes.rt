@@ -39,9 +39,10 @@ pub(crate) fn optional_scopes(
     }
 }
 
-// The scopes in one text, with single spaces between them.
-fn joined(alloc: Global, scopes: &[Scope]) -> Result<String, AllocError>
-    ensures { IfOk result (λ text. string_bytes text ≡ spec.joined scopes.now) }
+/// The scopes in one text, with single spaces between them (RFC 6749 section 3.3). `AllocError` is want of memory,
+/// the one error.
+pub fn joined_scopes(alloc: Global, scopes: &[Scope]) -> Result<String, AllocError>
+    ensures text { IfOk result (λ text. string_bytes text ≡ spec.joined scopes.now) }
 {
     match scopes {
         [] => Ok(String::new(alloc)),
@@ -66,6 +67,6 @@ pub(crate) fn optional_joined(
 {
     match scopes {
         None => Ok(None),
-        Some(scopes) => Ok(Some(joined(alloc, scopes)?)),
+        Some(scopes) => Ok(Some(joined_scopes(alloc, scopes)?)),
     }
 }

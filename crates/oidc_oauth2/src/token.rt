@@ -287,7 +287,7 @@ impl<EF: ExtraTokenFields, TT: TokenType> OAuth2TokenResponse for StandardTokenR
 
     type ExtraFields = EF;
 
-    ghost read_of = { spec.tokens_of TT.read_of EF.read_of };
+    ghost read_of = { spec.tokens_among TT.read_of EF.read_of };
 
     ghost access_token = { λ t. t.access_token };
 
@@ -301,7 +301,7 @@ impl<EF: ExtraTokenFields, TT: TokenType> OAuth2TokenResponse for StandardTokenR
 
     ghost extra_fields = { λ t. t.extra_fields };
 
-    #[tactic(auto, unfolding(crate::specs::TokenResponse::tokens_of, crate::specs::Slots::slot))]
+    #[tactic(auto, unfolding(crate::specs::TokenResponse::tokens_among, crate::specs::Slots::slot))]
     fn read(alloc: Global, members: &Members) -> Result<Self, ParseError> {
         let fields = read_fields(alloc, TokenFields::new(), members)?;
         let access_token = fields.access_token.required(alloc, "access_token")?;

@@ -1,11 +1,12 @@
 //! What a response to a token request is worth (RFC 6749 sections 5.1 and 5.2).
 
-ghost use Rattle.std.specs.Prelude.{◌≡◌, ◌==◌, Err, IfErr};
+ghost use Rattle.std.specs.Prelude.{◌≡◌, ◌==◌, Err, IfErr, Result};
+ghost use Rattle.oidc_members.specs.declared.refusal.Refusal.{Refusal};
 ghost use Rattle.oidc_members.specs.Answers.{Answers};
 ghost use Rattle.oidc_oauth2.specs.Messages.{seen_response};
-ghost use Rattle.oidc_oauth2.specs.Replies.{Gives};
+ghost use Rattle.oidc_oauth2.specs.Replies.{Gives, Unless};
 ghost use Rattle.oidc_oauth2.specs.TokenAnswers as spec;
-ghost use Rattle.oidc_oauth2.specs.TokenAnswers.{token_errors};
+ghost use Rattle.oidc_oauth2.specs.TokenAnswers.{token_errors, seen_refusal, wants_memory, GivesResponse};
 ghost use Rattle.oidc_oauth2.specs.AnswerCauses.{AnswerCause, Because};
 
 use crate::error_response::{ErrorResponse, StandardErrorResponse};
@@ -92,42 +93,66 @@ fn error_response_in<TE: ErrorResponse>(alloc: Global, body: &Body) -> Result<TE
     TE::read(alloc, &members)
 }
 
-// The token response that a body holds.
-fn token_response_in<TR: OAuth2TokenResponse>(alloc: Global, body: &Body) -> Result<TR, ParseError>
-    ensures { Answers (spec.record_in TR.read_of body.now) result }
-{
-    let members = Members::split(alloc, body.as_slice())?;
-    TR::read(alloc, &members)
-}
-
-// What an answer of another status than 200 is worth.
-#[tactic(auto, unfolding(crate::specs::TokenAnswers::error_in))]
-fn error_in<RE, TE: ErrorResponse, TR: OAuth2TokenResponse>(
+// The refusal that an answer of another status than 200 is worth.
+#[tactic(auto, unfolding(crate::specs::TokenAnswers::refusal_in))]
+fn refusal_in<RE, TE: ErrorResponse>(
     alloc: Global,
     response: HttpResponse,
-) -> Result<TR, RequestTokenError<RE, TE>>
-    ensures { let reply = spec.error_in TE.read_of TR.read_of (seen_response response) in
-        Gives token_errors result reply }
+) -> RequestTokenError<RE, TE>
+    ensures { Unless (wants_memory result)
+        (spec.refusal_in TE.read_of (seen_response response) ≡ seen_refusal result) }
 {
     let body = response.into_body();
     if body.as_slice().is_empty() {
-        return Err(RequestTokenError::Other(OtherCause::EmptyBody));
+        return RequestTokenError::Other(OtherCause::EmptyBody);
     }
     match error_response_in::<TE>(alloc, &body) {
-        Ok(error) => Err(RequestTokenError::ServerResponse(error)),
+        Ok(error) => RequestTokenError::ServerResponse(error),
+        Err(ParseError::Refused(refusal)) => RequestTokenError::Parse(refusal, body),
+        Err(ParseError::Memory) => RequestTokenError::Memory,
+    }
+}
+
+/// The response, where its body isn't too long and its status is 200; else why it is refused, by the rows that
+/// answers to all requests share.
+#[tactic(auto, unfolding(crate::specs::TokenAnswers::success_in))]
+pub fn success_in<RE, TE: ErrorResponse>(
+    alloc: Global,
+    response: HttpResponse,
+) -> Result<HttpResponse, RequestTokenError<RE, TE>>
+    ensures success { GivesResponse result (spec.success_in TE.read_of (seen_response response)) }
+{
+    if response.body().as_slice().len() > MAX_BODY {
+        return Err(RequestTokenError::TooLong(response.into_body()));
+    }
+    if response.status().as_u16() == 200 {
+        Ok(response)
+    } else {
+        Err(refusal_in(alloc, response))
+    }
+}
+
+// The members of the object that a body is.
+fn members_in<RE, TE>(
+    alloc: Global,
+    body: Body,
+) -> Result<(Members, Body), RequestTokenError<RE, TE>>
+    ensures { Gives token_errors result (spec.members_in body) }
+{
+    match Members::split(alloc, body.as_slice()) {
+        Ok(members) => Ok((members, body)),
         Err(ParseError::Refused(refusal)) => Err(RequestTokenError::Parse(refusal, body)),
         Err(ParseError::Memory) => Err(RequestTokenError::Memory),
     }
 }
 
-// What an answer of status 200 is worth.
-#[tactic(auto, unfolding(crate::specs::TokenAnswers::tokens_in))]
-fn tokens_in<RE, TE: ErrorResponse, TR: OAuth2TokenResponse>(
+// The members of the object that a response of status 200 is, and its body; else why it is none.
+#[tactic(auto, unfolding(crate::specs::TokenAnswers::object_in))]
+fn object_in<RE, TE>(
     alloc: Global,
     response: HttpResponse,
-) -> Result<TR, RequestTokenError<RE, TE>>
-    ensures { let reply = spec.tokens_in TE.read_of TR.read_of (seen_response response) in
-        Gives token_errors result reply }
+) -> Result<(Members, Body), RequestTokenError<RE, TE>>
+    ensures { Gives token_errors result (spec.object_in (seen_response response)) }
 {
     let may_be_json = may_be_json(&response);
     let body = response.into_body();
@@ -137,31 +162,40 @@ fn tokens_in<RE, TE: ErrorResponse, TR: OAuth2TokenResponse>(
     if body.as_slice().is_empty() {
         return Err(RequestTokenError::Other(OtherCause::EmptyBody));
     }
-    match token_response_in::<TR>(alloc, &body) {
-        Ok(tokens) => Ok(tokens),
+    members_in(alloc, body)
+}
+
+/// The members of the object that a response holds, and its body; else why it is refused: by the rows that all answers
+/// share, or since a response of status 200 is no object.
+pub fn object_answer<RE, TE: ErrorResponse>(
+    alloc: Global,
+    response: HttpResponse,
+) -> Result<(Members, Body), RequestTokenError<RE, TE>>
+    ensures object { Gives token_errors result
+        (spec.object_answer TE.read_of (seen_response response)) }
+{
+    match success_in(alloc, response) {
+        Ok(response) => object_in(alloc, response),
+        Err(error) => Err(error),
+    }
+}
+
+/// The record that was read of a body, or the refusal beside that body.
+pub fn record_or_refusal<RE, TE, A>(
+    read: Result<A, ParseError>,
+    body: Body,
+) -> Result<A, RequestTokenError<RE, TE>>
+    ensures record { (meant : Result A Refusal) → Answers meant read
+        → Gives token_errors result (spec.read_in body meant) }
+{
+    match read {
+        Ok(record) => Ok(record),
         Err(ParseError::Refused(refusal)) => Err(RequestTokenError::Parse(refusal, body)),
         Err(ParseError::Memory) => Err(RequestTokenError::Memory),
     }
 }
 
-// What a response is worth, whose body isn't too long.
-#[tactic(auto, unfolding(crate::specs::TokenAnswers::status_worth))]
-fn status_worth<RE, TE: ErrorResponse, TR: OAuth2TokenResponse>(
-    alloc: Global,
-    response: HttpResponse,
-) -> Result<TR, RequestTokenError<RE, TE>>
-    ensures { let reply = spec.status_worth TE.read_of TR.read_of (seen_response response) in
-        Gives token_errors result reply }
-{
-    if response.status().as_u16() == 200 {
-        tokens_in(alloc, response)
-    } else {
-        error_in(alloc, response)
-    }
-}
-
 // What a response is worth, by the rows.
-#[tactic(auto, unfolding(crate::specs::TokenAnswers::token_answer))]
 fn judge<RE, TE: ErrorResponse, TR: OAuth2TokenResponse>(
     alloc: Global,
     response: HttpResponse,
@@ -169,10 +203,8 @@ fn judge<RE, TE: ErrorResponse, TR: OAuth2TokenResponse>(
     ensures { let reply = spec.token_answer TE.read_of TR.read_of (seen_response response) in
         Gives token_errors result reply }
 {
-    if response.body().as_slice().len() > MAX_BODY {
-        return Err(RequestTokenError::TooLong(response.into_body()));
-    }
-    status_worth(alloc, response)
+    let (members, body) = object_answer(alloc, response)?;
+    record_or_refusal(TR::read(alloc, &members), body)
 }
 
 /// What a response to a token request is worth: the token response, or the first of these that holds.

@@ -1,5 +1,7 @@
 pub mod Theorems
 mod Decoded
+mod DecodedBytes
+mod Escapes
 mod FormTexts
 mod Lookups
 mod TextBytes

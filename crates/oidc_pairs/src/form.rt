@@ -3,9 +3,9 @@ ghost use Rattle.std.specs.Prelude.{◌≡◌, ℕ, List, [], ◌∷◌, ◌++�
 ghost use Rattle.std.specs.String.{string_bytes};
 ghost use Rattle.form_urlencoded.specs.Form.{pair_text};
 ghost use Rattle.oidc_pairs.specs.Pairs.{pairs, IsTextPair};
-ghost use Rattle.oidc_pairs.specs.Form.{form, escaped};
+ghost use Rattle.oidc_pairs.specs.Form.{form};
 
-use form_urlencoded::{Serializer, byte_serialize};
+use form_urlencoded::Serializer;
 use std::alloc::{AllocError, Global};
 use std::marker::Model;
 
@@ -60,17 +60,6 @@ pub fn form_text(alloc: Global, list: &[(&str, &str)]) -> Result<String, AllocEr
     let mut text = Serializer::new(String::new(alloc));
     text.extend_pairs(list)?;
     Ok(text.finish())
-}
-
-/// One text as a form writes a name or a value (URL Standard, section 5.2).
-pub fn escaped_text(alloc: Global, text: &str) -> Result<String, AllocError>
-    ensures { IfOk result (λ written. string_bytes written ≡ escaped text.now) }
-{
-    let mut written = String::new(alloc);
-    for piece in byte_serialize(text.as_bytes()) {
-        written.push_str(piece)?;
-    }
-    Ok(written)
 }
 
 /// The law that what was written is read as it was: the pairs of the form text of a list of texts

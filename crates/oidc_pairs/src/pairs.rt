@@ -4,6 +4,8 @@ ghost use Rattle.std.specs.Option.{option_copied};
 ghost use Rattle.std.specs.String.{string_bytes};
 ghost use Rattle.oidc_pairs.specs.Pairs.{pairs, values_in, first_of, only_of};
 
+use crate::decoding::text_of;
+use crate::front::first_pair;
 use std::alloc::{AllocError, Global};
 use std::marker::Model;
 
@@ -74,9 +76,12 @@ impl Pairs {
         ensures { IfOk result (λ read. read ≡ pairs text.now) }
     {
         let mut items = Vec::new(alloc);
-        for pair in form_urlencoded::parse(alloc, text).into_owned() {
-            let (name, value) = pair?;
+        let mut rest = text;
+        while let Some((name, value, later)) = first_pair(rest) {
+            let name = text_of(alloc, name)?.into_owned(alloc)?;
+            let value = text_of(alloc, value)?.into_owned(alloc)?;
             items.push(Pair::new(name, value))?;
+            rest = later;
         }
         Ok(Pairs { items })
     }

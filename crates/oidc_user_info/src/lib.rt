@@ -11,7 +11,10 @@
 //! - [`QueryPairs`] are pairs that stand after the query of a URL to which a site sends its users.
 //!   [`BuildUrlError`] is why there is no such URL.
 //! - [`laws`] says what holds of claims as a whole.
-//! - [`AdditionalProviderMetadata`] is what a provider may say of itself beside its own metadata.
+//! - [`LogoutRequest`] asks a provider to sign a user out: it is the URL to which the user is sent (OpenID Connect
+//!   RP-Initiated Logout 1.0 section 2).
+//! - [`AdditionalProviderMetadata`] is what a provider may say of itself beside its own metadata, and
+//!   [`LogoutProviderMetadata`] where its users sign out.
 //!
 //! What it promises. Claims are read as `user_info_claims_of` says, each member judged against all that stand
 //! before it; what is written in range is read back. A request is the one of its definition, a GET of the
@@ -29,6 +32,7 @@ mod claims;
 mod core_user_info;
 mod errors;
 pub mod laws;
+mod logout;
 mod provider_metadata;
 mod query_pairs;
 mod requests;
@@ -37,6 +41,7 @@ mod token;
 pub use crate::claims::UserInfoClaims;
 pub use crate::core_user_info::{CoreUserInfoClaims, CoreUserInfoJsonWebToken};
 pub use crate::errors::{InfoOther, PrepareInfoError, ResponseCause, UserInfoError};
+pub use crate::logout::{LogoutProviderMetadata, LogoutRequest};
 pub use crate::provider_metadata::{AdditionalProviderMetadata, EmptyAdditionalProviderMetadata};
 pub use crate::query_pairs::{
     BuildUrlError, MAX_URL, QueryPairs, spaced_texts, spaced_texts_if, spaced_words,

@@ -10,9 +10,9 @@ ghost use Rattle.std.specs.Prelude.{◌≡◌, ◌↔◌, true, false, None, Som
 ghost use Rattle.std.specs.FinMap as finite;
 ghost use Rattle.std.specs.Option.{option_copied};
 ghost use Rattle.oidc.specs.Pairs.{pairs};
-ghost use Rattle.oidc.specs.IdTokens.{subject_of};
+ghost use Rattle.oidc.specs.Token.{subject_of};
 ghost use Rattle.oidc.specs.Errors.{is_spent_by};
-ghost use Rattle.oidc.specs.Rows.{login_named_by, state_in};
+ghost use Rattle.oidc.specs.BeforeRequest.{login_named_by, state_in};
 
 mod provider;
 

@@ -2,7 +2,7 @@
 use Rattle.std.specs.Prelude.{ℕ, List, [], ◌∷◌, Option, codes, find}
 use Rattle.std.specs.Str.{bytes_eq}
 use Rattle.vectors_tokens.specs.declared.operations.Operation.{Operation}
-use Rattle.vectors_tokens.specs.declared.operations.Operation.TheVariants.{Display, TokenResponse, TokenAnswer, Header, IdClaims, IdToken, Verify, Hash, Issue, InfoClaims, InfoRequest, InfoAnswer, InfoIssue, Authorize}
+use Rattle.vectors_tokens.specs.declared.operations.Operation.TheVariants.{Display, TokenResponse, TokenAnswer, Header, IdClaims, IdToken, Verify, Hash, Issue, InfoClaims, InfoRequest, InfoAnswer, InfoIssue, Authorize, Logout}
 
 -- the name of an operation, the value of `op`
 abbrev pub operation_name : Operation → List ℕ
@@ -20,10 +20,11 @@ operation_name InfoRequest = codes "info_request"
 operation_name InfoAnswer = codes "info_answer"
 operation_name InfoIssue = codes "info_issue"
 operation_name Authorize = codes "authorize"
+operation_name Logout = codes "logout"
 
 -- all operations
 abbrev pub operations : List Operation
-operations = Display ∷ TokenResponse ∷ TokenAnswer ∷ Header ∷ IdClaims ∷ IdToken ∷ Verify ∷ Hash ∷ Issue ∷ InfoClaims ∷ InfoRequest ∷ InfoAnswer ∷ InfoIssue ∷ Authorize ∷ []
+operations = Display ∷ TokenResponse ∷ TokenAnswer ∷ Header ∷ IdClaims ∷ IdToken ∷ Verify ∷ Hash ∷ Issue ∷ InfoClaims ∷ InfoRequest ∷ InfoAnswer ∷ InfoIssue ∷ Authorize ∷ Logout ∷ []
 
 -- the operation of that name
 abbrev pub operation_of : List ℕ → Option Operation

@@ -371,7 +371,7 @@ fn with_ui_locale<'a>(
 }
 
 // A copy of a text.
-fn text_in(alloc: Global, text: &str) -> Result<String, CaseError> {
+pub(crate) fn text_in(alloc: Global, text: &str) -> Result<String, CaseError> {
     Ok(String::from_str(alloc, text)?)
 }
 
@@ -393,7 +393,7 @@ fn challenge_of(alloc: Global, verifier: &str) -> Result<PkceCodeChallenge, Case
     }
 }
 
-fn token_of(alloc: Global, text: &str) -> Result<CoreIdToken, CaseError> {
+pub(crate) fn token_of(alloc: Global, text: &str) -> Result<CoreIdToken, CaseError> {
     match CoreIdToken::from_str(alloc, text) {
         Ok(token) => Ok(token),
         Err(ParseError::Refused(_)) => Err(CaseError::NoCase),

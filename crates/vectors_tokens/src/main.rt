@@ -5,6 +5,7 @@
 
 mod authorization;
 mod displays;
+mod logout;
 mod operations;
 mod responses;
 mod tokens;

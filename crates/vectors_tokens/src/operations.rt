@@ -3,7 +3,7 @@
 ghost use Rattle.std.specs.Prelude.{◌≡◌};
 ghost use Rattle.vectors_tokens.specs.Operations as spec;
 
-use crate::{authorization, displays, responses, tokens, user_info, verifiers};
+use crate::{authorization, displays, logout, responses, tokens, user_info, verifiers};
 use case_lines::{Case, CaseError, CaseOperation};
 use std::alloc::Global;
 
@@ -24,11 +24,12 @@ pub(crate) enum Operation {
     InfoAnswer,
     InfoIssue,
     Authorize,
+    Logout,
 }
 
 impl Operation {
     /// Every operation.
-    const ALL: [Operation; 14] = [
+    const ALL: [Operation; 15] = [
         Operation::Display,
         Operation::TokenResponse,
         Operation::TokenAnswer,
@@ -43,6 +44,7 @@ impl Operation {
         Operation::InfoAnswer,
         Operation::InfoIssue,
         Operation::Authorize,
+        Operation::Logout,
     ];
 
     // Its name, the value of `op`.
@@ -64,6 +66,7 @@ impl Operation {
             Operation::InfoAnswer => "info_answer",
             Operation::InfoIssue => "info_issue",
             Operation::Authorize => "authorize",
+            Operation::Logout => "logout",
         }
     }
 
@@ -101,6 +104,7 @@ impl CaseOperation for Operation {
             Operation::InfoAnswer => user_info::info_answer(alloc, case),
             Operation::InfoIssue => user_info::info_issue(alloc, case),
             Operation::Authorize => authorization::authorize(alloc, case),
+            Operation::Logout => logout::logout(alloc, case),
         }
     }
 }

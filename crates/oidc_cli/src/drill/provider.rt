@@ -9,7 +9,7 @@ ghost use Rattle.oidc_cli.specs.Drill as spec;
 
 use crate::beside::beside;
 use crate::events::{BeginLine, CallbackLine, ClientLine, LineError, ProviderUrls};
-use crate::report::client_of;
+use crate::logins::client_of;
 use crate::script::answers::response_with;
 use crate::script::values::url_of;
 use http::StatusCode;

@@ -3,7 +3,8 @@ ghost use Rattle.std.specs.Prelude.{◌≡◌, [], Some, map, option_map, unwrap
 ghost use Rattle.std.specs.String.{string_bytes};
 ghost use Rattle.oidc_oauth2.specs.Messages.{seen_response};
 ghost use Rattle.oidc_oauth2.specs.Recorded.{seen_answer};
-ghost use Rattle.oidc_cli.specs.Values.{Reads, pair_value};
+ghost use Rattle.oidc_cli.specs.Values.{pair_value};
+ghost use Rattle.oidc_cli.specs.Readers.{Reads};
 ghost use Rattle.oidc_cli.specs.Script as spec;
 
 use crate::beside::beside;

@@ -7,7 +7,8 @@ ghost use Rattle.http_header.specs.Token.{is_visible_or_blank};
 ghost use Rattle.oidc_types.specs.{find_word, signing_text, signing_algorithms};
 ghost use Rattle.oidc_readers.specs.Moments.{moment_at};
 ghost use Rattle.oidc_cli.specs.Values as spec;
-ghost use Rattle.oidc_cli.specs.Values.{Reads, pair_text as text_of_pair, pair_value, url_of_text, algorithms_of as algorithms_in, demand_of as demand_in, moment_of_text as moment_in, status_code_of as status_code_in, content_type_of as content_type_in};
+ghost use Rattle.oidc_cli.specs.Values.{pair_text as text_of_pair, pair_value, url_of_text, algorithms_of as algorithms_in, demand_of as demand_in, moment_of_text as moment_in, status_code_of as status_code_in, content_type_of as content_type_in};
+ghost use Rattle.oidc_cli.specs.Readers.{Reads};
 
 use crate::events::LineError;
 use http::StatusCode;

@@ -6,11 +6,13 @@
 //! was written.
 ghost use Rattle.std.specs.Prelude.{Option};
 
+use crate::exit_status;
 use oidc_cli::{
     DONE, Failed, MemorySink, MemorySource, ReadSource, SCRIPT_FAULT, SINK_FAULT, SOURCE_FAULT,
-    Sink, Source, WRONG_WORDS, WriteSink, run,
+    Sink, Source, WRONG_WORDS, WriteSink,
 };
 use std::alloc::Global;
+use std::env::Args;
 use std::io;
 use std::io::{ErrorKind, Read, Write};
 use std::process::Abort;
@@ -23,16 +25,14 @@ const REPORT: &str =
 
 // ---- words and failures
 
-// The words of a text that has a comma before each of them.
-fn words_of(rt: &impl Abort, alloc: Global, text: &str) -> Vec<String> {
-    let mut words = Vec::new(alloc);
-    let mut parts = text.split(',');
-    let _ = parts.next();
-    for word in parts {
-        let word = String::from_str(alloc, word).expect(rt, "memory");
-        words.push(word).expect(rt, "memory");
+// The arguments of a text that has a comma between them. The first is the name of the program, which is no word.
+fn arguments_of(rt: &impl Abort, alloc: Global, text: &str) -> Args {
+    let mut arguments = Vec::new(alloc);
+    for argument in text.split(',') {
+        let argument = String::from_str(alloc, argument).expect(rt, "memory");
+        arguments.push(argument).expect(rt, "memory");
     }
-    words
+    arguments.into_iter()
 }
 
 // The numbers of the calls that fail: this one, or none for 0.
@@ -48,16 +48,15 @@ fn sink_of(rt: &impl Abort, alloc: Global, room: usize, fails: u64) -> MemorySin
     MemorySink::new(alloc, room, failing_calls(rt, alloc, fails)).expect(rt, "memory")
 }
 
-// The status of these words over a source and a sink.
+// The status of these arguments over a source and a sink.
 fn status_of<S: Source>(
     rt: &impl Abort,
     alloc: Global,
-    words: &str,
+    arguments: &str,
     source: &mut S,
     sink: &mut MemorySink,
 ) -> u8 {
-    let words = words_of(rt, alloc, words);
-    run(alloc, words.as_slice(), source, sink)
+    exit_status(alloc, Ok(arguments_of(rt, alloc, arguments)), source, sink)
 }
 
 // Whether a source still gives as many bytes as it had.
@@ -66,16 +65,16 @@ fn is_unread(rt: &impl Abort, alloc: Global, source: &mut MemorySource, length: 
     source.take(left.as_mut_slice()) == Ok(length)
 }
 
-// The words, the calls of the source and of the sink that fail, and the sink's room.
+// The arguments, the calls of the source and of the sink that fail, and the sink's room.
 type Call = (&'static str, u64, u64, usize);
 
-// The status of words over the first script, whether nothing was read, and what was written.
+// The status of arguments over the first script, whether nothing was read, and what was written.
 fn ran(rt: &impl Abort, alloc: Global, call: &Call) -> (u8, bool, MemorySink) {
-    let (words, source_fails, sink_fails, room) = *call;
+    let (arguments, source_fails, sink_fails, room) = *call;
     let script = SCRIPT.as_bytes().to_vec(alloc).expect(rt, "memory");
     let mut source = MemorySource::new(script, failing_calls(rt, alloc, source_fails));
     let mut sink = sink_of(rt, alloc, room, sink_fails);
-    let status = status_of(rt, alloc, words, &mut source, &mut sink);
+    let status = status_of(rt, alloc, arguments, &mut source, &mut sink);
     let unread = is_unread(rt, alloc, &mut source, SCRIPT.len());
     (status, unread, sink)
 }
@@ -86,8 +85,9 @@ const LARGEST: &str = "drill 4096 begun=4096 signed=4096 repeated=4096 sent=4096
 
 // What is called, and what is wanted: the status, whether nothing was read, and how many lines were written, which are
 // the first ones of this text.
-static CALLS: [(Call, u8, bool, usize, &str); 38] = [
+static CALLS: [(Call, u8, bool, usize, &str); 39] = [
     ((",replay", 0, 0, 65_536), DONE, false, 5, REPORT),
+    (("drill,replay", 0, 0, 65_536), DONE, false, 5, REPORT),
     // A source that fails at its first call, and at the one that would give its end.
     ((",replay", 1, 0, 65_536), SOURCE_FAULT, true, 0, ""),
     ((",replay", 2, 0, 65_536), SOURCE_FAULT, false, 0, ""),

@@ -1,6 +1,7 @@
-use Rattle.std.proofs.Common.{◌≡◌, ap, ◌∙◌}
+use Rattle.std.proofs.Common.{ap, ◌∙◌}
 use Rattle.std.specs.FinMap as finite
-use Rattle.oidc_cli.specs.Drill.{drill_client, tally_of, steps_of_turns, store_after_turns, begin_turns, numbers}
+use Rattle.oidc_cli.specs.Drill.{drill_client, tally_of, begin_turns, numbers}
+use Rattle.oidc_cli.specs.Steps.{steps_of_turns, store_after_turns}
 use Rattle.oidc_cli.proofs.Drills.{all_counted, all_stored}
 use Rattle.oidc_cli.proofs.drill.run_over.Goals as goal
 

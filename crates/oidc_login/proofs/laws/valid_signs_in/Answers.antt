@@ -1,4 +1,4 @@
-use Rattle.oidc_login.specs.SiteTypes.{site_types}
+use Rattle.oidc_login.specs.Types.{site_types}
 use Rattle.oidc_login.proofs.Turns as turns
 use Rattle.oidc_login.proofs.laws.valid_signs_in.Goals as goal
 

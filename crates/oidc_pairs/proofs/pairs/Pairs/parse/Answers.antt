@@ -3,5 +3,5 @@ use Rattle.std.proofs.lemmas.Grind.{common_steps}
 use Rattle.oidc_pairs.proofs.Decoded.{decoded-raw_pairs}
 use Rattle.oidc_pairs.proofs.pairs.Pairs.parse.Goals as goal
 
-pub loop-pair-init : goal.loop-pair-init
-loop-pair-init c = grind (arith, common_steps, decoded-raw_pairs)
+pub loop-name-init : goal.loop-name-init
+loop-name-init c = grind (arith, common_steps, decoded-raw_pairs)

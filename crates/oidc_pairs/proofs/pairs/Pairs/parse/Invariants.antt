@@ -1,8 +1,11 @@
-use Rattle.std.proofs.Common.{◌≡◌, ◌++◌}
-use Rattle.form_urlencoded.specs.Parse.{owned_pairs_left}
+use Rattle.std.proofs.Common.{◌≡◌, ◌++◌, length}
+use Rattle.form_urlencoded.specs.Form.{raw_pairs}
 use Rattle.oidc_pairs.specs.Pairs.{pairs}
 use Rattle.oidc_pairs.proofs.Decoded.{decoded}
 use Rattle.oidc_pairs.proofs.pairs.Pairs.parse.Given as goal
 
-abbrev pub invariant-loop-pair : goal.invariant-loop-pair
-invariant-loop-pair l = l.items.items ++ decoded (owned_pairs_left l.pair-iterator) ≡ pairs l.text
+abbrev pub invariant-loop-name : goal.invariant-loop-name
+invariant-loop-name l = l.items.items ++ decoded (raw_pairs l.rest) ≡ pairs l.text
+
+abbrev pub decreases-loop-name : goal.decreases-loop-name
+decreases-loop-name l = length l.rest

@@ -1,0 +1,16 @@
+use Rattle.std.specs.Prelude.{Result, Ok, Err, OnOk}
+use Rattle.oidc_cli.proofs.replay.put_callback.Goals as goal
+
+-- what holds whatever the result is
+on_ok : {T E : Type 0} (r : Result T E) (P : Type 0) → P → OnOk r P
+on_ok (Ok x) P p = p
+on_ok (Err e) P p = tt
+
+pub returns-clause-whole : goal.returns-clause-whole
+returns-clause-whole g c = rw (c.in-Ok.ensures.reply, c.in-Ok.ensures.sent) at (c.put_replied-put.ensures.whole c.in-Ok.ensures.no_floats)
+
+pub returns-clause-begun : goal.returns-clause-begun
+returns-clause-begun g c = rw (c.in-Ok.ensures.reply, c.in-Ok.ensures.sent) at (c.put_replied-put.ensures.begun c.in-Ok.ensures.no_floats)
+
+pub returns-clause-store : goal.returns-clause-store
+returns-clause-store g c = on_ok _ _ c.in-Ok.ensures.store

@@ -1,0 +1,5 @@
+mod Described
+mod Judges
+mod JudgeRecords
+mod JudgeRevocations
+mod JudgeSteps

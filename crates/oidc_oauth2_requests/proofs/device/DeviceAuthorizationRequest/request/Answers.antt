@@ -1,0 +1,4 @@
+use Rattle.oidc_oauth2_requests.proofs.device.DeviceAuthorizationRequest.request.Goals as goal
+
+pub returns-clause-ran : goal.returns-clause-ran
+returns-clause-ran g c = c.codes_over.ensures.ran _ c.prepare-made.ensures.prepared
