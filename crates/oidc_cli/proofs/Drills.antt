@@ -10,7 +10,8 @@ use Rattle.oidc_login.specs.declared.errors.LoginError.TheVariants as login
 use Rattle.oidc_login.proofs.Theorems.{few_sent}
 use Rattle.oidc_cli.specs.Types.{types, SeenScriptClient, SeenSignedIn}
 use Rattle.oidc_cli.specs.Logins.{call_of_line}
-use Rattle.oidc_cli.specs.Drill.{Step, plus, no_counts, tally_of, added_by, event_of_turn, numbers, begin_turns, callback_turns, drill_client, drill_tally, drill_store, one_if, is_begun, is_signed_in, is_refused_as_state, callback_line, answer}
+use Rattle.oidc_cli.specs.Report.{Step}
+use Rattle.oidc_cli.specs.Drill.{plus, no_counts, tally_of, added_by, event_of_turn, numbers, begin_turns, callback_turns, drill_client, drill_tally, drill_store, one_if, is_begun, is_signed_in, is_refused_as_state, callback_line, answer}
 use Rattle.oidc_cli.specs.Steps.{steps_of_turns, store_after_turns, is_state, IsWithin}
 use Rattle.oidc_cli.specs.declared.drill.turns.Turn.{Turn}
 use Rattle.oidc_cli.specs.declared.drill.turns.Turn.TheVariants.{Begin, First, Again}

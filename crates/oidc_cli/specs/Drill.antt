@@ -31,6 +31,7 @@ use Rattle.oidc_login.specs.declared.errors.LoginError.TheVariants.{State}
 use Rattle.oidc_cli.specs.Types.{types, SeenScriptClient}
 use Rattle.oidc_cli.specs.Events.{SeenClientLine, SeenCallbackLine}
 use Rattle.oidc_cli.specs.Logins.{client_of, begin_of_line, call_of_line}
+use Rattle.oidc_cli.specs.Report.{Step}
 use Rattle.oidc_cli.specs.declared.events.BeginLine.{BeginLine}
 use Rattle.oidc_cli.specs.declared.drill.turns.Turn.{Turn}
 use Rattle.oidc_cli.specs.declared.drill.turns.Turn.TheVariants.{Begin, First, Again}
@@ -84,8 +85,8 @@ numbered letter i = letter ++ decimal i
 abbrev pub verifier : ℕ → List ℕ
 verifier i = codes "v" ++ replicate (42 - length (decimal i)) 48 ++ decimal i
 
-abbrev pub begin_line : ℕ → BeginLine
-begin_line i = record {
+abbrev pub drill_begin : ℕ → BeginLine
+drill_begin i = record {
   state = numbered (codes "s") i;
   nonce = numbered (codes "n") i;
   redirect = None;
@@ -170,7 +171,7 @@ callback_line i answers = record { now = at_second 1000; query = query i; answer
 -- ---- the turns of a drill, and what each adds to its counts
 
 abbrev pub event_of_turn : Turn → runs.Event
-event_of_turn (Begin i) = runs.begins (begin_of_line drill_client (begin_line i))
+event_of_turn (Begin i) = runs.begins (begin_of_line drill_client (drill_begin i))
 event_of_turn (First i) = runs.calls (call_of_line (callback_line i (answer i ∷ [])))
 event_of_turn (Again i) = runs.calls (call_of_line (callback_line i []))
 
@@ -189,10 +190,6 @@ callback_turns (i ∷ later) = First i ∷ Again i ∷ callback_turns later
 
 abbrev pub turns : ℕ → List Turn
 turns count = begin_turns (numbers 1 count) ++ callback_turns (numbers 1 count)
-
--- a step of a run of logins
-abbrev pub Step : Type 0
-Step = runs.Step Others (List ℕ)
 
 abbrev pub one_if : Bool → ℕ
 one_if holds = if holds then 1 else 0

@@ -10,8 +10,8 @@ use Rattle.oidc_login.specs.declared.errors.LoginError.TheVariants.{State}
 use Rattle.oidc_cli.specs.Types.{types, SeenScriptClient}
 use Rattle.oidc_cli.specs.Script.{event_of}
 use Rattle.oidc_cli.specs.Logins.{login_event, login_events}
-use Rattle.oidc_cli.specs.Report.{step_lines, steps_lines, lines_before, last_line}
-use Rattle.oidc_cli.specs.Drill.{Step, event_of_turn}
+use Rattle.oidc_cli.specs.Report.{Step, step_lines, steps_lines, lines_before, last_line}
+use Rattle.oidc_cli.specs.Drill.{event_of_turn}
 use Rattle.oidc_cli.specs.declared.events.Event.{Event}
 use Rattle.oidc_cli.specs.declared.replay.Ending.{Ending}
 use Rattle.oidc_cli.specs.declared.replay.Ending.TheVariants as ending

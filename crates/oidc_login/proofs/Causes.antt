@@ -27,7 +27,7 @@ use Rattle.oidc_login.specs.Token.{Tokens, TokenError, tokens_or_refusal, SeenId
 use Rattle.oidc_login.specs.SignedIn.{SeenSignedIn, signed_by}
 use Rattle.oidc_login.specs.Errors.{Error}
 use Rattle.oidc_login.specs.Callback.{Attempt, Meant, SeenTaken, SeenPreparedInfo, taken_login, user_of_answer, prepared_info, user_with_info, demand_run, outcome}
-use Rattle.oidc_login.specs.Steps.{taken_login_by, prepared_by, prepared_run, token_run, taken_run}
+use Rattle.oidc_login.specs.Steps.{taken_login_by, prepared_by, prepared_run, taken_run}
 use Rattle.oidc_login.specs.Causes.{Asks, Reads, Held, Holds, Accepted, own_hash, Fits, Demands, AsksInfo, HasInfo, HoldsInfo, IsSignedIn, HasNoTokens, HasNoInfo, HasNoInfoAddress, LacksEndpoint, TooLongCause, TokenCause, UserInfoCause, Cause}
 use Rattle.oidc_login.specs.declared.errors.TooLong.{TooLong}
 use Rattle.oidc_login.specs.declared.errors.TooLong.TheVariants as place
@@ -38,6 +38,7 @@ use Rattle.oidc_login.proofs.Answers.{tokens_back, refusal_back}
 use Rattle.oidc_login.proofs.InfoAnswers.{found_back, unfound_back}
 use Rattle.oidc_login.proofs.Verification.{accepted}
 use Rattle.oidc_login.proofs.TokenHash.{beside, other_claim, own_claim, by_claim, by_hash, by_check}
+use Rattle.oidc_login.proofs.TokenRuns.{token_run}
 
 module _ {AC GC Key Use : Type 0} (types : SiteTypes AC GC Key Use) (a : Attempt Key) (answers : List SeenAnswer) where
   abbrev reply : Meant (SeenSignedIn AC GC)

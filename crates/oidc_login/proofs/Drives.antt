@@ -12,7 +12,7 @@ use Rattle.oidc_login.specs.Logins.{SeenLogin}
 use Rattle.oidc_login.specs.SignedIn.{SeenSignedIn, signed_by}
 use Rattle.oidc_login.specs.Errors.{Error, seen, wants_memory, login_errors}
 use Rattle.oidc_login.specs.Callback.{Attempt, Meant, SeenTaken, SeenPreparedInfo, LoginRun, replied, taken_login, user_of_answer, prepared_info, user_with_info, demand_run, outcome}
-use Rattle.oidc_login.specs.Steps.{preceded_by, prepared_run, token_run, taken_run}
+use Rattle.oidc_login.specs.Steps.{prepared_run, taken_run}
 use Rattle.oidc_login.specs.Causes.{Asks, AsksNothing, Held, Cause, IsSignedIn}
 use Rattle.oidc_login.specs.Runs.{IsItsRequest, AreBothRequests, AreItsRequests, handed_over, Ran}
 use Rattle.oidc_login.specs.declared.types.UserInfoDemand.{UserInfoDemand}
@@ -22,6 +22,7 @@ use Rattle.oidc_login.proofs.NoMemory.{NeverWants}
 use Rattle.oidc_login.proofs.Rows as rows
 use Rattle.oidc_login.proofs.Causes as causes
 use Rattle.oidc_login.proofs.Valid.{signed_of_valid}
+use Rattle.oidc_login.proofs.TokenRuns.{preceded_by, token_run}
 
 -- ---- what is meant, or want of memory
 

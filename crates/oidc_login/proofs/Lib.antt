@@ -1,3 +1,4 @@
+pub mod TokenRuns
 pub mod Theorems
 pub mod Entries
 pub mod Begun
@@ -18,5 +19,5 @@ pub mod Drives
 pub mod Signing
 pub mod Called
 pub mod NoFloat
-pub mod Turns
+pub mod EventSteps
 pub mod Spent

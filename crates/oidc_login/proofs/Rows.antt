@@ -34,7 +34,7 @@ use Rattle.oidc_login.specs.SignedIn.{SeenSignedIn, signed_by}
 use Rattle.oidc_login.specs.UserInfo.{info_ask}
 use Rattle.oidc_login.specs.Errors.{Error}
 use Rattle.oidc_login.specs.Callback.{Attempt, Meant, SeenTaken, SeenPreparedInfo, taken_login, user_of_answer, prepared_info, user_with_info, demand_run, outcome}
-use Rattle.oidc_login.specs.Steps.{prepared_by, prepared_run, token_run, taken_run}
+use Rattle.oidc_login.specs.Steps.{prepared_by, prepared_run, taken_run}
 use Rattle.oidc_login.specs.Causes.{Names, HasCode, Asks, Held, Answered, Reads, Holds, Accepted, own_hash, Fits, Demands, AsksInfo, InfoAnswered, IsSignedIn, TokenCause, UserInfoCause, Cause}
 use Rattle.oidc_login.specs.declared.types.UserInfoDemand.{UserInfoDemand}
 use Rattle.oidc_login.specs.declared.errors.LoginError.TheVariants.{UserInfo}
@@ -45,6 +45,7 @@ use Rattle.oidc_login.proofs.NoMemory.{NeverWants}
 use Rattle.oidc_login.proofs.Asked.{bearer, uri, never_memory, no_endpoint, own_token}
 use Rattle.oidc_login.proofs.Verification.{accepts}
 use Rattle.oidc_login.proofs.TokenHash.{beside, differ_back, same_back, by_hash, by_check}
+use Rattle.oidc_login.proofs.TokenRuns.{token_run}
 
 no_value : (values : List (List ℕ)) → option_map error_word (first_value values) ≡ None → values ≡ []
 no_value [] is = refl

@@ -19,8 +19,8 @@ use Rattle.oidc_login.specs.BeforeRequest.{state_in, login_named_by}
 use Rattle.oidc_login.specs.Callback.{Attempt, Meant, SeenTaken, taken_login, outcome}
 use Rattle.oidc_login.specs.Steps.{taken_run}
 use Rattle.oidc_login.specs.Causes.{Asks, Cause}
-use Rattle.oidc_login.specs.Events.{Call, Event, begins, calls, Step, called_with, begin_step, callback_step, steps_from, store_of, is_accepted, is_of_state, has_any, Turn, has_sent, begins_again, calls_back, turns_behind, SpentOnce}
-use Rattle.oidc_login.proofs.Turns.{turns_dropped}
+use Rattle.oidc_login.specs.Events.{Call, Event, begins, calls, Step, called_with, begin_step, callback_step, steps_from, store_of, is_accepted, is_of_state, has_any, EventStep, has_sent, begins_again, calls_back, steps_behind, SpentOnce}
+use Rattle.oidc_login.proofs.EventSteps.{event_steps_dropped}
 use Rattle.oidc_login.proofs.Walks.{Walk}
 use Rattle.oidc_login.proofs.Rows.{taken_login-walk}
 
@@ -159,22 +159,22 @@ module _ {AC GC Key Use : Type 0} (types : SiteTypes AC GC Key Use) (client : Se
       (λ short. inr (sending_absent later _ (is_taken (is_over_long c.query) m (state_in (pairs c.query)) s short same)))
       (unsent_or_short types a c.answers))
 
--- ---- the same among the turns of a run
+-- ---- the same among the events of a run with their steps
 
 module _ {AC GC : Type 0} (s : List ℕ) where
-  abbrev goes_on : Turn AC GC → Bool
+  abbrev goes_on : EventStep AC GC → Bool
   goes_on turn = not (begins_again s turn)
 
-  abbrev sent_among : List (Turn AC GC) → ℕ
-  sent_among turns = length (filter (λ (turn : Turn AC GC). has_sent turn.1) (filter (calls_back s) turns))
+  abbrev sent_among : List (EventStep AC GC) → ℕ
+  sent_among turns = length (filter (λ (turn : EventStep AC GC). has_sent turn.1) (filter (calls_back s) turns))
 
-  begin_counted : (again : Bool) (b : Begin) (step : Step AC GC) (turns : List (Turn AC GC)) (n : ℕ) → sent_among turns ≡ n
+  begin_counted : (again : Bool) (b : Begin) (step : Step AC GC) (turns : List (EventStep AC GC)) (n : ℕ) → sent_among turns ≡ n
       → sent_among (cond (not again) ((begins b, step) ∷ turns) []) ≡ (if again then 0 else n)
   begin_counted true b step turns n rest = refl
   begin_counted false b step turns n rest = rest
 
-  call_counted : (own : Bool) (turn : Turn AC GC) (turns : List (Turn AC GC)) (n : ℕ) → sent_among turns ≡ n
-      → length (filter (λ (turn : Turn AC GC). has_sent turn.1) (cond own (turn ∷ filter (calls_back s) turns) (filter (calls_back s) turns)))
+  call_counted : (own : Bool) (turn : EventStep AC GC) (turns : List (EventStep AC GC)) (n : ℕ) → sent_among turns ≡ n
+      → length (filter (λ (turn : EventStep AC GC). has_sent turn.1) (cond own (turn ∷ filter (calls_back s) turns) (filter (calls_back s) turns)))
       ≡ (if own then one_if_any turn.1.sent else 0) + n
   call_counted true turn turns n rest = one_counted turn.1.sent turn _ n rest
   call_counted false turn turns n rest = omega (arith, rest)
@@ -189,8 +189,8 @@ taken_more : {A : Type 0} (p : A → Bool) (x : A) (xs : List A) → take_while 
 taken_more p x xs = taken_by x xs (prefix_len p xs) (p x)
 
 module _ {AC GC Key Use : Type 0} (types : SiteTypes AC GC Key Use) (client : SeenLoginClient Key) where
-  -- the turns of events from a store on, up to the next accepted begin of a state
-  abbrev going_on : List ℕ → List Event → Pending → List (Turn AC GC)
+  -- events with their steps from a store on, up to the next accepted begin of a state
+  abbrev going_on : List ℕ → List Event → Pending → List (EventStep AC GC)
   going_on s later m = take_while (goes_on s) (zip later (steps_from types client m later))
 
   counted : (s : List ℕ) (later : List Event) (m : Pending) → sent_among s (going_on s later m) ≡ sending types client s m later
@@ -207,8 +207,8 @@ module _ {AC GC Key Use : Type 0} (types : SiteTypes AC GC Key Use) (client : Se
 -- ---- the run of a begin and its callbacks alone
 
 module _ {AC GC Key Use : Type 0} (types : SiteTypes AC GC Key Use) (client : SeenLoginClient Key) (s : List ℕ) where
-  -- the callbacks of a state among turns, as events
-  abbrev calls_among : List (Turn AC GC) → List Event
+  -- the callbacks of a state among them, as events
+  abbrev calls_among : List (EventStep AC GC) → List Event
   calls_among turns = map (λ turn. turn.0) (filter (calls_back s) turns)
 
   abbrev sent_by : Pending → List Event → ℕ
@@ -223,11 +223,11 @@ module _ {AC GC Key Use : Type 0} (types : SiteTypes AC GC Key Use) (client : Se
       ∙ ap (λ o. (if o then one_if_any next.sent else 0) + sending types client s next.pending events) (sym own)
   own_call_counted false c events m own rest = rest m
 
-  mapped : (own : Bool) (turn : Turn AC GC) (turns : List (Turn AC GC)) → map (λ (t : Turn AC GC). t.0) (cond own (turn ∷ turns) turns) ≡ cond own (turn.0 ∷ map (λ (t : Turn AC GC). t.0) turns) (map (λ (t : Turn AC GC). t.0) turns)
+  mapped : (own : Bool) (turn : EventStep AC GC) (turns : List (EventStep AC GC)) → map (λ (t : EventStep AC GC). t.0) (cond own (turn ∷ turns) turns) ≡ cond own (turn.0 ∷ map (λ (t : EventStep AC GC). t.0) turns) (map (λ (t : EventStep AC GC). t.0) turns)
   mapped true turn turns = refl
   mapped false turn turns = refl
 
-  alone_counted : (turns : List (Turn AC GC)) (m : Pending) → sent_by m (calls_among turns) ≡ sending types client s m (calls_among turns)
+  alone_counted : (turns : List (EventStep AC GC)) (m : Pending) → sent_by m (calls_among turns) ≡ sending types client s m (calls_among turns)
   alone_counted [] m = refl
   alone_counted ((begins b, step) ∷ turns) m = alone_counted turns m
   alone_counted ((calls c, step) ∷ turns) m =
@@ -240,9 +240,9 @@ module _ {AC GC Key Use : Type 0} (types : SiteTypes AC GC Key Use) where
   spent_once client earlier later b =
       let s = b.request.state in
       let m = store_of types client (earlier ++ begins b ∷ []) in
-      let turns = turns_behind types client earlier b later in
+      let turns = steps_behind types client earlier b later in
       let begun = (begin_step types client finite.empty b).pending in (
-        subst (λ (turns : List (Turn AC GC)). sent_among s (take_while (goes_on s) turns) ≤ 1) (sym (turns_dropped types client earlier (begins b) later finite.empty))
+        subst (λ (turns : List (EventStep AC GC)). sent_among s (take_while (goes_on s) turns) ≤ 1) (sym (event_steps_dropped types client earlier (begins b) later finite.empty))
             (subst (λ n. n ≤ 1) (sym (counted types client s later m)) (sending_once types client s later m)),
         subst (λ n. n ≤ 1) (sym (alone_counted types client s turns begun)) (sending_once types client s (calls_among types client s turns) begun),
       )

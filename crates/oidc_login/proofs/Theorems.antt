@@ -8,11 +8,12 @@ use Rattle.oidc_login.specs.Types.{SeenLoginClient, SiteTypes}
 use Rattle.oidc_login.specs.Logins.{SeenLogin}
 use Rattle.oidc_login.specs.SignedIn.{SeenSignedIn}
 use Rattle.oidc_login.specs.Callback.{Attempt, Meant, SeenTaken, SeenPreparedInfo, taken_login, user_of_answer, prepared_info, demand_run, outcome}
-use Rattle.oidc_login.specs.Steps.{preceded_by, prepared_run, token_run, taken_run}
+use Rattle.oidc_login.specs.Steps.{prepared_run, taken_run}
 use Rattle.oidc_login.specs.declared.types.UserInfoDemand.{UserInfoDemand}
 pub use Rattle.oidc_login.proofs.NoFloat.{signed_free}
 pub use Rattle.oidc_login.proofs.Found.{info_answered}
 use Rattle.oidc_login.proofs.Drives.{at_most_two, sendable}
+use Rattle.oidc_login.proofs.TokenRuns.{preceded_by, token_run}
 
 -- answers that are the next ones of a script
 abbrev IsPlayed : List SeenAnswer → List SeenAnswer → Type 0

@@ -167,7 +167,7 @@ module _ {AC GC Key Use : Type 0} (types : SiteTypes AC GC Key Use) (a : Attempt
   -- A user who is signed in: the ID token came in the answer to the token request of the named
   -- login, and is accepted with that login's nonce at this moment; its `at_hash`, where it has one, is
   -- the hash of the access token that came beside it; user info, where the login demands it, came in the answer to
-  -- the user info request.
+  -- the user info request. (It rests on no record but `Holds`, so that it can be read alone.)
   pub record IsSignedIn (signed : SeenSignedIn AC GC) : Type 0 where
     pub held : Held AC GC
     pub holds : Holds held

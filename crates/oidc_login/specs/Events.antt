@@ -89,9 +89,9 @@ abbrev pub has_any : List SeenRequest → Bool
 has_any [] = false
 has_any (request ∷ later) = true
 
--- a turn of a run: an event, and its step
-abbrev pub Turn : Type 0 → Type 0 → Type 0
-Turn AC GC = Event × Step AC GC
+-- an event of a run, and its step
+abbrev pub EventStep : Type 0 → Type 0 → Type 0
+EventStep AC GC = Event × Step AC GC
 
 module _ {AC GC : Type 0} where
   abbrev pub is_begun : Reply AC GC → Bool
@@ -103,44 +103,45 @@ module _ {AC GC : Type 0} where
   has_sent s = has_any s.sent
 
   -- an accepted begin of this state
-  abbrev pub begins_again : List ℕ → Turn AC GC → Bool
+  abbrev pub begins_again : List ℕ → EventStep AC GC → Bool
   begins_again state (begins b, s) = is_begun s.reply && bytes_eq state b.request.state
   begins_again state (calls c, s) = false
 
   -- a callback whose query has one state, and it is this
-  abbrev pub calls_back : List ℕ → Turn AC GC → Bool
+  abbrev pub calls_back : List ℕ → EventStep AC GC → Bool
   calls_back state (begins b, s) = false
   calls_back state (calls c, s) = is_of_state state (state_in (pairs c.query))
 
 module _ {AC GC Key Use : Type 0} (types : SiteTypes AC GC Key Use) where
-  abbrev pub turns_of : SeenLoginClient Key → List Event → List (Turn AC GC)
-  turns_of client events = zip events (run_of types client events)
+  abbrev pub event_steps : SeenLoginClient Key → List Event → List (EventStep AC GC)
+  event_steps client events = zip events (run_of types client events)
 
   abbrev pub replies_of : SeenLoginClient Key → List Event → List (Reply AC GC)
   replies_of client events = map (λ s. s.reply) (run_of types client events)
 
-  -- the turns behind a begin, up to the next accepted begin of its state
-  abbrev pub turns_behind : SeenLoginClient Key → List Event → Begin → List Event → List (Turn AC GC)
-  turns_behind client earlier b later =
-      take_while (λ turn. not (begins_again b.request.state turn))
-      (drop (suc (length earlier)) (turns_of client (earlier ++ begins b ∷ later)))
+  -- the events behind a begin with their steps, up to the next accepted begin of its state
+  abbrev pub steps_behind : SeenLoginClient Key → List Event → Begin → List Event → List (EventStep AC GC)
+  steps_behind client earlier b later =
+      take_while (λ it. not (begins_again b.request.state it))
+      (drop (suc (length earlier)) (event_steps client (earlier ++ begins b ∷ later)))
 
   -- The callbacks of a begin: those with one state, its own, behind it and before the next accepted begin of that state.
-  abbrev pub callbacks_of : SeenLoginClient Key → List Event → Begin → List Event → List (Turn AC GC)
-  callbacks_of client earlier b later = filter (calls_back b.request.state) (turns_behind client earlier b later)
+  abbrev pub callbacks_of : SeenLoginClient Key → List Event → Begin → List Event → List (EventStep AC GC)
+  callbacks_of client earlier b later = filter (calls_back b.request.state) (steps_behind client earlier b later)
 
   -- the begin and these alone
   abbrev pub alone : SeenLoginClient Key → List Event → Begin → List Event → List Event
-  alone client earlier b later = begins b ∷ map (λ turn. turn.0) (callbacks_of client earlier b later)
+  alone client earlier b later = begins b ∷ map (λ it. it.0) (callbacks_of client earlier b later)
 
   -- ---- the laws
 
   -- Of the callbacks of one begin at most one sends anything, whatever came before and comes between; nor does more than
-  -- one in the run of the begin and these alone.
+  -- one in the run of the begin and these alone. The second says no more than the first says of that run, in which each
+  -- callback is one of the begin.
   abbrev pub SpentOnce : Type 0
   SpentOnce =
       (client : SeenLoginClient Key) (earlier later : List Event) (b : Begin)
-      → (length (filter (λ turn. has_sent turn.1) (callbacks_of client earlier b later)) ≤ 1)
+      → (length (filter (λ it. has_sent it.1) (callbacks_of client earlier b later)) ≤ 1)
       × (length (filter has_sent (run_of types client (alone client earlier b later))) ≤ 1)
 
   -- A callback that is a valid login signs in, whatever came before and comes behind: its reply is the first behind

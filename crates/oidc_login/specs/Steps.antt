@@ -1,7 +1,7 @@
 -- What single functions of a callback answer, between the steps of its table (`Callback.antt`). No public clause cites this.
-use Rattle.std.specs.Prelude.{◌≡◌, ℕ, ℤ, List, ◌∷◌, true, Option, None, Some, Result, Ok, IfErr}
+use Rattle.std.specs.Prelude.{◌≡◌, ℕ, ℤ, List, true, Option, None, Some, Result, Ok, IfErr}
 use Rattle.oidc_types.specs.declared.signing_error.SigningError.{SigningError}
-use Rattle.oidc_oauth2.specs.Messages.{SeenRequest, SeenResponse, SeenAnswer}
+use Rattle.oidc_oauth2.specs.Messages.{SeenResponse, SeenAnswer}
 use Rattle.oidc_oauth2.specs.Replies.{◌>>=◌, ◌>>◌, ◌when◌, ◌for◌, ◌or◌, ◌or_as◌}
 use Rattle.oidc_oauth2.specs.TokenAnswers.{is_over_long}
 use Rattle.oidc_oauth2.specs.ErrorResponse.{SeenError}
@@ -109,17 +109,10 @@ IsPassed {AC} {GC} types client now login tokens =
 
 -- ---- what follows a step, by what it gave
 
--- one request, and what follows it
-abbrev pub preceded_by : {A : Type 0} → SeenRequest → LoginRun A → LoginRun A
-preceded_by request run = record { reply = run.reply; sent = request ∷ run.sent }
-
 module _ {AC GC Key Use : Type 0} (types : SiteTypes AC GC Key Use) where
   abbrev pub prepared_run : SeenSignedIn AC GC → List SeenAnswer → Meant (SeenPreparedInfo Key) → LoginRun (SeenSignedIn AC GC)
   prepared_run user answers given =
       (given passed_to λ prepared. prepared.request answered_by λ answer. replied (user_with_info types prepared.ask.demand user answer)) answers
-
-  abbrev pub token_run : SeenLoginClient Key → SeenLogin → List SeenAnswer → Meant (SeenSignedIn AC GC) → LoginRun (SeenSignedIn AC GC)
-  token_run client login answers given = (given passed_to λ user. demand_run types client login.user_info user) answers
 
   abbrev pub taken_run : SeenLoginClient Key → ℤ → List SeenAnswer → Meant SeenTaken → LoginRun (SeenSignedIn AC GC)
   taken_run client now answers given =

@@ -68,7 +68,7 @@ fn prepared_reply<
 }
 
 // Asks for user info about a user who is signed in but for that, where the login demands it.
-pub(crate) fn demand_reply<
+fn demand_reply<
     AC: AdditionalClaims,
     GC: GenderClaim,
     K: JsonWebKey<SigningAlgorithm = CoreJwsSigningAlgorithm>,

@@ -10,7 +10,7 @@ ghost use Rattle.oidc_cli.specs.Drill as spec;
 use crate::beside::beside;
 use crate::events::{BeginLine, CallbackLine, ClientLine, LineError, ProviderUrls};
 use crate::logins::client_of;
-use crate::script::answers::response_with;
+use crate::script::answers::token_response;
 use crate::script::values::url_of;
 use http::StatusCode;
 use http_header::HeaderValue;
@@ -103,8 +103,8 @@ fn verifier(alloc: Global, i: u16) -> Result<String, AllocError>
 }
 
 /// Its begin line.
-pub fn begin_line(alloc: Global, i: u16) -> Result<BeginLine, AllocError>
-    ensures { IfOk result (λ line. line ≡ spec.begin_line i) }
+pub fn drill_begin(alloc: Global, i: u16) -> Result<BeginLine, AllocError>
+    ensures { IfOk result (λ line. line ≡ spec.drill_begin i) }
 {
     let state = CsrfToken::new(numbered(alloc, "s", i)?);
     let nonce = Nonce::new(numbered(alloc, "n", i)?);
@@ -206,7 +206,7 @@ fn token(
 }
 
 // The token response, whose fields beside those of RFC 6749 are these.
-fn tokens_of(access_token: AccessToken, token: CoreIdToken) -> CoreTokenResponse
+fn token_response(access_token: AccessToken, token: CoreIdToken) -> CoreTokenResponse
     ensures { result ≡ spec.tokens access_token token }
 {
     let fields = CoreIdTokenFields::new(Some(token), EmptyExtraTokenFields {});
@@ -219,7 +219,7 @@ fn body(alloc: Global, access_token: AccessToken, token: CoreIdToken) -> Result<
     ensures { IfOk result (λ text. text.items ≡ spec.body access_token token) }
 {
     // What is written is large: it is let go once, by a call.
-    let tokens = tokens_of(access_token, token);
+    let tokens = token_response(access_token, token);
     let text = tokens.write(alloc);
     drop(tokens);
     text
@@ -230,7 +230,7 @@ fn response(alloc: Global, body: Vec<u8>) -> Result<HttpResponse, AllocError>
     ensures { IfOk result (λ made. seen_response made ≡ spec.response body.items) }
 {
     let json = HeaderValue::from_static("application/json");
-    match response_with(alloc, StatusCode::OK, Some(json), body) {
+    match token_response(alloc, StatusCode::OK, Some(json), body) {
         Ok(response) => Ok(response),
         Err(_) => Err(AllocError),
     }

@@ -7,7 +7,7 @@ ghost use Rattle.oidc_cli.specs.Drill.{drill_client, issuer as drill_issuer, eve
 ghost use Rattle.oidc_cli.specs.Steps as steps;
 ghost use Rattle.oidc_cli.specs.Steps.{steps_of_turns, store_after_turns, IsWithin};
 
-use crate::drill::provider::{again_line, begin_line, first_line};
+use crate::drill::provider::{again_line, drill_begin, first_line};
 use crate::logins::{Replied, begin, call_back};
 use crate::user::PendingLogins;
 use oidc_login::{LoginClient, LoginError};
@@ -77,7 +77,7 @@ fn take_begin<'c>(
         let taken = step types drill_client logins.old.pending event in
         OnOk result (logins.new.pending ≡ taken.pending) }
 {
-    let line = begin_line(alloc, i)?;
+    let line = drill_begin(alloc, i)?;
     let reply = begin(alloc, client, logins, line)?;
     Ok(Tally {
         begun: one_if(reply.is_ok()),

@@ -1,4 +1,4 @@
--- The turns of a run from a place on, and the law on valid logins.
+-- The events of a run with their steps, from a place on, and the law on valid logins.
 use Rattle.std.proofs.Common.{◌≡◌, suc, List, [], ◌∷◌, ◌++◌, length, drop, map, refl, ap, ◌∙◌}
 use Rattle.std.specs.FinMap as finite
 use Rattle.std.specs.List.{zip}
@@ -9,11 +9,11 @@ use Rattle.oidc_login.proofs.Causes.{signs_in}
 use Rattle.oidc_login.proofs.Valid.{signed_of_valid}
 
 module _ {AC GC Key Use : Type 0} (types : SiteTypes AC GC Key Use) (client : SeenLoginClient Key) where
-  pub turns_dropped : (earlier : List Event) (event : Event) (later : List Event) (m : Pending)
+  pub event_steps_dropped : (earlier : List Event) (event : Event) (later : List Event) (m : Pending)
       → drop (suc (length earlier)) (zip (earlier ++ event ∷ later) (steps_from types client m (earlier ++ event ∷ later)))
       ≡ zip later (steps_from types client (store_from types client m (earlier ++ event ∷ [])) later)
-  turns_dropped [] event later m = refl
-  turns_dropped (x ∷ earlier) event later m = turns_dropped earlier event later (step types client m x).pending
+  event_steps_dropped [] event later m = refl
+  event_steps_dropped (x ∷ earlier) event later m = event_steps_dropped earlier event later (step types client m x).pending
 
   replies_dropped : (earlier : List Event) (event : Event) (later : List Event) (m : Pending)
       → drop (length earlier) (map (λ s. s.reply) (steps_from types client m (earlier ++ event ∷ later)))
