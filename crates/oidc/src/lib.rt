@@ -65,6 +65,12 @@ pub use oidc_oauth2::{
     TokenIntrospectionResponse, TokenType,
 };
 
+// Its requests beside the one for a code.
+pub use oidc_oauth2_requests::{
+    ClientCredentialsTokenRequest, DeviceAccessTokenRequest, DeviceAuthorizationRequest,
+    IntrospectionRequest, PasswordTokenRequest, PollStep, RefreshTokenRequest, RevocationRequest,
+};
+
 // Tokens.
 pub use oidc_tokens::{
     AudiencesClaim, ClaimsVerificationError, IdToken, IdTokenClaims, IdTokenFields,
@@ -72,12 +78,14 @@ pub use oidc_tokens::{
     NonceVerifier, Payload, TokenHeader, TokenResponse, UserInfoVerifier, from_code, from_token,
 };
 
-// User info.
+// User info and logout.
 pub use oidc_user_info::{
     AdditionalProviderMetadata, BuildUrlError, EmptyAdditionalProviderMetadata, InfoOther,
-    PrepareInfoError, ResponseCause, UserInfoClaims, UserInfoError, UserInfoJsonWebToken,
-    UserInfoRequest, UserInfoResponseType,
+    LogoutProviderMetadata, LogoutRequest, PrepareInfoError, ResponseCause, UserInfoClaims,
+    UserInfoError, UserInfoJsonWebToken, UserInfoRequest, UserInfoResponseType,
 };
 
 // The client.
-pub use oidc_client::{AuthenticationFlow, AuthorizationRequest, Client, ProviderMetadata};
+pub use oidc_client::{
+    AuthenticationFlow, AuthorizationRequest, Client, ProviderMetadata, ProviderMetadataWithLogout,
+};

@@ -1,6 +1,6 @@
 -- What contracts see of a client of one provider (RFC 6749 sections 2.2 and 3, OpenID Connect Core 1.0 sections
 -- 3.1.3.7 and 5.3), and when its type is right about its endpoints.
-use Rattle.std.specs.Prelude.{◌≡◌, ℕ, List, [], Bool, true, false, Option, None, Some, option_map}
+use Rattle.std.specs.Prelude.{◌≡◌, ℕ, List, [], ◌∷◌, Bool, true, false, Option, None, Some, option_map, if◌then◌else◌, codes}
 use Rattle.url.specs.Parts.{serialize}
 use Rattle.oidc_types.specs.{TextAndUrl}
 use Rattle.oidc_types.specs.declared.endpoint.Presence.{Presence}
@@ -9,7 +9,10 @@ use Rattle.oidc_oauth2.specs.declared.client_auth.AuthType.{AuthType}
 use Rattle.oidc_oauth2.specs.declared.client_auth.AuthType.TheVariants.{BasicAuth}
 use Rattle.oidc_oauth2.specs.declared.client_auth.ConfigurationError.{ConfigurationError}
 use Rattle.oidc_oauth2.specs.declared.client_auth.ConfigurationError.TheVariants.{MissingUrl, InsecureUrl}
+use Rattle.oidc_oauth2.specs.ClientAuth.{SeenClientAuth}
 use Rattle.oidc_oauth2.specs.Requests.{SeenCodeRequest}
+use Rattle.oidc_oauth2_requests.specs.FormRequests as form
+use Rattle.oidc_oauth2_requests.specs.FormRequests.{SeenFormRequest, SeenIntrospectionRequest}
 use Rattle.oidc_tokens.specs.Signatures.{SeenVerifier}
 use Rattle.oidc_tokens.specs.UserInfoVerification.{SeenUserInfoVerifier}
 use Rattle.oidc_user_info.specs.InfoRequests.{SeenInfoRequest}
@@ -91,21 +94,49 @@ user_info_verifier_of client subject = record {
 
 -- ---- the requests that it makes
 
+-- how it names itself to an endpoint
+abbrev pub client_auth_of : {Key Algorithm : Type 0} → SeenClient Key Algorithm → SeenClientAuth
+client_auth_of client = record {
+  client_id = client.client_id;
+  client_secret = client.client_secret;
+  auth_type = client.auth_type;
+}
+
 -- the exchange of a code at this endpoint, with the client's redirect, where it has one
 abbrev pub code_request_at : {Key Algorithm : Type 0} → SeenClient Key Algorithm → List ℕ → TextAndUrl
     → SeenCodeRequest
 code_request_at client code endpoint = record {
   address = serialize endpoint.url;
-  client = record {
-    client_id = client.client_id;
-    client_secret = client.client_secret;
-    auth_type = client.auth_type;
-  };
+  client = client_auth_of client;
   code = code;
   verifier = None;
   redirect_uri = option_map (λ u. u.text) client.redirect_uri;
   extra = [];
 }
+
+-- the request with these pairs of its own at this endpoint, without scopes and further pairs
+abbrev pub form_request_at : {Key Algorithm : Type 0} → SeenClient Key Algorithm → form.Pairs → TextAndUrl
+    → SeenFormRequest
+form_request_at client own endpoint = form.new_request (serialize endpoint.url) (client_auth_of client) own
+
+-- the scopes of a new request that has any
+abbrev pub first_scopes : {Key Algorithm : Type 0} → SeenClient Key Algorithm → List (List ℕ)
+first_scopes client = if client.openid_scope then codes "openid" ∷ [] else []
+
+-- the request for the codes of a device at this endpoint, for the scope `openid` where the client asks for it
+abbrev pub device_request_at : {Key Algorithm : Type 0} → SeenClient Key Algorithm → TextAndUrl → SeenFormRequest
+device_request_at client endpoint =
+    record (form_request_at client form.device_pairs endpoint) { scopes = first_scopes client }
+
+-- the request about a token at this endpoint, without a hint
+abbrev pub introspection_at : {Key Algorithm : Type 0} → SeenClient Key Algorithm → List ℕ → TextAndUrl
+    → SeenIntrospectionRequest
+introspection_at client token endpoint =
+    record { token = token; hint = None; form = form_request_at client [] endpoint }
+
+-- a URL whose scheme is `https`
+abbrev pub IsSecure : TextAndUrl → Type 0
+IsSecure endpoint = endpoint.url.scheme ≡ codes "https"
 
 -- the request for user info at this endpoint, for answers that needn't be signed
 abbrev pub info_request_at : {Key Algorithm : Type 0} → SeenClient Key Algorithm → List ℕ → Option (List ℕ)
@@ -121,3 +152,8 @@ info_request_at client token subject endpoint = record {
 abbrev pub IsMissing : List ℕ → ConfigurationError → Type 0
 IsMissing name (MissingUrl endpoint) = endpoint.now ≡ name
 IsMissing name (InsecureUrl endpoint) = ⊥
+
+-- the error says that the endpoint of this name isn't `https`
+abbrev pub IsInsecure : List ℕ → ConfigurationError → Type 0
+IsInsecure name (MissingUrl endpoint) = ⊥
+IsInsecure name (InsecureUrl endpoint) = endpoint.now ≡ name

@@ -6,7 +6,8 @@
 //! - [`AuthorizationRequest`] asks the authorization endpoint for an [`AuthenticationFlow`]. `url` gives the URL
 //!   to which the user is sent, with the state and the nonce that the answer has to match.
 //! - `exchange_code`, `user_info` and `id_token_verifier` of a client make the request for tokens, the request for
-//!   user info, and what the client expects of an ID token.
+//!   user info, and what the client expects of an ID token. Its other exchanges, `introspect` and `revoke_token` make
+//!   the requests of `oidc_oauth2_requests`.
 //!
 //! What it promises. A client whose type says `EndpointSet` has that URL, and one whose type says
 //! `EndpointNotSet` has none. A setter changes its own field and no other. A new request has the client's values,
@@ -26,4 +27,6 @@ mod provider_metadata;
 
 pub use crate::authorization::{AuthenticationFlow, AuthorizationRequest, CoreAuthenticationFlow};
 pub use crate::client::{Client, CoreClient};
-pub use crate::provider_metadata::{CoreProviderMetadata, ProviderMetadata};
+pub use crate::provider_metadata::{
+    CoreProviderMetadata, ProviderMetadata, ProviderMetadataWithLogout,
+};

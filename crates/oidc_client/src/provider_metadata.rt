@@ -5,7 +5,9 @@ ghost use Rattle.std.specs.Option.{option_copied};
 
 use oidc_keys::{CoreJsonWebKey, JsonWebKey, JsonWebKeySet};
 use oidc_types::{AuthUrl, IssuerUrl, JsonWebKeySetUrl, TokenUrl, UserInfoUrl};
-use oidc_user_info::{AdditionalProviderMetadata, EmptyAdditionalProviderMetadata};
+use oidc_user_info::{
+    AdditionalProviderMetadata, EmptyAdditionalProviderMetadata, LogoutProviderMetadata,
+};
 use std::alloc::Global;
 use std::marker::Model;
 
@@ -27,6 +29,12 @@ pub struct ProviderMetadata<A: AdditionalProviderMetadata, K: JsonWebKey> {
 
 /// What a provider says of itself over the program's own keys, without further metadata.
 pub type CoreProviderMetadata = ProviderMetadata<EmptyAdditionalProviderMetadata, CoreJsonWebKey>;
+
+/// The same, with the endpoint where its users sign out.
+pub type ProviderMetadataWithLogout = ProviderMetadata<
+    LogoutProviderMetadata<EmptyAdditionalProviderMetadata>,
+    CoreJsonWebKey,
+>;
 
 impl<A: AdditionalProviderMetadata, K: JsonWebKey> Model for ProviderMetadata<A, K> {
     ghost use Rattle.oidc_client.specs.ProviderMetadata.{SeenProviderMetadata};

@@ -1,26 +1,35 @@
 // What needs an endpoint, on the clients whose type says that it is set, or that it may be: the endpoint itself, and
 // the request that is made of it.
 
-ghost use Rattle.std.specs.Prelude.{◌≡◌, None, Some, IfOk, IfErr, IsSomeAnd, IsTrue, codes};
+ghost use Rattle.std.specs.Prelude.{◌≡◌, ◌≢◌, ◌↔◌, None, Some, IfOk, IfErr, IsSomeAnd, IsTrue, codes};
 ghost use Rattle.std.specs.Option.{option_copied};
 ghost use Rattle.oidc_types.specs.declared.endpoint.Presence.TheVariants.{Set};
-ghost use Rattle.oidc_client.specs.Client.{code_request_at, fits, info_request_at, IsMissing};
+ghost use Rattle.oidc_oauth2_requests.specs.FormRequests.{client_credentials_pairs, device_code_pairs, password_pairs, refresh_pairs, token_pairs};
+ghost use Rattle.oidc_client.specs.Client.{code_request_at, device_request_at, fits, form_request_at, info_request_at, introspection_at, IsInsecure, IsMissing, IsSecure};
 ghost use Rattle.oidc_client.specs.Authorization.{new_request, seen_flow};
 
 use crate::authorization::{AuthenticationFlow, AuthorizationRequest, Parties, openid_scopes};
 use crate::client::Client;
 use oidc_claims::{AdditionalClaims, GenderClaim};
 use oidc_keys::JsonWebKey;
-use oidc_oauth2::{CodeTokenRequest, ConfigurationError, ErrorResponse};
+use oidc_oauth2::{
+    CodeTokenRequest, ConfigurationError, DeviceAuthorizationResponse, ErrorResponse,
+    ExtraDeviceAuthorizationFields, RevocableToken, TokenIntrospectionResponse,
+};
+use oidc_oauth2_requests::{
+    ClientCredentialsTokenRequest, DeviceAccessTokenRequest, DeviceAuthorizationRequest,
+    IntrospectionRequest, PasswordTokenRequest, RefreshTokenRequest, RevocationRequest,
+};
 use oidc_tokens::TokenResponse;
 use oidc_types::{
     AccessToken, AuthDisplay, AuthPrompt, AuthUrl, AuthorizationCode, CsrfToken,
     DeviceAuthorizationUrl, EndpointMaybeSet, EndpointSet, EndpointState, IntrospectionUrl,
-    JweContentEncryptionAlgorithm, Nonce, ResponseType, RevocationUrl, SubjectIdentifier, TokenUrl,
-    UserInfoUrl,
+    JweContentEncryptionAlgorithm, Nonce, RefreshToken, ResourceOwnerPassword,
+    ResourceOwnerUsername, ResponseType, RevocationUrl, SubjectIdentifier, TokenUrl, UserInfoUrl,
 };
 use oidc_user_info::UserInfoRequest;
 use std::alloc::{AllocError, Global};
+use url::Url;
 
 // An endpoint that is set.
 fn set_endpoint<U>(endpoint: &Option<U>) -> &U
@@ -31,6 +40,13 @@ fn set_endpoint<U>(endpoint: &Option<U>) -> &U
         Some(url) => url,
         None => unreachable!(),
     }
+}
+
+// Whether a URL's scheme is `https`.
+fn is_https(url: &Url) -> bool
+    ensures { IsTrue result ↔ url.now.scheme ≡ codes "https" }
+{
+    url.scheme() == "https"
 }
 
 impl<
@@ -155,6 +171,23 @@ impl<
     {
         set_endpoint(&self.endpoints.device_authorization_url)
     }
+
+    /// The request for the codes of a device (RFC 8628 section 3.1). It asks for the scope `openid` where the client
+    /// does. `AllocError` is want of memory, the one error.
+    pub fn exchange_device_code(
+        &self,
+        alloc: Global,
+    ) -> Result<DeviceAuthorizationRequest<'_, TE>, AllocError>
+    where
+        TE: ErrorResponse,
+        ensures request { IfOk result (λ request. IsSomeAnd self.now.device_authorization_url
+            (λ endpoint. request ≡ device_request_at self.now endpoint)) }
+    {
+        let first = openid_scopes(alloc, self.own.openid_scope)?;
+        let endpoint = self.device_authorization_url();
+        let request = DeviceAuthorizationRequest::new(alloc, endpoint, self.client_auth());
+        request.add_scopes(first)
+    }
 }
 
 impl<
@@ -199,6 +232,21 @@ impl<
     {
         set_endpoint(&self.endpoints.introspection_url)
     }
+
+    /// The request about an access token (RFC 7662 section 2.1), without a hint. It takes no memory.
+    pub fn introspect<'a>(
+        &'a self,
+        alloc: Global,
+        token: &'a AccessToken,
+    ) -> IntrospectionRequest<'a, TE, TIR>
+    where
+        TE: ErrorResponse,
+        TIR: TokenIntrospectionResponse,
+        ensures request { IsSomeAnd self.now.introspection_url
+            (λ endpoint. result ≡ introspection_at self.now token.now endpoint) }
+    {
+        IntrospectionRequest::new(alloc, self.introspection_url(), self.client_auth(), token)
+    }
 }
 
 impl<
@@ -242,6 +290,32 @@ impl<
         ensures endpoint { Some result.now ≡ self.now.revocation_url }
     {
         set_endpoint(&self.endpoints.revocation_url)
+    }
+
+    /// The request that revokes a token (RFC 7009 section 2.1). `InsecureUrl("revocation")` exactly where the
+    /// endpoint's scheme isn't `https`. It takes no memory.
+    pub fn revoke_token(
+        &self,
+        alloc: Global,
+        token: RT,
+    ) -> Result<RevocationRequest<'_, RT, TRE>, ConfigurationError>
+    where
+        RT: RevocableToken,
+        TRE: ErrorResponse,
+        ensures request { let own = token_pairs (RT.secret token) (RT.type_hint token) in
+            IfOk result (λ request. IsSomeAnd self.now.revocation_url
+            (λ endpoint. request ≡ form_request_at self.now own endpoint)) }
+        ensures secure { IfOk result (λ request. IsSomeAnd self.now.revocation_url IsSecure) }
+        ensures insecure { IfErr result (λ error. IsSomeAnd self.now.revocation_url
+            (λ endpoint. IsSecure endpoint → ⊥)) }
+        ensures named { IfErr result (IsInsecure (codes "revocation")) }
+    {
+        let endpoint = self.revocation_url();
+        if is_https(endpoint.url()) {
+            Ok(RevocationRequest::new(alloc, endpoint, self.client_auth(), token))
+        } else {
+            Err(ConfigurationError::InsecureUrl("revocation"))
+        }
     }
 }
 
@@ -305,6 +379,92 @@ impl<
             (λ endpoint. result ≡ code_request_at self.now code endpoint) }
     {
         self.code_request_at(alloc, self.token_uri(), code)
+    }
+
+    /// The request for tokens by the client for itself (RFC 6749 section 4.4.2). It takes no
+    /// memory.
+    pub fn exchange_client_credentials(
+        &self,
+        alloc: Global,
+    ) -> ClientCredentialsTokenRequest<'_, TE, TR>
+    where
+        AC: AdditionalClaims,
+        GC: GenderClaim,
+        JE: JweContentEncryptionAlgorithm,
+        TE: ErrorResponse,
+        TR: TokenResponse<AC, GC, JE, K::SigningAlgorithm>,
+        ensures request { let own = client_credentials_pairs in
+            IsSomeAnd self.now.token_uri
+            (λ endpoint. result ≡ form_request_at self.now own endpoint) }
+    {
+        ClientCredentialsTokenRequest::new(alloc, self.token_uri(), self.client_auth())
+    }
+
+    /// The request for tokens by a person's name and password (RFC 6749 section 4.3.2). It takes no
+    /// memory.
+    pub fn exchange_password<'a>(
+        &'a self,
+        alloc: Global,
+        username: &'a ResourceOwnerUsername,
+        password: &'a ResourceOwnerPassword,
+    ) -> PasswordTokenRequest<'a, TE, TR>
+    where
+        AC: AdditionalClaims,
+        GC: GenderClaim,
+        JE: JweContentEncryptionAlgorithm,
+        TE: ErrorResponse,
+        TR: TokenResponse<AC, GC, JE, K::SigningAlgorithm>,
+        ensures request { let own = password_pairs username.now password.now in
+            IsSomeAnd self.now.token_uri
+            (λ endpoint. result ≡ form_request_at self.now own endpoint) }
+    {
+        PasswordTokenRequest::new(
+            alloc,
+            self.token_uri(),
+            self.client_auth(),
+            username,
+            password,
+        )
+    }
+
+    /// The request for new tokens by a refresh token (RFC 6749 section 6). It takes no
+    /// memory.
+    pub fn exchange_refresh_token<'a>(
+        &'a self,
+        alloc: Global,
+        token: &'a RefreshToken,
+    ) -> RefreshTokenRequest<'a, TE, TR>
+    where
+        AC: AdditionalClaims,
+        GC: GenderClaim,
+        JE: JweContentEncryptionAlgorithm,
+        TE: ErrorResponse,
+        TR: TokenResponse<AC, GC, JE, K::SigningAlgorithm>,
+        ensures request { let own = refresh_pairs token.now in
+            IsSomeAnd self.now.token_uri
+            (λ endpoint. result ≡ form_request_at self.now own endpoint) }
+    {
+        RefreshTokenRequest::new(alloc, self.token_uri(), self.client_auth(), token)
+    }
+
+    /// The request of a device for its tokens (RFC 8628 section 3.4), by the device code of a response. It takes no
+    /// memory.
+    pub fn exchange_device_access_token<'a, EF>(
+        &'a self,
+        alloc: Global,
+        response: &'a DeviceAuthorizationResponse<EF>,
+    ) -> DeviceAccessTokenRequest<'a, TR, EF>
+    where
+        EF: ExtraDeviceAuthorizationFields,
+        AC: AdditionalClaims,
+        GC: GenderClaim,
+        JE: JweContentEncryptionAlgorithm,
+        TR: TokenResponse<AC, GC, JE, K::SigningAlgorithm>,
+        ensures request { let own = device_code_pairs response.now.device_code in
+            IsSomeAnd self.now.token_uri
+            (λ endpoint. result ≡ form_request_at self.now own endpoint) }
+    {
+        DeviceAccessTokenRequest::new(alloc, self.token_uri(), self.client_auth(), response)
     }
 }
 
@@ -372,6 +532,119 @@ impl<
     {
         match self.token_uri() {
             Some(endpoint) => Ok(self.code_request_at(alloc, endpoint, code)),
+            None => Err(ConfigurationError::MissingUrl("token")),
+        }
+    }
+
+    /// The request for tokens by the client for itself (RFC 6749 section 4.4.2).
+    /// `MissingUrl("token")` exactly where the token endpoint isn't set. It takes no memory.
+    pub fn exchange_client_credentials(
+        &self,
+        alloc: Global,
+    ) -> Result<ClientCredentialsTokenRequest<'_, TE, TR>, ConfigurationError>
+    where
+        AC: AdditionalClaims,
+        GC: GenderClaim,
+        JE: JweContentEncryptionAlgorithm,
+        TE: ErrorResponse,
+        TR: TokenResponse<AC, GC, JE, K::SigningAlgorithm>,
+        ensures request { IfOk result (λ request. IsSomeAnd self.now.token_uri
+            (λ endpoint. request ≡ form_request_at self.now client_credentials_pairs endpoint)) }
+        ensures unset { IfErr result (λ error. self.now.token_uri ≡ None) }
+        ensures missing { IfErr result (IsMissing (codes "token")) }
+    {
+        match self.token_uri() {
+            Some(endpoint) => {
+                Ok(ClientCredentialsTokenRequest::new(alloc, endpoint, self.client_auth()))
+            }
+            None => Err(ConfigurationError::MissingUrl("token")),
+        }
+    }
+
+    /// The request for tokens by a person's name and password (RFC 6749 section 4.3.2).
+    /// `MissingUrl("token")` exactly where the token endpoint isn't set. It takes no memory.
+    pub fn exchange_password<'a>(
+        &'a self,
+        alloc: Global,
+        username: &'a ResourceOwnerUsername,
+        password: &'a ResourceOwnerPassword,
+    ) -> Result<PasswordTokenRequest<'a, TE, TR>, ConfigurationError>
+    where
+        AC: AdditionalClaims,
+        GC: GenderClaim,
+        JE: JweContentEncryptionAlgorithm,
+        TE: ErrorResponse,
+        TR: TokenResponse<AC, GC, JE, K::SigningAlgorithm>,
+        ensures request { let own = password_pairs username.now password.now in
+            IfOk result (λ request. IsSomeAnd self.now.token_uri
+            (λ endpoint. request ≡ form_request_at self.now own endpoint)) }
+        ensures unset { IfErr result (λ error. self.now.token_uri ≡ None) }
+        ensures missing { IfErr result (IsMissing (codes "token")) }
+    {
+        match self.token_uri() {
+            Some(endpoint) => {
+                Ok(PasswordTokenRequest::new(
+                    alloc,
+                    endpoint,
+                    self.client_auth(),
+                    username,
+                    password,
+                ))
+            }
+            None => Err(ConfigurationError::MissingUrl("token")),
+        }
+    }
+
+    /// The request for new tokens by a refresh token (RFC 6749 section 6).
+    /// `MissingUrl("token")` exactly where the token endpoint isn't set. It takes no memory.
+    pub fn exchange_refresh_token<'a>(
+        &'a self,
+        alloc: Global,
+        token: &'a RefreshToken,
+    ) -> Result<RefreshTokenRequest<'a, TE, TR>, ConfigurationError>
+    where
+        AC: AdditionalClaims,
+        GC: GenderClaim,
+        JE: JweContentEncryptionAlgorithm,
+        TE: ErrorResponse,
+        TR: TokenResponse<AC, GC, JE, K::SigningAlgorithm>,
+        ensures request { let own = refresh_pairs token.now in
+            IfOk result (λ request. IsSomeAnd self.now.token_uri
+            (λ endpoint. request ≡ form_request_at self.now own endpoint)) }
+        ensures unset { IfErr result (λ error. self.now.token_uri ≡ None) }
+        ensures missing { IfErr result (IsMissing (codes "token")) }
+    {
+        match self.token_uri() {
+            Some(endpoint) => {
+                Ok(RefreshTokenRequest::new(alloc, endpoint, self.client_auth(), token))
+            }
+            None => Err(ConfigurationError::MissingUrl("token")),
+        }
+    }
+
+    /// The request of a device for its tokens (RFC 8628 section 3.4), by the device code of a response.
+    /// `MissingUrl("token")` exactly where the token endpoint isn't set. It takes no memory.
+    pub fn exchange_device_access_token<'a, EF>(
+        &'a self,
+        alloc: Global,
+        response: &'a DeviceAuthorizationResponse<EF>,
+    ) -> Result<DeviceAccessTokenRequest<'a, TR, EF>, ConfigurationError>
+    where
+        EF: ExtraDeviceAuthorizationFields,
+        AC: AdditionalClaims,
+        GC: GenderClaim,
+        JE: JweContentEncryptionAlgorithm,
+        TR: TokenResponse<AC, GC, JE, K::SigningAlgorithm>,
+        ensures request { let own = device_code_pairs response.now.device_code in
+            IfOk result (λ request. IsSomeAnd self.now.token_uri
+            (λ endpoint. request ≡ form_request_at self.now own endpoint)) }
+        ensures unset { IfErr result (λ error. self.now.token_uri ≡ None) }
+        ensures missing { IfErr result (IsMissing (codes "token")) }
+    {
+        match self.token_uri() {
+            Some(endpoint) => {
+                Ok(DeviceAccessTokenRequest::new(alloc, endpoint, self.client_auth(), response))
+            }
             None => Err(ConfigurationError::MissingUrl("token")),
         }
     }

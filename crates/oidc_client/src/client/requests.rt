@@ -1,7 +1,8 @@
 // What any client makes: what it expects of an ID token, and its requests at an endpoint that is given.
 
 ghost use Rattle.std.specs.Prelude.{◌≡◌, None, IfOk};
-ghost use Rattle.oidc_client.specs.Client.{code_request_at, info_request_at, verifier_of};
+ghost use Rattle.oidc_oauth2.specs.ClientAuth.{seen_client};
+ghost use Rattle.oidc_client.specs.Client.{client_auth_of, code_request_at, info_request_at, verifier_of};
 
 use crate::client::Client;
 use oidc_keys::JsonWebKey;
@@ -85,6 +86,17 @@ impl<
         }
     }
 
+    // How it names itself to an endpoint.
+    pub(super) fn client_auth(&self) -> ClientAuth<'_>
+        ensures { seen_client result ≡ client_auth_of self.now }
+    {
+        ClientAuth {
+            client_id: &self.own.client_id,
+            client_secret: self.own.client_secret.as_ref(),
+            auth_type: self.own.auth_type,
+        }
+    }
+
     // The exchange of a code at an endpoint.
     pub(super) fn code_request_at<'a, E, R>(
         &'a self,
@@ -94,12 +106,7 @@ impl<
     ) -> CodeTokenRequest<'a, E, R>
         ensures { result ≡ code_request_at self.now code endpoint.now }
     {
-        let auth = ClientAuth {
-            client_id: &self.own.client_id,
-            client_secret: self.own.client_secret.as_ref(),
-            auth_type: self.own.auth_type,
-        };
-        let request = CodeTokenRequest::new(alloc, endpoint, auth, code);
+        let request = CodeTokenRequest::new(alloc, endpoint, self.client_auth(), code);
         match &self.own.redirect_uri {
             None => request,
             Some(redirect) => request.set_redirect_uri(redirect),
