@@ -10,7 +10,7 @@ ghost use Rattle.oidc_cli.specs.Drill as spec;
 use crate::beside::beside;
 use crate::events::{BeginLine, CallbackLine, ClientLine, LineError, ProviderUrls};
 use crate::logins::client_of;
-use crate::script::answers::token_response;
+use crate::script::answers::response_with;
 use crate::script::values::url_of;
 use http::StatusCode;
 use http_header::HeaderValue;
@@ -230,7 +230,7 @@ fn response(alloc: Global, body: Vec<u8>) -> Result<HttpResponse, AllocError>
     ensures { IfOk result (λ made. seen_response made ≡ spec.response body.items) }
 {
     let json = HeaderValue::from_static("application/json");
-    match token_response(alloc, StatusCode::OK, Some(json), body) {
+    match response_with(alloc, StatusCode::OK, Some(json), body) {
         Ok(response) => Ok(response),
         Err(_) => Err(AllocError),
     }
