@@ -39,7 +39,8 @@ def standard(line):
 READERS = {
     "vectors": {"standard": standard, **plain_answers.OPERATIONS, **plain_keys.OPERATIONS},
     "vectors_requests": plain_requests.OPERATIONS,
-    "vectors_tokens": {**plain_tokens.OPERATIONS, **plain_info.OPERATIONS, **plain_urls.OPERATIONS},
+    "vectors_tokens": {**plain_tokens.OPERATIONS, **plain_info.OPERATIONS, **plain_urls.OPERATIONS,
+                       **plain_requests.CLIENT_OPERATIONS},
     "vectors_logins": plain_callback.OPERATIONS,
 }
 
@@ -69,6 +70,7 @@ ASIDE = {
         "&issuer=https://&",
         "op=authorize&endpoint=https://example&",
         "op=logout&endpoint=HTTPS://EXAMPLE:443/end&",
+        "op=client_request&call=revocation&endpoint=HTTPS://EXAMPLE/revoke&",
     ],
     "vectors_logins": [],
 }

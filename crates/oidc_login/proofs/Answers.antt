@@ -5,12 +5,12 @@ use Rattle.oidc_oauth2.specs.Messages.{SeenResponse}
 use Rattle.oidc_oauth2.specs.ErrorResponse.{SeenError, error_response_of}
 use Rattle.oidc_oauth2.specs.Words.{error_of}
 use Rattle.oidc_oauth2.specs.Replies.{◌>>◌, ◌when◌, ◌or_as◌, Gives}
-use Rattle.oidc_oauth2.specs.TokenAnswers.{is_over_long, token_answer, token_errors}
+use Rattle.oidc_oauth2.specs.TokenAnswers.{is_over_long, answer_by, record_answer, token_errors}
 use Rattle.oidc_oauth2.specs.declared.error_types.CoreErrorResponseType.{CoreErrorResponseType}
 use Rattle.oidc_oauth2.specs.declared.token_answers.RequestTokenError.{RequestTokenError}
 use Rattle.oidc_oauth2.specs.declared.token_answers.RequestTokenError.TheVariants as token
-use Rattle.oidc_oauth2.specs.AnswerCauses.{HoldsTokens, StatusCause}
-use Rattle.oidc_oauth2.proofs.Theorems.{IsJudged, status_worth-judged, StatusRests, status-rests, tokens_worth, refusal_worth}
+use Rattle.oidc_oauth2.specs.AnswerCauses.{HoldsRecord, StatusCause}
+use Rattle.oidc_oauth2.proofs.Theorems.{IsJudged, status_worth-judged, StatusRests, status-rests, held_worth, refusal_worth}
 use Rattle.oidc_login.specs.Types.{SiteTypes}
 use Rattle.oidc_login.specs.Token.{Tokens, TokenError, error_read, tokens_read, tokens_or_refusal}
 use Rattle.oidc_login.specs.Errors.{login_errors, faulted, spent_of}
@@ -90,26 +90,26 @@ module _ {AC GC Key Use : Type 0} (types : SiteTypes AC GC Key Use) (r : SeenRes
   unfolding tokens_or_refusal
   rests = status-rests error_read (tokens_read types) r
 
-  pub tokens_back : (tokens : Tokens AC GC) → HoldsTokens error_read (tokens_read types) r tokens → tokens_or_refusal types r ≡ Ok tokens
+  pub tokens_back : (tokens : Tokens AC GC) → HoldsRecord (tokens_read types) r tokens → tokens_or_refusal types r ≡ Ok tokens
   unfolding tokens_or_refusal
-  tokens_back tokens held = tokens_worth error_read (tokens_read types) r tokens held
+  tokens_back tokens held = held_worth error_read (tokens_read types) r tokens held
 
   pub refusal_back : (e : TokenError) → StatusCause error_read (tokens_read types) r e → tokens_or_refusal types r ≡ Err e
   unfolding tokens_or_refusal
   refusal_back e cause = refusal_worth error_read (tokens_read types) r e cause
 
-  pub tokens_given : (tokens : Tokens AC GC) → token_answer (error_response_of error_of) (tokens_read types) r ≡ Ok tokens → tokens_of types r ≡ Ok tokens
-  unfolding token_answer tokens_of tokens_or_refusal
+  pub tokens_given : (tokens : Tokens AC GC) → record_answer (error_response_of error_of) (tokens_read types) r ≡ Ok tokens → tokens_of types r ≡ Ok tokens
+  unfolding answer_by tokens_of tokens_or_refusal
   tokens_given tokens is = ok_row (is_over_long r.body) r.body (tokens_or_refusal types r) tokens is
 
   module _ {E : Type 0} where
     abbrev Answered : Result (Tokens AC GC) (RequestTokenError E CoreError) → Type 0
-    Answered result = Gives token_errors result (token_answer (error_response_of error_of) (tokens_read types) r)
+    Answered result = Gives token_errors result (record_answer (error_response_of error_of) (tokens_read types) r)
 
     pub refusal_given : (e : RequestTokenError E CoreError) → Answered (Err e) → Gives login_errors {A = Tokens AC GC} (Err (of_token e)) (tokens_of types r)
-    unfolding token_answer tokens_of tokens_or_refusal
+    unfolding answer_by tokens_of tokens_or_refusal
     refusal_given e is = err_row (is_over_long r.body) r.body (tokens_or_refusal types r) e judged is
 
     pub no_fault_given : (e : RequestTokenError E CoreError) → Answered (Err e) → faulted (of_token e) ≡ false
-    unfolding token_answer tokens_or_refusal
+    unfolding answer_by tokens_or_refusal
     no_fault_given e is = no_fault (is_over_long r.body) r.body (tokens_or_refusal types r) e judged is

@@ -3,13 +3,13 @@ use Rattle.std.proofs.Common.{◌≡◌, ℕ, List, drop, false, Option, None, S
 use Rattle.std.specs.Prelude.{option_map}
 use Rattle.oidc_oauth2.specs.Messages.{SeenResponse, SeenAnswer}
 use Rattle.oidc_oauth2.specs.Transport.{first_answer}
-use Rattle.oidc_oauth2.specs.AnswerCauses.{HoldsTokens}
+use Rattle.oidc_oauth2.specs.AnswerCauses.{HoldsRecord}
 use Rattle.oidc_user_info.specs.UserInfoClaims.{SeenUserInfoClaims}
 use Rattle.oidc_user_info.specs.InfoRequests.{SeenInfoRequest}
 use Rattle.oidc_user_info.specs.InfoCauses.{IsAsked, Fits as FitsAnswer, HoldsObject, ReadsObject, IsUserInfo}
 use Rattle.oidc_client.specs.Client.{info_request_at}
 use Rattle.oidc_login.specs.Types.{SiteTypes}
-use Rattle.oidc_login.specs.Token.{Tokens, error_read, tokens_read, subject_of}
+use Rattle.oidc_login.specs.Token.{Tokens, tokens_read, subject_of}
 use Rattle.oidc_login.specs.SignedIn.{SeenSignedIn}
 use Rattle.oidc_login.specs.UserInfo.{demanded, info_ask}
 use Rattle.oidc_login.specs.Callback.{Attempt}
@@ -21,7 +21,7 @@ use Rattle.oidc_login.proofs.Asked.{made}
 module _ {AC GC Key Use : Type 0} (types : SiteTypes AC GC Key Use) where
   -- ---- what the two answers hold
 
-  tokens_held : (tokens : Tokens AC GC) (r : SeenResponse) → IsValidTokenAnswer types tokens r → HoldsTokens error_read (tokens_read types) r tokens
+  tokens_held : (tokens : Tokens AC GC) (r : SeenResponse) → IsValidTokenAnswer types tokens r → HoldsRecord (tokens_read types) r tokens
   tokens_held tokens r x = record { holds = record { success = x.success; json = x.json; some_body = x.some_body }; read = x.read }
 
   same_text : (x y : List ℕ) → ◌≡◌ {A = Option (List ℕ)} (Some x) (Some y) → x ≡ y

@@ -10,7 +10,7 @@ use Rattle.oidc_oauth2.specs.Messages.{SeenRequest, SeenResponse, SeenAnswer}
 use Rattle.oidc_oauth2.specs.Requests.{is_address}
 use Rattle.oidc_oauth2.specs.Transport.{first_answer}
 use Rattle.oidc_oauth2.specs.TokenAnswers.{is_over_long}
-use Rattle.oidc_oauth2.specs.AnswerCauses.{HoldsTokens, StatusCause}
+use Rattle.oidc_oauth2.specs.AnswerCauses.{HoldsRecord, StatusCause}
 use Rattle.oidc_oauth2.specs.declared.token_answers.OtherCause.TheVariants as other
 use Rattle.oidc_oauth2.specs.declared.token_answers.RequestTokenError.TheVariants as token_error
 use Rattle.oidc_tokens.specs.declared.verification.refusals.ClaimsVerificationError.{ClaimsVerificationError}
@@ -102,7 +102,7 @@ module _ {AC GC Key Use : Type 0} (types : SiteTypes AC GC Key Use) (a : Attempt
   pub record Reads (login : SeenLogin) (tokens : Tokens AC GC) : Type 0 where
     pub response : SeenResponse
     pub answered : Answered login response
-    pub tokens_held : HoldsTokens error_read (tokens_read types) response tokens
+    pub tokens_held : HoldsRecord (tokens_read types) response tokens
 
   -- with this ID token among them
   pub record Holds (h : Held AC GC) : Type 0 where

@@ -15,7 +15,7 @@ use Rattle.oidc_oauth2.specs.Words.{error_of, token_type_of}
 use Rattle.oidc_oauth2.specs.ErrorResponse.{SeenError, error_response_of}
 use Rattle.oidc_oauth2.specs.Replies.{◌>>=◌}
 use Rattle.oidc_oauth2.specs.TokenResponse.{SeenTokens, tokens_among}
-use Rattle.oidc_oauth2.specs.TokenAnswers.{TokenRefusal, status_worth}
+use Rattle.oidc_oauth2.specs.TokenAnswers.{TokenRefusal, record_worth, status_worth}
 use Rattle.oidc_oauth2.specs.declared.error_types.CoreErrorResponseType.{CoreErrorResponseType}
 use Rattle.oidc_oauth2.specs.declared.token_type.CoreTokenType.{CoreTokenType}
 use Rattle.oidc_oauth2.specs.declared.extra_fields.EmptyExtraTokenFields.{EmptyExtraTokenFields}
@@ -76,7 +76,7 @@ module _ {AC GC Key Use : Type 0} (types : SiteTypes AC GC Key Use) where
 
   -- the tokens that a response holds whose body isn't too long, or why it is refused
   unfoldable pub tokens_or_refusal : SeenResponse → Result (Tokens AC GC) TokenError
-  tokens_or_refusal = status_worth error_read tokens_read
+  tokens_or_refusal = status_worth error_read (record_worth tokens_read)
 
 -- ---- what is expected of the ID token
 

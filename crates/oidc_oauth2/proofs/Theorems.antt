@@ -1,17 +1,14 @@
--- What crates above may cite: the refusals that a response is never worth, what each reply to a request for tokens
--- rests on, and by which steps a response is judged.
-use Rattle.std.proofs.Common.{◌==◌, ℕ, List, Bool, true, false, cond, Result, Ok, Err, refl, subst}
-use Rattle.std.specs.Prelude.{◌≡◌, not, IfErr}
+-- What crates above may cite: the refusals that a response is never worth, what each reply to it rests on, and by which
+-- steps it is judged.
+use Rattle.std.proofs.Common.{List, Result, Ok, Err}
 use Rattle.oidc_members.specs.Seen.{SeenMember}
 use Rattle.oidc_members.specs.declared.refusal.Refusal.{Refusal}
 use Rattle.oidc_oauth2.specs.Messages.{SeenResponse}
-use Rattle.oidc_oauth2.specs.Replies.{◌>>=◌, ◌>>◌, ◌when◌, ◌or_as◌, Gives}
-use Rattle.oidc_oauth2.specs.TokenAnswers.{TokenRefusal, record_in, error_in, tokens_in, status_worth, token_answer, is_over_long, is_empty, may_be_json, is_fault, token_errors}
+use Rattle.oidc_oauth2.specs.TokenAnswers.{TokenRefusal, record_worth, status_worth}
 use Rattle.oidc_oauth2.specs.declared.token_answers.OtherCause.TheVariants.{Uri, EmptyBody, MediaType}
-use Rattle.oidc_oauth2.specs.declared.token_answers.RequestTokenError.{RequestTokenError}
 use Rattle.oidc_oauth2.specs.declared.token_answers.RequestTokenError.TheVariants.{ServerResponse, Request, Parse, Other, TooLong, Memory}
-pub use Rattle.oidc_oauth2.proofs.AnswerRows.{StatusRests, status-rests, tokens_worth, refusal_worth, AnswerRests, answer-rests, tokens_answer, refused_answer}
-pub use Rattle.oidc_oauth2.proofs.AnswerSteps.{answer_by_success, record_refused, record_read}
+pub use Rattle.oidc_oauth2.proofs.AnswerRows.{equal, unequal, ErrorRests, error_rests, success_worth, error_worth, StatusRests, status-rests, held_worth, refusal_worth, records}
+pub use Rattle.oidc_oauth2.proofs.AnswerSteps.{success_refused, success_taken, record_refused, record_read}
 
 module _ (A TE : Type 0) where
   -- no refusal that comes without a response, and no over-long body
@@ -22,51 +19,18 @@ module _ (A TE : Type 0) where
   IsJudged (Err Memory) = ⊥
   IsJudged result = Unit {0}
 
-  after_when : (e : TokenRefusal TE) (b : Bool) (next : Result A (TokenRefusal TE)) → IsJudged (Err e) → IsJudged next → IsJudged ((e when b) >> next)
-  after_when e true next own later = own
-  after_when e false next own later = later
+  module _ (error_of : List SeenMember → Result TE Refusal) (read_of : List SeenMember → Result A Refusal) (r : SeenResponse) where
+    judged : (reply : Result A (TokenRefusal TE)) → StatusRests error_of read_of r reply → IsJudged reply
+    judged (Ok value) c = tt
+    judged (Err (ServerResponse error)) c = tt
+    judged (Err (Request u)) c = c
+    judged (Err (Parse refusal body)) c = tt
+    judged (Err (Other Uri)) c = c
+    judged (Err (Other EmptyBody)) c = tt
+    judged (Err (Other MediaType)) c = tt
+    judged (Err (TooLong body)) c = c
+    judged (Err Memory) c = c
 
-  parsed : (read : Result A Refusal) (body : List ℕ) → IsJudged (read or_as (λ refusal. Parse refusal body))
-  parsed (Ok value) body = tt
-  parsed (Err refusal) body = tt
-
-  either : (b : Bool) (x y : Result A (TokenRefusal TE)) → IsJudged x → IsJudged y → IsJudged (cond b x y)
-  either true x y own other = own
-  either false x y own other = other
-
-  refused : (read : Result TE Refusal) (body : List ℕ)
-      → IsJudged ((read or_as (λ refusal. Parse refusal body)) >>= (λ error. Err (ServerResponse error)))
-  refused (Ok error) body = tt
-  refused (Err refusal) body = tt
-
-  module _ (error_of : List SeenMember → Result TE Refusal) (token_of : List SeenMember → Result A Refusal) (r : SeenResponse) where
-    error_judged : IsJudged (error_in error_of token_of r)
-    unfolding error_in
-    error_judged = after_when (Other EmptyBody) (is_empty r.body) _ tt (refused (record_in error_of r.body) r.body)
-
-    tokens_judged : IsJudged (tokens_in error_of token_of r)
-    unfolding tokens_in
-    tokens_judged =
-        after_when (Other MediaType) (not (may_be_json r)) _ tt
-        (after_when (Other EmptyBody) (is_empty r.body) _ tt (parsed (record_in token_of r.body) r.body))
-
-    -- by its status, a response is worth tokens or one of the refusals by status, media type and body
-    pub status_worth-judged : IsJudged (status_worth error_of token_of r)
-    unfolding status_worth
-    status_worth-judged = either (r.status == 200) _ _ tokens_judged error_judged
-
-    unblamed : {RE : Type 0} (result : Result A (RequestTokenError RE TE)) (long : Bool)
-        → Gives token_errors result ((TooLong r.body when long) >> status_worth error_of token_of r) → IfErr result (λ e. is_fault e ≡ false)
-    unblamed (Ok value) long gives = tt
-    unblamed (Err (ServerResponse error)) long gives = refl
-    unblamed (Err (Request e)) true gives = absurd (cc)
-    unblamed (Err (Request e)) false gives = absurd (subst IsJudged gives status_worth-judged)
-    unblamed (Err (Parse refusal body)) long gives = refl
-    unblamed (Err (Other cause)) long gives = refl
-    unblamed (Err (TooLong body)) long gives = refl
-    unblamed (Err Memory) long gives = refl
-
-    -- a result that is what a response is worth is no fault of the transport
-    pub token_answer-unblamed : {RE : Type 0} (result : Result A (RequestTokenError RE TE)) → Gives token_errors result (token_answer error_of token_of r) → IfErr result (λ e. is_fault e ≡ false)
-    unfolding token_answer
-    token_answer-unblamed result gives = unblamed result (is_over_long r.body) gives
+    -- by its status, a response is worth a record or one of the refusals by status, media type and body
+    pub status_worth-judged : IsJudged (status_worth error_of (record_worth read_of) r)
+    status_worth-judged = judged (status_worth error_of (record_worth read_of) r) (status-rests error_of read_of r)

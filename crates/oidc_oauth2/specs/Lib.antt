@@ -1,6 +1,6 @@
 -- In reading order: the words for replies; what goes over a transport, what a transport promises, transports in memory and over a closure;
 -- header fields, PKCE, vocabularies; how a client names itself, the code request; the records of answers; what
--- a token answer is worth, what requests leave of a transport, and what the result of one rests on.
+-- a response is worth, what requests leave of a transport, what a reply rests on, and the result of a request.
 pub mod Replies
 pub mod Messages
 pub mod Transport
@@ -19,6 +19,7 @@ pub mod Introspection
 pub mod TokenAnswers
 pub mod Exchanges
 pub mod AnswerCauses
+pub mod RequestRuns
 -- what no public clause cites
 pub mod Slots
 pub mod TokenFields

@@ -68,7 +68,7 @@ abbrev pub code_pairs : SeenCodeRequest → List (List ℕ × List ℕ)
 code_pairs r = grant_pairs r ++ client_pairs r.client ++ pair_if (codes "redirect_uri") r.redirect_uri ++ r.extra
 
 unfoldable pub code_request : SeenCodeRequest → Option SeenRequest
-code_request r = if is_address r.address then Some (post_of r.address r.client (code_pairs r)) else None
+code_request r = posted r.address r.client (code_pairs r)
 
 -- ---- a request that is made
 

@@ -1,4 +1,4 @@
--- What a response to a token request is worth (RFC 6749 sections 5.1 and 5.2).
+-- What a response to a request of form pairs is worth (RFC 6749 sections 5.1 and 5.2).
 use Rattle.std.specs.Prelude.{◌≡◌, ◌==◌, nat_lt, not, ℕ, List, length, Bool, true, false, Result, Ok, Err, if◌then◌else◌, codes}
 use Rattle.oidc_members.specs.Seen.{SeenMember}
 use Rattle.oidc_members.specs.Objects.{split_of}
@@ -16,7 +16,7 @@ use Rattle.oidc_oauth2.specs.declared.token_answers.RequestTokenError.TheVariant
 abbrev pub TokenRefusal : Type 0 → Type 0
 TokenRefusal TE = RequestTokenError (Unit {0}) TE
 
--- ---- the lines
+-- ---- words for the lines
 
 abbrev pub is_over_long : List ℕ → Bool
 is_over_long body = nat_lt 1_048_576 (length body)
@@ -32,66 +32,46 @@ may_be_json r = may_be r.content_type (codes "application/json")
 abbrev pub record_in : {A : Type 0} → (List SeenMember → Result A Refusal) → List ℕ → Result A Refusal
 record_in read_of body = split_of body >>= read_of
 
-module _ {TE TR : Type 0} (error_of : List SeenMember → Result TE Refusal) (token_of : List SeenMember → Result TR Refusal) where
-  -- of status 200 (section 5.1)
-  unfoldable pub tokens_in : SeenResponse → Result TR (TokenRefusal TE)
-  tokens_in r = do
+-- the record that was read, or the refusal beside the body that it was read of
+abbrev pub record_or_refusal : {A TE : Type 0} → List ℕ → Result A Refusal → Result A (TokenRefusal TE)
+record_or_refusal body read = read or_as (λ refusal. Parse refusal body)
+
+-- ---- the table: a line a refusal, the first that holds
+
+module _ {TE A : Type 0} where
+  -- of status 200, where the response should be a record (section 5.1)
+  unfoldable pub record_worth : (List SeenMember → Result A Refusal) → SeenResponse → Result A (TokenRefusal TE)
+  record_worth read_of r = do
     Other MediaType when not (may_be_json r)
     Other EmptyBody when is_empty r.body
-    record_in token_of r.body or_as (λ refusal. Parse refusal r.body)
+    record_or_refusal r.body (record_in read_of r.body)
 
-  -- of another status (section 5.2), whatever its media type is
-  unfoldable pub error_in : SeenResponse → Result TR (TokenRefusal TE)
-  error_in r = do
-    Other EmptyBody when is_empty r.body
-    error ← record_in error_of r.body or_as (λ refusal. Parse refusal r.body)
-    Err (ServerResponse error)
+  module _ (error_of : List SeenMember → Result TE Refusal) where
+    -- of another status (section 5.2), whatever its media type is
+    unfoldable pub error_in : SeenResponse → Result A (TokenRefusal TE)
+    error_in r = do
+      Other EmptyBody when is_empty r.body
+      error ← record_or_refusal r.body (record_in error_of r.body)
+      Err (ServerResponse error)
 
-  unfoldable pub status_worth : SeenResponse → Result TR (TokenRefusal TE)
-  status_worth r = if r.status == 200 then tokens_in r else error_in r
+    -- What one of status 200 is worth is the request's own.
+    module _ (success : SeenResponse → Result A (TokenRefusal TE)) where
+      unfoldable pub status_worth : SeenResponse → Result A (TokenRefusal TE)
+      status_worth r = if r.status == 200 then success r else error_in r
 
-  -- The size is looked at before the status.
-  unfoldable pub token_answer : SeenResponse → Result TR (TokenRefusal TE)
-  token_answer r = do
-    TooLong r.body when is_over_long r.body
-    status_worth r
+      -- The judge of all answers. The size is looked at before the status.
+      unfoldable pub answer_by : SeenResponse → Result A (TokenRefusal TE)
+      answer_by r = do
+        TooLong r.body when is_over_long r.body
+        status_worth r
 
--- ---- the steps that answers to all requests share
+    -- where it should be a record: tokens, codes for a device, what is said of a token
+    abbrev pub record_answer : (List SeenMember → Result A Refusal) → SeenResponse → Result A (TokenRefusal TE)
+    record_answer read_of = answer_by (record_worth read_of)
 
--- what was read of a body, or the refusal beside that body
-abbrev pub read_in : {A TE : Type 0} → List ℕ → Result A Refusal → Result A (TokenRefusal TE)
-read_in body read = read or_as (λ refusal. Parse refusal body)
-
--- the members of the object that a body is, and the body
-abbrev pub members_in : {TE : Type 0} → List ℕ → Result (List SeenMember × List ℕ) (TokenRefusal TE)
-members_in body = read_in body (split_of body) >>= (λ members. Ok (members, body))
-
--- the object that a response of status 200 is
-unfoldable pub object_in : {TE : Type 0} → SeenResponse → Result (List SeenMember × List ℕ) (TokenRefusal TE)
-object_in r = do
-  Other MediaType when not (may_be_json r)
-  Other EmptyBody when is_empty r.body
-  members_in r.body
-
-module _ {TE : Type 0} (error_of : List SeenMember → Result TE Refusal) where
-  -- the refusal by what was read as an error response
-  abbrev pub refused_by : List ℕ → Result TE Refusal → TokenRefusal TE
-  refused_by body (Ok error) = ServerResponse error
-  refused_by body (Err refusal) = Parse refusal body
-
-  -- the refusal that a response of another status is (section 5.2), whatever its media type is
-  unfoldable pub refusal_in : SeenResponse → TokenRefusal TE
-  refusal_in r = if is_empty r.body then Other EmptyBody else refused_by r.body (record_in error_of r.body)
-
-  -- the response, where its body isn't too long and its status is 200
-  unfoldable pub success_in : SeenResponse → Result SeenResponse (TokenRefusal TE)
-  success_in r = do
-    TooLong r.body when is_over_long r.body
-    if r.status == 200 then Ok r else Err (refusal_in r)
-
-  -- the object that it holds, where it should be a record
-  abbrev pub object_answer : SeenResponse → Result (List SeenMember × List ℕ) (TokenRefusal TE)
-  object_answer r = success_in r >>= object_in
+-- an object itself, as the record that has all of its members
+abbrev pub object_of : List SeenMember → Result (List SeenMember) Refusal
+object_of members = Ok members
 
 -- ---- what is seen of an error
 
@@ -116,7 +96,12 @@ module _ {RE TE : Type 0} where
   abbrev pub token_errors : ErrorMeaning (RequestTokenError RE TE) (TokenRefusal TE)
   token_errors = record { seen = seen_refusal; wants_memory = wants_memory; is_fault = is_fault }
 
--- the result is the response that is meant, or the refusal, or want of memory
-abbrev pub GivesResponse : {RE TE : Type 0} → Result (Response (List ℕ)) (RequestTokenError RE TE) → Result SeenResponse (TokenRefusal TE) → Type 0
-GivesResponse (Ok response) reply = reply ≡ Ok (seen_response response)
-GivesResponse (Err e) reply = Unless (wants_memory e) (reply ≡ Err (seen_refusal e))
+  -- the result is the response that is meant, or the refusal, or want of memory
+  abbrev pub GivesResponse : Result (Response (List ℕ)) (RequestTokenError RE TE) → Result SeenResponse (TokenRefusal TE) → Type 0
+  GivesResponse (Ok response) reply = reply ≡ Ok (seen_response response)
+  GivesResponse (Err e) reply = Unless (wants_memory e) (reply ≡ Err (seen_refusal e))
+
+  -- the result is the object that is meant, beside this body, or the refusal, or want of memory
+  abbrev pub GivesObject : Result (List SeenMember × List ℕ) (RequestTokenError RE TE) → List ℕ → Result (List SeenMember) (TokenRefusal TE) → Type 0
+  GivesObject (Ok object) body reply = (reply ≡ Ok object.0) × (object.1 ≡ body)
+  GivesObject (Err e) body reply = Unless (wants_memory e) (reply ≡ Err (seen_refusal e))

@@ -8,9 +8,10 @@ ghost use Rattle.url.specs.Parts.{serialize};
 ghost use Rattle.http_header.specs.FieldValue.{plain_value};
 ghost use Rattle.oidc_oauth2.specs.ClientAuth.{seen_client};
 ghost use Rattle.oidc_oauth2.specs.Replies.{Gives};
-ghost use Rattle.oidc_oauth2.specs.TokenAnswers.{is_fault, token_errors};
-ghost use Rattle.oidc_oauth2.specs.Exchanges.{answer_of, Follows, IsRequestBlamed, known};
-ghost use Rattle.oidc_oauth2.specs.AnswerCauses.{code_reply, code_run, RanTokenRequest};
+ghost use Rattle.oidc_oauth2.specs.TokenAnswers.{record_answer, is_fault, token_errors};
+ghost use Rattle.oidc_oauth2.specs.Exchanges.{answer_of, reply_by, Follows, IsRequestBlamed, known};
+ghost use Rattle.oidc_oauth2.specs.RequestRuns.{code_ask, request_run, RanForRecord};
+ghost use Rattle.oidc_oauth2.specs.declared.token_answers.RequestTokenError.TheVariants.{Request};
 ghost use Rattle.oidc_oauth2.specs.Requests as spec;
 
 use crate::client_auth::{ClientAuth, authorization, push_client, push_optional};
@@ -292,8 +293,8 @@ fn judge_answer<RE, TE: ErrorResponse, TR: OAuth2TokenResponse>(
     alloc: Global,
     answer: Result<HttpResponse, RE>,
 ) -> Result<TR, RequestTokenError<RE, TE>>
-    ensures gives { let reply = code_reply TE.read_of TR.read_of (answer_of answer) in
-        Gives token_errors result reply }
+    ensures gives { let worth = record_answer TE.read_of TR.read_of in
+        Gives token_errors result (reply_by (Request tt) worth (answer_of answer)) }
     ensures fault { IfErr result (λ e. is_fault e ≡ true → answer_of answer ≡ None) }
 {
     match answer {
@@ -311,7 +312,8 @@ impl<'a, TE: ErrorResponse, TR: OAuth2TokenResponse> CodeTokenRequest<'a, TE, TR
     ) -> Result<TR, RequestTokenError<C::Error, TE>>
         requires { C.ready http.old }
         ensures again { C.ready http.new }
-        ensures follows { let run = code_run TE.read_of TR.read_of self.entry in
+        ensures follows { let worth = record_answer TE.read_of TR.read_of in
+            let run = request_run worth (code_ask self.entry) in
             let before = known (C.log http.old) (C.script http.old) in
             let after = known (C.log http.new) (C.script http.new) in
             Follows token_errors run before after result }
@@ -340,7 +342,7 @@ impl<'a, TE: ErrorResponse, TR: OAuth2TokenResponse> CodeTokenRequest<'a, TE, TR
         ensures again { C.ready http.new }
         ensures ran { let before = known (C.log http.old) (C.script http.old) in
             let after = known (C.log http.new) (C.script http.new) in
-            RanTokenRequest TE.read_of TR.read_of self.entry before after result }
+            RanForRecord (code_ask self.entry) before after TE.read_of TR.read_of result }
         ensures never_falls { C.faults http.old ≤ C.faults http.new }
         ensures blamed { let before = C.faults http.old in
             IsRequestBlamed token_errors before (C.faults http.new) result }

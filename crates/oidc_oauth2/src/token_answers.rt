@@ -1,12 +1,12 @@
 //! What a response to a token request is worth (RFC 6749 sections 5.1 and 5.2).
 
-ghost use Rattle.std.specs.Prelude.{◌≡◌, ◌==◌, Err, IfErr, Result};
+ghost use Rattle.std.specs.Prelude.{◌≡◌, ◌==◌, Ok, Err, IfErr, Result};
 ghost use Rattle.oidc_members.specs.declared.refusal.Refusal.{Refusal};
 ghost use Rattle.oidc_members.specs.Answers.{Answers};
-ghost use Rattle.oidc_oauth2.specs.Messages.{seen_response};
+ghost use Rattle.oidc_oauth2.specs.Messages.{SeenResponse, seen_response};
 ghost use Rattle.oidc_oauth2.specs.Replies.{Gives, Unless};
 ghost use Rattle.oidc_oauth2.specs.TokenAnswers as spec;
-ghost use Rattle.oidc_oauth2.specs.TokenAnswers.{token_errors, seen_refusal, wants_memory, GivesResponse};
+ghost use Rattle.oidc_oauth2.specs.TokenAnswers.{token_errors, seen_refusal, wants_memory, GivesResponse, GivesObject};
 ghost use Rattle.oidc_oauth2.specs.AnswerCauses.{AnswerCause, Because};
 
 use crate::error_response::{ErrorResponse, StandardErrorResponse};
@@ -94,13 +94,13 @@ fn error_response_in<TE: ErrorResponse>(alloc: Global, body: &Body) -> Result<TE
 }
 
 // The refusal that an answer of another status than 200 is worth.
-#[tactic(auto, unfolding(crate::specs::TokenAnswers::refusal_in))]
+#[tactic(auto, unfolding(crate::specs::TokenAnswers::error_in))]
 fn refusal_in<RE, TE: ErrorResponse>(
     alloc: Global,
     response: HttpResponse,
 ) -> RequestTokenError<RE, TE>
-    ensures { Unless (wants_memory result)
-        (spec.refusal_in TE.read_of (seen_response response) ≡ seen_refusal result) }
+    ensures { let reply = spec.error_in {A = SeenResponse} TE.read_of (seen_response response) in
+        Unless (wants_memory result) (reply ≡ Err (seen_refusal result)) }
 {
     let body = response.into_body();
     if body.as_slice().is_empty() {
@@ -115,12 +115,13 @@ fn refusal_in<RE, TE: ErrorResponse>(
 
 /// The response, where its body isn't too long and its status is 200; else why it is refused, by the rows that
 /// answers to all requests share.
-#[tactic(auto, unfolding(crate::specs::TokenAnswers::success_in))]
+#[tactic(auto, unfolding(crate::specs::TokenAnswers::answer_by, crate::specs::TokenAnswers::status_worth))]
 pub fn success_in<RE, TE: ErrorResponse>(
     alloc: Global,
     response: HttpResponse,
 ) -> Result<HttpResponse, RequestTokenError<RE, TE>>
-    ensures success { GivesResponse result (spec.success_in TE.read_of (seen_response response)) }
+    ensures success { let reply = spec.answer_by TE.read_of (λ r. Ok r) (seen_response response) in
+        GivesResponse result reply }
 {
     if response.body().as_slice().len() > MAX_BODY {
         return Err(RequestTokenError::TooLong(response.into_body()));
@@ -137,7 +138,8 @@ fn members_in<RE, TE>(
     alloc: Global,
     body: Body,
 ) -> Result<(Members, Body), RequestTokenError<RE, TE>>
-    ensures { Gives token_errors result (spec.members_in body) }
+    ensures { let meant = spec.record_in spec.object_of body in
+        GivesObject result body (spec.record_or_refusal body meant) }
 {
     match Members::split(alloc, body.as_slice()) {
         Ok(members) => Ok((members, body)),
@@ -147,12 +149,13 @@ fn members_in<RE, TE>(
 }
 
 // The members of the object that a response of status 200 is, and its body; else why it is none.
-#[tactic(auto, unfolding(crate::specs::TokenAnswers::object_in))]
+#[tactic(auto, unfolding(crate::specs::TokenAnswers::record_worth))]
 fn object_in<RE, TE>(
     alloc: Global,
     response: HttpResponse,
 ) -> Result<(Members, Body), RequestTokenError<RE, TE>>
-    ensures { Gives token_errors result (spec.object_in (seen_response response)) }
+    ensures { let seen = seen_response response in
+        GivesObject result seen.body (spec.record_worth spec.object_of seen) }
 {
     let may_be_json = may_be_json(&response);
     let body = response.into_body();
@@ -171,8 +174,8 @@ pub fn object_answer<RE, TE: ErrorResponse>(
     alloc: Global,
     response: HttpResponse,
 ) -> Result<(Members, Body), RequestTokenError<RE, TE>>
-    ensures object { Gives token_errors result
-        (spec.object_answer TE.read_of (seen_response response)) }
+    ensures object { let seen = seen_response response in
+        GivesObject result seen.body (spec.record_answer TE.read_of spec.object_of seen) }
 {
     match success_in(alloc, response) {
         Ok(response) => object_in(alloc, response),
@@ -186,7 +189,7 @@ pub fn record_or_refusal<RE, TE, A>(
     body: Body,
 ) -> Result<A, RequestTokenError<RE, TE>>
     ensures record { (meant : Result A Refusal) → Answers meant read
-        → Gives token_errors result (spec.read_in body meant) }
+        → Gives token_errors result (spec.record_or_refusal body meant) }
 {
     match read {
         Ok(record) => Ok(record),
@@ -200,8 +203,8 @@ fn judge<RE, TE: ErrorResponse, TR: OAuth2TokenResponse>(
     alloc: Global,
     response: HttpResponse,
 ) -> Result<TR, RequestTokenError<RE, TE>>
-    ensures { let reply = spec.token_answer TE.read_of TR.read_of (seen_response response) in
-        Gives token_errors result reply }
+    ensures { let seen = seen_response response in
+        Gives token_errors result (spec.record_answer TE.read_of TR.read_of seen) }
 {
     let (members, body) = object_answer(alloc, response)?;
     record_or_refusal(TR::read(alloc, &members), body)
@@ -215,8 +218,8 @@ pub fn token_answer<RE, TE: ErrorResponse, TR: OAuth2TokenResponse>(
     alloc: Global,
     response: HttpResponse,
 ) -> Result<TR, RequestTokenError<RE, TE>>
-    ensures answer { let reply = spec.token_answer TE.read_of TR.read_of (seen_response response) in
-        Gives token_errors result reply }
+    ensures answer { let seen = seen_response response in
+        Gives token_errors result (spec.record_answer TE.read_of TR.read_of seen) }
     // Each refusal has its cause, want of memory aside, and each cause its refusal.
     ensures cause { IfErr result (Because TE.read_of TR.read_of (seen_response response)) }
     ensures refused { let Caused = AnswerCause TE.read_of TR.read_of (seen_response response) in

@@ -1,5 +1,4 @@
 mod Described
-mod Judges
-mod JudgeRecords
 mod JudgeRevocations
 mod JudgeSteps
+mod Sendings

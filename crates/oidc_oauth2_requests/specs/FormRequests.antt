@@ -1,5 +1,5 @@
 -- The requests of a client to its authorization server, all by one description: a POST of form pairs
--- (RFC 6749 sections 2.3.1, 3.2, 3.3, 4.3.2, 4.4.2 and 6, RFC 7009 section 2.1, RFC 7662 section 2.1, RFC 8628
+-- (RFC 6749 sections 2.3.1, 3.2, 3.3, 4.1.3, 4.3.2, 4.4.2 and 6, RFC 7009 section 2.1, RFC 7662 section 2.1, RFC 8628
 -- sections 3.1 and 3.4).
 use Rattle.std.specs.Prelude.{ℕ, List, [], ◌∷◌, ◌++◌, Option, None, if◌then◌else◌, codes}
 use Rattle.oidc_oauth2.specs.Messages.{SeenRequest}
@@ -7,14 +7,15 @@ use Rattle.oidc_oauth2.specs.ClientAuth.{SeenClientAuth, client_pairs, pair_if}
 use Rattle.oidc_oauth2.specs.TokenAnswers.{is_empty}
 use Rattle.oidc_oauth2.specs.TokenResponse.{joined}
 use Rattle.oidc_oauth2.specs.Requests.{SeenCodeRequest, grant_pairs, posted}
+use Rattle.oidc_oauth2.specs.RequestRuns.{Ask}
 
 abbrev pub Pairs : Type 0
 Pairs = List (List ℕ × List ℕ)
 
 -- ---- what a request is made of
 
--- What differs between requests: the address, which is the text of the endpoint's parsed URL; the client, with how
--- it authenticates; the request's own pairs; the scopes that it asks for; a redirect; and further pairs.
+-- The kind of a request decides its own pairs alone; the rest of its description is the caller's: the address, which
+-- is the text of the endpoint's parsed URL; the client, with how it authenticates; scopes, a redirect and further pairs.
 pub record SeenFormRequest : Type 0 where
   pub address : List ℕ
   pub client : SeenClientAuth
@@ -23,7 +24,7 @@ pub record SeenFormRequest : Type 0 where
   pub redirect_uri : Option (List ℕ)
   pub extra : Pairs
 
--- the scopes in one text, unless that is empty
+-- the scopes in one text, unless that is empty (RFC 6749 section 3.3)
 abbrev pub scope_pairs : List (List ℕ) → Pairs
 scope_pairs scopes = if is_empty (joined scopes) then [] else (codes "scope", joined scopes) ∷ []
 
@@ -34,6 +35,10 @@ pairs_of r = r.own ++ scope_pairs r.scopes ++ client_pairs r.client ++ pair_if (
 -- the request, where its address is one that is sent to
 unfoldable pub form_request : SeenFormRequest → Option SeenRequest
 form_request r = posted r.address r.client (pairs_of r)
+
+-- what is asked for
+abbrev pub form_ask : SeenFormRequest → Ask
+form_ask r = record { address = r.address; request = form_request r }
 
 -- a request with these pairs of its own, and nothing else
 abbrev pub new_request : List ℕ → SeenClientAuth → Pairs → SeenFormRequest
@@ -49,12 +54,12 @@ grant kind = (codes "grant_type", kind)
 abbrev pub refresh_pairs : List ℕ → Pairs
 refresh_pairs token = grant (codes "refresh_token") ∷ (codes "refresh_token", token) ∷ []
 
--- the name and the password of a person (section 4.3.2)
+-- the name and the password of a person (RFC 6749 section 4.3.2)
 abbrev pub password_pairs : List ℕ → List ℕ → Pairs
 password_pairs username password =
     grant (codes "password") ∷ (codes "username", username) ∷ (codes "password", password) ∷ []
 
--- the client for itself (section 4.4.2)
+-- the client for itself (RFC 6749 section 4.4.2)
 abbrev pub client_credentials_pairs : Pairs
 client_credentials_pairs = grant (codes "client_credentials") ∷ []
 
@@ -74,16 +79,39 @@ token_pairs token hint = (codes "token", token) ∷ pair_if (codes "token_type_h
 
 -- ---- a request about a token, whose hint may change
 
+-- A token and a word for its kind stand in the place of the own pairs.
 pub record SeenIntrospectionRequest : Type 0 where
+  pub address : List ℕ
+  pub client : SeenClientAuth
   pub token : List ℕ
   pub hint : Option (List ℕ)
-  -- what it is made of beside its own pairs
-  pub form : SeenFormRequest
+  pub scopes : List (List ℕ)
+  pub redirect_uri : Option (List ℕ)
+  pub extra : Pairs
 
 abbrev pub of_introspection : SeenIntrospectionRequest → SeenFormRequest
-of_introspection r = record r.form { own = token_pairs r.token r.hint }
+of_introspection r = record {
+  address = r.address;
+  client = r.client;
+  own = token_pairs r.token r.hint;
+  scopes = r.scopes;
+  redirect_uri = r.redirect_uri;
+  extra = r.extra;
+}
 
--- ---- the request that exchanges a code
+-- a request about this token, and nothing else
+abbrev pub new_introspection : List ℕ → SeenClientAuth → List ℕ → SeenIntrospectionRequest
+new_introspection address client token = record {
+  address = address;
+  client = client;
+  token = token;
+  hint = None;
+  scopes = [];
+  redirect_uri = None;
+  extra = [];
+}
+
+-- ---- the request that exchanges a code (RFC 6749 section 4.1.3)
 
 -- by the same description
 abbrev pub of_code : SeenCodeRequest → SeenFormRequest

@@ -8,8 +8,9 @@ ghost use Rattle.oidc_oauth2.specs.Requests.{Prepares};
 ghost use Rattle.oidc_oauth2.specs.TokenAnswers.{token_errors};
 ghost use Rattle.oidc_oauth2.specs.Exchanges.{known, IsRequestBlamed};
 ghost use Rattle.oidc_oauth2.specs.DeviceResponse.{device_of};
-ghost use Rattle.oidc_oauth2_requests.specs.FormRequests.{new_request, form_request, device_pairs, device_code_pairs};
-ghost use Rattle.oidc_oauth2_requests.specs.RequestRuns.{RanForRecord, RanForStep};
+ghost use Rattle.oidc_oauth2.specs.RequestRuns.{RanForRecord};
+ghost use Rattle.oidc_oauth2_requests.specs.FormRequests.{new_request, form_request, form_ask, device_pairs, device_code_pairs};
+ghost use Rattle.oidc_oauth2_requests.specs.RequestRuns.{RanForStep};
 
 use crate::form_request::FormRequest;
 use crate::sending::{codes_over, step_over};
@@ -109,9 +110,10 @@ impl<'a, TE: ErrorResponse> DeviceAuthorizationRequest<'a, TE> {
     ) -> Result<DeviceAuthorizationResponse<EF>, RequestTokenError<C::Error, TE>>
         requires { C.ready http.old }
         ensures again { C.ready http.new }
-        ensures ran { let before = known (C.log http.old) (C.script http.old) in
+        ensures ran { let ask = form_ask self.entry in
+            let before = known (C.log http.old) (C.script http.old) in
             let after = known (C.log http.new) (C.script http.new) in
-            RanForRecord self.entry before after TE.read_of (device_of EF.read_of) result }
+            RanForRecord ask before after TE.read_of (device_of EF.read_of) result }
         ensures never_falls { C.faults http.old ≤ C.faults http.new }
         ensures blamed { let before = C.faults http.old in
             IsRequestBlamed token_errors before (C.faults http.new) result }
@@ -202,7 +204,7 @@ impl<'a, TR: OAuth2TokenResponse, EF> DeviceAccessTokenRequest<'a, TR, EF> {
         ensures again { C.ready http.new }
         ensures ran { let before = known (C.log http.old) (C.script http.old) in
             let after = known (C.log http.new) (C.script http.new) in
-            RanForStep self.now before after TR.read_of result }
+            RanForStep (form_ask self.now) before after TR.read_of result }
         ensures never_falls { C.faults http.old ≤ C.faults http.new }
         ensures blamed { let before = C.faults http.old in
             IsRequestBlamed token_errors before (C.faults http.new) result }

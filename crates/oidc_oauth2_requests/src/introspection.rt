@@ -1,6 +1,6 @@
 //! The request about a token (RFC 7662 section 2.1).
 
-ghost use Rattle.std.specs.Prelude.{◌≡◌, ◌≤◌, ◌++◌, ◌∷◌, [], None, Some, IfOk, option_map};
+ghost use Rattle.std.specs.Prelude.{◌≡◌, ◌≤◌, ◌++◌, ◌∷◌, [], None, Some, IfOk};
 ghost use Rattle.std.specs.Option.{option_copied};
 ghost use Rattle.std.specs.String.{string_bytes};
 ghost use Rattle.url.specs.Parts.{serialize};
@@ -8,8 +8,8 @@ ghost use Rattle.oidc_oauth2.specs.ClientAuth.{seen_client};
 ghost use Rattle.oidc_oauth2.specs.Requests.{Prepares};
 ghost use Rattle.oidc_oauth2.specs.TokenAnswers.{token_errors};
 ghost use Rattle.oidc_oauth2.specs.Exchanges.{known, IsRequestBlamed};
-ghost use Rattle.oidc_oauth2_requests.specs.FormRequests.{new_request, form_request, of_introspection};
-ghost use Rattle.oidc_oauth2_requests.specs.RequestRuns.{RanForRecord};
+ghost use Rattle.oidc_oauth2.specs.RequestRuns.{RanForRecord};
+ghost use Rattle.oidc_oauth2_requests.specs.FormRequests.{new_introspection, form_request, form_ask, of_introspection};
 
 use crate::form_request::{FormRequest, token_form};
 use crate::sending::introspection_over;
@@ -21,8 +21,8 @@ use oidc_types::{AccessToken, IntrospectionUrl};
 use std::alloc::{AllocError, Global};
 use std::marker::{Model, PhantomData};
 
-/// The request about a token. `TE` is the error response, `TIR` the response about it. Contracts see the token, the
-/// word for its kind, and what else the request is made of.
+/// The request about a token. `TE` is the error response, `TIR` the response about it. Contracts see what
+/// it is made of, with the token and the word for its kind in the place of its own pairs.
 #[derive(Drop)]
 pub struct IntrospectionRequest<'a, TE, TIR> {
     token: &'a AccessToken,
@@ -39,9 +39,13 @@ impl<'a, TE, TIR> Model for IntrospectionRequest<'a, TE, TIR> {
     ghost Value = { SeenIntrospectionRequest };
 
     ghost view = { λ r. record {
+      address = r.form.address;
+      client = r.form.client;
       token = r.token.now;
       hint = option_map string_bytes r.hint;
-      form = r.form;
+      scopes = r.form.scopes;
+      redirect_uri = r.form.redirect_uri;
+      extra = r.form.extra;
     } };
 }
 
@@ -54,11 +58,7 @@ impl<'a, TE, TIR> IntrospectionRequest<'a, TE, TIR> {
         token: &'a AccessToken,
     ) -> Self
         ensures kept { let client = seen_client auth.entry in
-            result ≡ record {
-              token = token.now;
-              hint = None;
-              form = new_request (serialize endpoint.now.url) client [];
-            } }
+            result ≡ new_introspection (serialize endpoint.now.url) client token.now }
     {
         IntrospectionRequest {
             token,
@@ -79,9 +79,7 @@ impl<'a, TE, TIR> IntrospectionRequest<'a, TE, TIR> {
     /// With one more pair behind all others. `AllocError` is want of memory, the one error.
     pub fn add_extra_param(mut self, name: String, value: String) -> Result<Self, AllocError>
         ensures added { IfOk result (λ r. r ≡ record self.entry {
-          form = record self.entry.form {
-            extra = self.entry.form.extra ++ (string_bytes name, string_bytes value) ∷ [];
-          };
+          extra = self.entry.extra ++ (string_bytes name, string_bytes value) ∷ [];
         }) }
     {
         self.form.push_pair(name, value)?;
@@ -118,7 +116,7 @@ impl<'a, TE: ErrorResponse, TIR: TokenIntrospectionResponse> IntrospectionReques
     ) -> Result<TIR, RequestTokenError<C::Error, TE>>
         requires { C.ready http.old }
         ensures again { C.ready http.new }
-        ensures ran { let ask = of_introspection self.entry in
+        ensures ran { let ask = form_ask (of_introspection self.entry) in
             let before = known (C.log http.old) (C.script http.old) in
             let after = known (C.log http.new) (C.script http.new) in
             RanForRecord ask before after TE.read_of TIR.read_of result }

@@ -7,7 +7,7 @@ ghost use Rattle.oidc_oauth2.specs.ClientAuth.{seen_client};
 ghost use Rattle.oidc_oauth2.specs.Requests.{Prepares};
 ghost use Rattle.oidc_oauth2.specs.TokenAnswers.{token_errors};
 ghost use Rattle.oidc_oauth2.specs.Exchanges.{known, IsRequestBlamed};
-ghost use Rattle.oidc_oauth2_requests.specs.FormRequests.{new_request, form_request, token_pairs};
+ghost use Rattle.oidc_oauth2_requests.specs.FormRequests.{new_request, form_request, form_ask, token_pairs};
 ghost use Rattle.oidc_oauth2_requests.specs.RequestRuns.{RanForRevocation};
 
 use crate::form_request::{FormRequest, token_form};
@@ -72,9 +72,9 @@ impl<'a, RT: RevocableToken, TRE> RevocationRequest<'a, RT, TRE> {
 }
 
 impl<'a, RT: RevocableToken, TRE: ErrorResponse> RevocationRequest<'a, RT, TRE> {
-    /// Hands the request of `prepare` over. Each response of status 200 is an Ok, whatever its body and its media
-    /// type are. `Request` comes only
-    /// where the transport failed. On `Uri` a transport that keeps a log has nothing new in it.
+    /// Hands the request of `prepare` over. Each response of status 200 whose body isn't too long is an Ok, whatever
+    /// that body and its media type are. `Request` comes only where the transport failed. On `Uri` a transport that
+    /// keeps a log has nothing new in it.
     pub fn request<C: SyncHttpClient>(
         self,
         alloc: Global,
@@ -84,7 +84,7 @@ impl<'a, RT: RevocableToken, TRE: ErrorResponse> RevocationRequest<'a, RT, TRE> 
         ensures again { C.ready http.new }
         ensures ran { let before = known (C.log http.old) (C.script http.old) in
             let after = known (C.log http.new) (C.script http.new) in
-            RanForRevocation self.entry before after TRE.read_of result }
+            RanForRevocation (form_ask self.entry) before after TRE.read_of result }
         ensures never_falls { C.faults http.old ≤ C.faults http.new }
         ensures blamed { let before = C.faults http.old in
             IsRequestBlamed token_errors before (C.faults http.new) result }

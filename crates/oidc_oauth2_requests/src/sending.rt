@@ -1,16 +1,17 @@
 // A request that was made, if one was, over any transport, and what its response is worth.
 
-ghost use Rattle.std.specs.Prelude.{◌≡◌, ◌≤◌, Option, Result};
+ghost use Rattle.std.specs.Prelude.{◌≤◌, Option, Result};
 ghost use Rattle.oidc_oauth2.specs.Messages.{SeenRequest, seen_response};
 ghost use Rattle.oidc_oauth2.specs.Replies.{Gives};
 ghost use Rattle.oidc_oauth2.specs.Requests.{Prepares};
 ghost use Rattle.oidc_oauth2.specs.DeviceResponse.{device_of};
-ghost use Rattle.oidc_oauth2.specs.TokenAnswers.{TokenRefusal, token_errors, token_answer as worth};
+ghost use Rattle.oidc_oauth2.specs.TokenAnswers.{TokenRefusal, record_answer, token_errors};
 ghost use Rattle.oidc_oauth2.specs.Exchanges.{known, IsRequestBlamed};
-ghost use Rattle.oidc_oauth2_requests.specs.FormRequests.{SeenFormRequest, form_request};
+ghost use Rattle.oidc_oauth2.specs.RequestRuns.{RanForRecord};
+ghost use Rattle.oidc_oauth2_requests.specs.FormRequests.{SeenFormRequest, form_request, form_ask};
 ghost use Rattle.oidc_oauth2_requests.specs.RequestAnswers as spec;
 ghost use Rattle.oidc_oauth2_requests.specs.RequestAnswers.{DeviceError, revocation_answer, poll_answer};
-ghost use Rattle.oidc_oauth2_requests.specs.RequestRuns as run;
+ghost use Rattle.oidc_oauth2_requests.specs.RequestRuns.{RanForRevocation, RanForStep};
 ghost use Rattle.oidc_oauth2_requests.specs.Sending.{Sent};
 
 use crate::device::PollStep;
@@ -23,7 +24,7 @@ use oidc_oauth2::{
 use std::alloc::Global;
 
 // Hands the request over, if one was made, and gives the response.
-pub(crate) fn send<C: SyncHttpClient, TE>(
+fn send<C: SyncHttpClient, TE>(
     alloc: Global,
     http: &mut C,
     made: Result<HttpRequest, PrepareError>,
@@ -59,7 +60,7 @@ pub(crate) fn tokens_over<C: SyncHttpClient, TE: ErrorResponse, TR: OAuth2TokenR
     ensures ran { let before = known (C.log http.old) (C.script http.old) in
         let after = known (C.log http.new) (C.script http.new) in
         (ask : SeenFormRequest) → Prepares made (form_request ask)
-        → run.RanForRecord ask before after TE.read_of TR.read_of result }
+        → RanForRecord (form_ask ask) before after TE.read_of TR.read_of result }
     ensures never_falls { C.faults http.old ≤ C.faults http.new }
     ensures blamed { let before = C.faults http.old in
         IsRequestBlamed token_errors before (C.faults http.new) result }
@@ -73,8 +74,8 @@ fn codes_in<RE, TE: ErrorResponse, EF: ExtraDeviceAuthorizationFields>(
     alloc: Global,
     response: HttpResponse,
 ) -> Result<DeviceAuthorizationResponse<EF>, RequestTokenError<RE, TE>>
-    ensures { let reply = worth TE.read_of (device_of EF.read_of) (seen_response response) in
-        Gives token_errors result reply }
+    ensures { let seen = seen_response response in
+        Gives token_errors result (record_answer TE.read_of (device_of EF.read_of) seen) }
 {
     let (members, body) = object_answer(alloc, response)?;
     record_or_refusal(DeviceAuthorizationResponse::read(alloc, &members), body)
@@ -91,7 +92,7 @@ pub(crate) fn codes_over<C: SyncHttpClient, TE: ErrorResponse, EF: ExtraDeviceAu
     ensures ran { let before = known (C.log http.old) (C.script http.old) in
         let after = known (C.log http.new) (C.script http.new) in
         (ask : SeenFormRequest) → Prepares made (form_request ask)
-        → run.RanForRecord ask before after TE.read_of (device_of EF.read_of) result }
+        → RanForRecord (form_ask ask) before after TE.read_of (device_of EF.read_of) result }
     ensures never_falls { C.faults http.old ≤ C.faults http.new }
     ensures blamed { let before = C.faults http.old in
         IsRequestBlamed token_errors before (C.faults http.new) result }
@@ -105,7 +106,7 @@ fn introspection_in<RE, TE: ErrorResponse, TIR: TokenIntrospectionResponse>(
     alloc: Global,
     response: HttpResponse,
 ) -> Result<TIR, RequestTokenError<RE, TE>>
-    ensures { let reply = worth TE.read_of TIR.read_of (seen_response response) in
+    ensures { let reply = record_answer TE.read_of TIR.read_of (seen_response response) in
         Gives token_errors result reply }
 {
     let (members, body) = object_answer(alloc, response)?;
@@ -127,7 +128,7 @@ pub(crate) fn introspection_over<
     ensures ran { let before = known (C.log http.old) (C.script http.old) in
         let after = known (C.log http.new) (C.script http.new) in
         (ask : SeenFormRequest) → Prepares made (form_request ask)
-        → run.RanForRecord ask before after TE.read_of TIR.read_of result }
+        → RanForRecord (form_ask ask) before after TE.read_of TIR.read_of result }
     ensures never_falls { C.faults http.old ≤ C.faults http.new }
     ensures blamed { let before = C.faults http.old in
         IsRequestBlamed token_errors before (C.faults http.new) result }
@@ -137,7 +138,6 @@ pub(crate) fn introspection_over<
 }
 
 // Whether a response says that a token is revoked.
-#[tactic(auto, unfolding(crate::specs::RequestAnswers::revocation_answer))]
 fn revocation_in<RE, TRE: ErrorResponse>(
     alloc: Global,
     response: HttpResponse,
@@ -160,7 +160,7 @@ pub(crate) fn revocation_over<C: SyncHttpClient, TRE: ErrorResponse>(
     ensures ran { let before = known (C.log http.old) (C.script http.old) in
         let after = known (C.log http.new) (C.script http.new) in
         (ask : SeenFormRequest) → Prepares made (form_request ask)
-        → run.RanForRevocation ask before after TRE.read_of result }
+        → RanForRevocation (form_ask ask) before after TRE.read_of result }
     ensures never_falls { C.faults http.old ≤ C.faults http.new }
     ensures blamed { let before = C.faults http.old in
         IsRequestBlamed token_errors before (C.faults http.new) result }
@@ -222,7 +222,7 @@ pub(crate) fn step_over<C: SyncHttpClient, TR: OAuth2TokenResponse>(
     ensures ran { let before = known (C.log http.old) (C.script http.old) in
         let after = known (C.log http.new) (C.script http.new) in
         (ask : SeenFormRequest) → Prepares made (form_request ask)
-        → run.RanForStep ask before after TR.read_of result }
+        → RanForStep (form_ask ask) before after TR.read_of result }
     ensures never_falls { C.faults http.old ≤ C.faults http.new }
     ensures blamed { let before = C.faults http.old in
         IsRequestBlamed token_errors before (C.faults http.new) result }

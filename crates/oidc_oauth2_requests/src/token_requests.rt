@@ -7,8 +7,8 @@ ghost use Rattle.oidc_oauth2.specs.ClientAuth.{seen_client};
 ghost use Rattle.oidc_oauth2.specs.Requests.{Prepares};
 ghost use Rattle.oidc_oauth2.specs.TokenAnswers.{token_errors};
 ghost use Rattle.oidc_oauth2.specs.Exchanges.{known, IsRequestBlamed};
-ghost use Rattle.oidc_oauth2_requests.specs.FormRequests.{new_request, form_request, refresh_pairs, password_pairs, client_credentials_pairs};
-ghost use Rattle.oidc_oauth2_requests.specs.RequestRuns.{RanForRecord};
+ghost use Rattle.oidc_oauth2.specs.RequestRuns.{RanForRecord};
+ghost use Rattle.oidc_oauth2_requests.specs.FormRequests.{new_request, form_request, form_ask, refresh_pairs, password_pairs, client_credentials_pairs};
 
 use crate::form_request::FormRequest;
 use crate::sending::tokens_over;
@@ -116,7 +116,7 @@ impl<'a, TE: ErrorResponse, TR: OAuth2TokenResponse> RefreshTokenRequest<'a, TE,
         ensures again { C.ready http.new }
         ensures ran { let before = known (C.log http.old) (C.script http.old) in
             let after = known (C.log http.new) (C.script http.new) in
-            RanForRecord self.entry before after TE.read_of TR.read_of result }
+            RanForRecord (form_ask self.entry) before after TE.read_of TR.read_of result }
         ensures never_falls { C.faults http.old ≤ C.faults http.new }
         ensures blamed { let before = C.faults http.old in
             IsRequestBlamed token_errors before (C.faults http.new) result }
@@ -226,7 +226,7 @@ impl<'a, TE: ErrorResponse, TR: OAuth2TokenResponse> PasswordTokenRequest<'a, TE
         ensures again { C.ready http.new }
         ensures ran { let before = known (C.log http.old) (C.script http.old) in
             let after = known (C.log http.new) (C.script http.new) in
-            RanForRecord self.entry before after TE.read_of TR.read_of result }
+            RanForRecord (form_ask self.entry) before after TE.read_of TR.read_of result }
         ensures never_falls { C.faults http.old ≤ C.faults http.new }
         ensures blamed { let before = C.faults http.old in
             IsRequestBlamed token_errors before (C.faults http.new) result }
@@ -323,7 +323,7 @@ impl<'a, TE: ErrorResponse, TR: OAuth2TokenResponse> ClientCredentialsTokenReque
         ensures again { C.ready http.new }
         ensures ran { let before = known (C.log http.old) (C.script http.old) in
             let after = known (C.log http.new) (C.script http.new) in
-            RanForRecord self.entry before after TE.read_of TR.read_of result }
+            RanForRecord (form_ask self.entry) before after TE.read_of TR.read_of result }
         ensures never_falls { C.faults http.old ≤ C.faults http.new }
         ensures blamed { let before = C.faults http.old in
             IsRequestBlamed token_errors before (C.faults http.new) result }

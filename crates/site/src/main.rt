@@ -1,9 +1,10 @@
-//! A site that signs a user in, over the crates `oidc` and `oidc_pairs`: what its author writes.
+//! A site that signs a user in and out, over the crates `oidc` and `oidc_pairs`: what its author writes.
 //!
 //! The site's transport, its generator and its clock are its own. Here the provider is played by `Recorded`, which
 //! answers from a list, and the generator begins at a fixed number, so that the program always prints the same. Two
 //! browsers begin a login. The program reads the query with which the first one comes back from standard input, and
-//! shows that the second one, which was handed that query, is refused.
+//! shows that the second one, which was handed that query, is refused. The first one's user then stays for a while, and
+//! signs out (`src/sign_out.rt`).
 #![tactic(auto)]
 
 ghost use Rattle.std.specs.Prelude.{◌≡◌, ◌↔◌, true, false, None, Some, IfOk, IfSome, IsSome, IsTrue, OnOk, option_and_then};
@@ -15,8 +16,11 @@ ghost use Rattle.oidc.specs.Errors.{is_spent_by};
 ghost use Rattle.oidc.specs.BeforeRequest.{login_named_by, state_in};
 
 mod provider;
+mod sign_out;
 
-use crate::provider::{answers, metadata, text};
+use crate::provider::{answers, metadata, print_requests, text};
+use crate::sign_out::visit;
+use anyhow::bail;
 use jiff::Timestamp;
 use oidc::core_types::{CoreGenderClaim, CoreJsonWebKey};
 use oidc::login::{LoginClient, LoginError, LoginSecrets, Logins, SignedIn, UserInfoDemand};
@@ -34,7 +38,7 @@ use url::Url;
 type SiteLogins<'c> = Logins<'c, AllOtherClaims, CoreGenderClaim, CoreJsonWebKey>;
 
 /// A user of it.
-type User = SignedIn<AllOtherClaims, CoreGenderClaim>;
+pub(crate) type User = SignedIn<AllOtherClaims, CoreGenderClaim>;
 
 // The site as the provider knows it: made once, and borrowed by its logins.
 fn client(alloc: Global) -> anyhow::Result<LoginClient> {
@@ -74,7 +78,7 @@ fn begin<'c, R: Rng>(
 }
 
 // Whether the query's one `state` is the one that the browser's session keeps.
-fn is_own(alloc: Global, kept: &CsrfToken, query: &[u8]) -> Result<bool, AllocError>
+pub(crate) fn is_own(alloc: Global, kept: &CsrfToken, query: &[u8]) -> Result<bool, AllocError>
     ensures { IfOk result (λ own. IsTrue own ↔ (state_in (pairs query.now) ≡ Some kept.now)) }
 {
     Ok(Pairs::parse(alloc, query)?.only("state") == Some(kept.secret()))
@@ -117,7 +121,7 @@ fn name_of(user: &User) -> Option<&EndUserName>
 }
 
 // What a site learns of a user: whom the ID token is about, and the name.
-fn greeting(alloc: Global, user: &User) -> anyhow::Result<String> {
+pub(crate) fn greeting(alloc: Global, user: &User) -> anyhow::Result<String> {
     let subject = user.claims().subject().as_str();
     match name_of(user) {
         Some(name) => Ok(format!(in alloc; "{subject} is signed in: {}", name.as_str())?),
@@ -134,7 +138,7 @@ fn said<E>(alloc: Global, reply: &Result<User, LoginError<E>>) -> anyhow::Result
     }
 }
 
-// What it answers the browser that comes back. A site goes on with the user here.
+// What it answers the browser that comes back.
 fn answered<H: SyncHttpClient<Error: Drop>>(
     alloc: Global,
     logins: &mut SiteLogins<'_>,
@@ -165,36 +169,104 @@ fn sent<'c, R: Rng>(
     Ok(kept)
 }
 
-// Two browsers begin, and both come back with the query of the first one's callback.
-fn sign_in<H: SyncHttpClient<Error: Drop>>(
+// The user, where somebody is signed in.
+fn user_of<E: Drop>(reply: Result<User, LoginError<E>>) -> anyhow::Result<User> {
+    match reply {
+        Ok(user) => Ok(user),
+        Err(refusal) => {
+            drop(refusal);
+            bail!("nobody is signed in")
+        }
+    }
+}
+
+// Two browsers begin, and both come back with the query of the first one's callback. Gives the first one's user.
+fn sign_in<H: SyncHttpClient<Error: Drop>, R: Rng>(
     rt: &impl Print,
     alloc: Global,
     client: &LoginClient,
+    rng: &mut R,
     query: &[u8],
     http: &mut H,
     now: Timestamp,
+) -> anyhow::Result<User>
+    requires { H.ready http.old }
+    ensures { H.ready http.new }
+{
+    let mut logins = Logins::new(alloc, client)?;
+    let first = sent(rt, alloc, client, &mut logins, rng)?;
+    let second = sent(rt, alloc, client, &mut logins, rng)?;
+    let refusal = answered(alloc, &mut logins, &second, query, http, now)?;
+    println!(rt; "{refusal}")?;
+    user_of(come_back(alloc, &mut logins, &first, query, http, now))
+}
+
+/// The queries with which browsers come to the site.
+#[derive(Drop)]
+pub(crate) struct Queries {
+    // The callback of the first login.
+    pub(crate) callback: String,
+    // One that somebody else made, at the page behind the logout.
+    pub(crate) forged: String,
+    // The return from the provider's logout.
+    pub(crate) signed_out: String,
+}
+
+// A line of the input.
+fn line(rt: &impl Input, alloc: Global) -> anyhow::Result<String> {
+    let mut line = String::new(alloc);
+    let _ = rt.read_line(&mut line)?;
+    Ok(String::from_str(alloc, line.as_str().trim())?)
+}
+
+fn read_queries(rt: &impl Input, alloc: Global) -> anyhow::Result<Queries> {
+    Ok(Queries {
+        callback: line(rt, alloc)?,
+        forged: line(rt, alloc)?,
+        signed_out: line(rt, alloc)?,
+    })
+}
+
+// A user who is signed in.
+fn signed_in<H: SyncHttpClient<Error: Drop>, R: Rng>(
+    rt: &impl Print,
+    alloc: Global,
+    rng: &mut R,
+    query: &[u8],
+    http: &mut H,
+) -> anyhow::Result<User>
+    requires { H.ready http.old }
+    ensures { H.ready http.new }
+{
+    let now = Timestamp::from_second(1000)?;
+    let client = client(alloc)?;
+    let user = sign_in(rt, alloc, &client, rng, query, http, now);
+    drop(client);
+    user
+}
+
+// From signing in to signing out.
+fn stay<H: SyncHttpClient<Error: Drop>, R: Rng>(
+    rt: &impl Print,
+    alloc: Global,
+    rng: &mut R,
+    queries: &Queries,
+    http: &mut H,
 ) -> anyhow::Result<()>
     requires { H.ready http.old }
 {
-    let mut logins = Logins::new(alloc, client)?;
-    // This generator can be guessed. A site takes one for secrets: `StdRng` of the kit's `rand`, by `make_rng(&rt)`.
-    let mut rng = Pcg32::new(42, 54);
-    let first = sent(rt, alloc, client, &mut logins, &mut rng)?;
-    let second = sent(rt, alloc, client, &mut logins, &mut rng)?;
-    let refusal = answered(alloc, &mut logins, &second, query, http, now)?;
-    println!(rt; "{refusal}")?;
-    let line = answered(alloc, &mut logins, &first, query, http, now)?;
-    println!(rt; "{line}")?;
-    Ok(())
+    let user = signed_in(rt, alloc, rng, queries.callback.as_str().as_bytes(), http)?;
+    let visited = visit(rt, alloc, rng, &user, queries, http);
+    drop(user);
+    visited
 }
 
 fn main(rt: HostRuntime) -> anyhow::Result<()> {
     let alloc = rt.alloc();
-    let mut query = String::new(alloc);
-    let _ = rt.read_line(&mut query)?;
-    let now = Timestamp::from_second(1000)?;
+    let queries = read_queries(&rt, alloc)?;
     let mut http = Recorded::new(alloc, answers(alloc)?);
-    let client = client(alloc)?;
-    let query = query.as_str().trim().as_bytes();
-    sign_in(&rt, alloc, &client, query, &mut http, now)
+    // This generator can be guessed. A site takes one for secrets: `StdRng` of the kit's `rand`, by `make_rng(&rt)`.
+    let mut rng = Pcg32::new(42, 54);
+    stay(&rt, alloc, &mut rng, &queries, &mut http)?;
+    print_requests(&rt, &http)
 }

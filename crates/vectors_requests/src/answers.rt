@@ -7,23 +7,87 @@ use case_lines::{
     response_in, written,
 };
 use oidc_oauth2::{
-    Answer as Reply, CoreRevocableToken, CoreRevocationErrorResponse,
-    CoreTokenIntrospectionResponse, EmptyExtraDeviceAuthorizationFields, Recorded,
+    Answer as Reply, CodeTokenRequest, CoreRequestTokenError, CoreRevocableToken,
+    CoreRevocationErrorResponse, CoreTokenIntrospectionResponse,
+    EmptyExtraDeviceAuthorizationFields, Fault, Recorded,
 };
 use oidc_oauth2_requests::{
-    DeviceAccessTokenRequest, DeviceAuthorizationRequest, IntrospectionRequest, PollStep,
-    RevocationRequest,
+    ClientCredentialsTokenRequest, DeviceAccessTokenRequest, DeviceAuthorizationRequest,
+    IntrospectionRequest, PasswordTokenRequest, PollStep, RefreshTokenRequest, RevocationRequest,
 };
 use oidc_pairs::FormText;
-use oidc_types::AccessToken;
+use oidc_types::{
+    AccessToken, AuthorizationCode, RefreshToken, ResourceOwnerPassword, ResourceOwnerUsername,
+};
 use std::alloc::Global;
 
-// A transport that answers as a case says.
-fn transport(alloc: Global, case: &Case) -> Result<Recorded, CaseError> {
-    case.check_with(&["status", "body"], &["type"])?;
+// A transport that gives the response of a case.
+fn answering(alloc: Global, case: &Case) -> Result<Recorded, CaseError> {
     let mut answers = Vec::new(alloc);
     answers.push(Reply::Response(response_in(alloc, case)?))?;
     Ok(Recorded::new(alloc, answers))
+}
+
+// The same, of a case that is its response alone.
+fn transport(alloc: Global, case: &Case) -> Result<Recorded, CaseError> {
+    case.check_with(&["status", "body"], &["type"])?;
+    answering(alloc, case)
+}
+
+/// `tokens_answer`
+pub(crate) fn tokens_answer(alloc: Global, case: &Case) -> Result<String, CaseError> {
+    case.check_with(&["request", "status", "body"], &["type"])?;
+    let http = answering(alloc, case)?;
+    match case.value("request") {
+        "code" => code_answer(alloc, http),
+        "refresh" => refresh_answer(alloc, http),
+        "password" => password_answer(alloc, http),
+        "client_credentials" => client_credentials_answer(alloc, http),
+        _ => Err(CaseError::NoCase),
+    }
+}
+
+// What came of a request for tokens.
+fn tokens_line(
+    alloc: Global,
+    answer: Result<Answer, CoreRequestTokenError<Fault>>,
+) -> Result<String, CaseError> {
+    match answer {
+        Ok(tokens) => ok_pair(alloc, "written", written(alloc, &tokens)?.as_str()),
+        Err(refusal) => refused_line(alloc, &refusal),
+    }
+}
+
+fn code_answer(alloc: Global, mut http: Recorded) -> Result<String, CaseError> {
+    let sender = Sender::of_answers(alloc)?;
+    let code = AuthorizationCode::new(String::from_str(alloc, "c1")?);
+    let request: CodeTokenRequest<'_, Refused, Answer> =
+        CodeTokenRequest::new(alloc, &sender.endpoint, sender.auth(), code);
+    tokens_line(alloc, request.request(alloc, &mut http))
+}
+
+fn refresh_answer(alloc: Global, mut http: Recorded) -> Result<String, CaseError> {
+    let sender = Sender::of_answers(alloc)?;
+    let token = RefreshToken::new(String::from_str(alloc, "r1")?);
+    let request: RefreshTokenRequest<'_, Refused, Answer> =
+        RefreshTokenRequest::new(alloc, &sender.endpoint, sender.auth(), &token);
+    tokens_line(alloc, request.request(alloc, &mut http))
+}
+
+fn password_answer(alloc: Global, mut http: Recorded) -> Result<String, CaseError> {
+    let sender = Sender::of_answers(alloc)?;
+    let username = ResourceOwnerUsername::new(String::from_str(alloc, "u1")?);
+    let password = ResourceOwnerPassword::new(String::from_str(alloc, "p1")?);
+    let request: PasswordTokenRequest<'_, Refused, Answer> =
+        PasswordTokenRequest::new(alloc, &sender.endpoint, sender.auth(), &username, &password);
+    tokens_line(alloc, request.request(alloc, &mut http))
+}
+
+fn client_credentials_answer(alloc: Global, mut http: Recorded) -> Result<String, CaseError> {
+    let sender = Sender::of_answers(alloc)?;
+    let request: ClientCredentialsTokenRequest<'_, Refused, Answer> =
+        ClientCredentialsTokenRequest::new(alloc, &sender.endpoint, sender.auth());
+    tokens_line(alloc, request.request(alloc, &mut http))
 }
 
 /// `device_answer`

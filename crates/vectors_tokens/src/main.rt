@@ -4,9 +4,13 @@
 #![tactic(auto)]
 
 mod authorization;
+mod client_requests;
+mod clients;
 mod displays;
 mod logout;
+mod metadata_requests;
 mod operations;
+mod refreshed;
 mod responses;
 mod tokens;
 mod user_info;

@@ -3,7 +3,10 @@
 ghost use Rattle.std.specs.Prelude.{◌≡◌};
 ghost use Rattle.vectors_tokens.specs.Operations as spec;
 
-use crate::{authorization, displays, logout, responses, tokens, user_info, verifiers};
+use crate::{
+    authorization, client_requests, displays, logout, metadata_requests, refreshed, responses,
+    tokens, user_info, verifiers,
+};
 use case_lines::{Case, CaseError, CaseOperation};
 use std::alloc::Global;
 
@@ -17,6 +20,7 @@ pub(crate) enum Operation {
     IdClaims,
     IdToken,
     Verify,
+    VerifyRefreshed,
     Hash,
     Issue,
     InfoClaims,
@@ -25,11 +29,13 @@ pub(crate) enum Operation {
     InfoIssue,
     Authorize,
     Logout,
+    ClientRequest,
+    MetadataClientRequest,
 }
 
 impl Operation {
     /// Every operation.
-    const ALL: [Operation; 15] = [
+    const ALL: [Operation; 18] = [
         Operation::Display,
         Operation::TokenResponse,
         Operation::TokenAnswer,
@@ -37,6 +43,7 @@ impl Operation {
         Operation::IdClaims,
         Operation::IdToken,
         Operation::Verify,
+        Operation::VerifyRefreshed,
         Operation::Hash,
         Operation::Issue,
         Operation::InfoClaims,
@@ -45,6 +52,8 @@ impl Operation {
         Operation::InfoIssue,
         Operation::Authorize,
         Operation::Logout,
+        Operation::ClientRequest,
+        Operation::MetadataClientRequest,
     ];
 
     // Its name, the value of `op`.
@@ -59,6 +68,7 @@ impl Operation {
             Operation::IdClaims => "id_claims",
             Operation::IdToken => "token",
             Operation::Verify => "verify",
+            Operation::VerifyRefreshed => "verify_refreshed",
             Operation::Hash => "hash",
             Operation::Issue => "issue",
             Operation::InfoClaims => "info_claims",
@@ -67,6 +77,8 @@ impl Operation {
             Operation::InfoIssue => "info_issue",
             Operation::Authorize => "authorize",
             Operation::Logout => "logout",
+            Operation::ClientRequest => "client_request",
+            Operation::MetadataClientRequest => "metadata_client_request",
         }
     }
 
@@ -97,6 +109,7 @@ impl CaseOperation for Operation {
             Operation::IdClaims => tokens::id_claims(alloc, case),
             Operation::IdToken => tokens::token(alloc, case),
             Operation::Verify => verifiers::verify(alloc, case),
+            Operation::VerifyRefreshed => refreshed::verify_refreshed(alloc, case),
             Operation::Hash => tokens::hash(alloc, case),
             Operation::Issue => tokens::issue(alloc, case),
             Operation::InfoClaims => user_info::info_claims(alloc, case),
@@ -105,6 +118,10 @@ impl CaseOperation for Operation {
             Operation::InfoIssue => user_info::info_issue(alloc, case),
             Operation::Authorize => authorization::authorize(alloc, case),
             Operation::Logout => logout::logout(alloc, case),
+            Operation::ClientRequest => client_requests::client_request(alloc, case),
+            Operation::MetadataClientRequest => {
+                metadata_requests::metadata_client_request(alloc, case)
+            }
         }
     }
 }

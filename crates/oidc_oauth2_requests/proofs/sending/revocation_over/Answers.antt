@@ -1,7 +1,8 @@
 use Rattle.std.proofs.Common.{rules}
 use Rattle.oidc_oauth2.specs.TokenAnswers.{is_fault}
 use Rattle.oidc_oauth2.proofs.Runs.{no_fault}
-use Rattle.oidc_oauth2_requests.proofs.Judges.{unblamed, ran_refused, ran_answered}
+use Rattle.oidc_oauth2.proofs.Judges.{unblamed}
+use Rattle.oidc_oauth2_requests.proofs.Sendings.{ran_refused, ran_answered}
 use Rattle.oidc_oauth2_requests.proofs.JudgeRevocations.{revocations}
 use Rattle.oidc_oauth2_requests.proofs.sending.revocation_over.Goals as goal
 

@@ -1,8 +1,9 @@
 use Rattle.std.proofs.Common.{rules}
 use Rattle.oidc_oauth2.specs.TokenAnswers.{is_fault}
 use Rattle.oidc_oauth2.proofs.Runs.{no_fault}
-use Rattle.oidc_oauth2_requests.proofs.Judges.{unblamed, ran_refused, ran_answered}
-use Rattle.oidc_oauth2_requests.proofs.JudgeRecords.{records}
+use Rattle.oidc_oauth2.proofs.Judges.{unblamed}
+use Rattle.oidc_oauth2_requests.proofs.Sendings.{ran_refused, ran_answered}
+use Rattle.oidc_oauth2.proofs.Theorems.{records}
 use Rattle.oidc_oauth2_requests.proofs.sending.tokens_over.Goals as goal
 
 pub returns-in_err-response-clause-ran : goal.returns-in_err-response-clause-ran

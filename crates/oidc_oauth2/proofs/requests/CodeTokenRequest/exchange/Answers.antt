@@ -1,7 +1,7 @@
 use Rattle.std.proofs.Common.{refl, rules}
 use Rattle.oidc_oauth2.specs.TokenAnswers.{is_fault}
 use Rattle.oidc_oauth2.proofs.Runs.{left_alone, blamed_by}
-use Rattle.oidc_oauth2.proofs.AnswerRows.{code_unmade, code_forgone, code_answered}
+use Rattle.oidc_oauth2.proofs.CodeRuns.{code_unmade, code_forgone, code_answered}
 use Rattle.oidc_oauth2.proofs.requests.CodeTokenRequest.exchange.Goals as goal
 
 pub returns-in-Err-Uri-clause-follows : goal.returns-in-Err-Uri-clause-follows
