@@ -1,14 +1,14 @@
 #!/usr/bin/env python3
 """Reads, judges and issues ID tokens, and answers the cases of crates/vectors_tokens of that.
 
-    tools/plain_tokens.py answers   reads cases of header, id_claims, token, verify, hash, issue, token_response
-                                    and token_answer from standard input, and answers each: a line each; any
-                                    other line comes back as it came
+    tools/plain_tokens.py answers   reads cases of header, id_claims, token, verify, verify_refreshed, hash, issue,
+                                    token_response and token_answer from standard input, and answers each: a line
+                                    each; any other line comes back as it came
     tools/plain_tokens.py cases     360 generated cases, a line each
 
 It is a second reader, verifier and issuer beside oidc_tokens, over Python's json, base64, hashlib and hmac:
 RFC 7515 sections 2, 4.1, 5 and 7.1, RFC 7518 section 3.1, RFC 7519 sections 5 and 7, OpenID Connect Core 1.0
-sections 2, 3.1.3.3, 3.1.3.6, 3.1.3.7, 3.3.2.11, 5.1, 5.2 and 10.1. Each member of an object is judged by
+sections 2, 3.1.3.3, 3.1.3.6, 3.1.3.7, 3.3.2.11, 5.1, 5.2, 10.1 and 12.2. Each member of an object is judged by
 looking back at all that stand before it. It takes URLs as they are written, so it is right where these are
 written as the URL Standard writes them. Scripts are judged by plain_callback.py, which stands on this one.
 """
@@ -242,6 +242,37 @@ def first_failure(client, nonce, now, token):
     return None if own.get("nonce") == nonce else "invalid_nonce"
 
 
+# ---- ID tokens that come with refreshed tokens
+
+
+def changed_claim(first, new):
+    """The first of the claims that OpenID Connect Core 1.0 section 12.2 lists by which two lists of members aren't
+    those of ID tokens of one sign-in."""
+    was, own = own_of(first), own_of(new)
+    rows = [
+        ("other_issuer", own["iss"] == was["iss"]),
+        ("other_subject", dict(plain_claims.claims_of(new))["sub"] == dict(plain_claims.claims_of(first))["sub"]),
+        ("other_audience", set(own["aud"]) == set(was["aud"])),
+        ("other_auth_time", own.get("auth_time") in (None, was.get("auth_time"))),
+        ("other_nonce", own.get("nonce") in (None, was.get("nonce"))),
+        ("other_authorized_party", own.get("azp") == was.get("azp")),
+    ]
+    return next((refusal for refusal, holds in rows if not holds), None)
+
+
+def refreshed_hash_failure(token, access_token):
+    """As `hash_failure`, where a key of the issuer has no hash."""
+    if "at_hash" in own_of(token.members) and not token.header["alg"].startswith("HS"):
+        return "signing unsupported_alg"
+    return hash_failure(token, access_token)
+
+
+def refreshed_failure(client, now, first, access_token, token):
+    """The first row that fails. A client that wants no nonce takes the token's own."""
+    return (first_failure(client, own_of(token.members).get("nonce"), now, token)
+            or changed_claim(first, token.members) or refreshed_hash_failure(token, access_token))
+
+
 # ---- cases
 
 
@@ -285,20 +316,37 @@ def now_in(text):
     return int(text)
 
 
-def verify(line):
-    found, keys = read_case(line, {"token", "id", "issuer", "nonce", "now"}, {"secret", "algs"}, "key")
+def client_in(found, keys):
     if url_fault(found["issuer"]):
         raise NoCase
     algs = found.get("algs", "RS256")
-    client = {"id": found["id"], "issuer": found["issuer"], "secret": found.get("secret"),
-              "algs": [algorithm_in(alg) for alg in algs.split(" ")] if algs else [],
-              "keys": [key_in(key) for key in keys]}
+    return {"id": found["id"], "issuer": found["issuer"], "secret": found.get("secret"),
+            "algs": [algorithm_in(alg) for alg in algs.split(" ")] if algs else [],
+            "keys": [key_in(key) for key in keys]}
+
+
+def verify(line):
+    found, keys = read_case(line, {"token", "id", "issuer", "nonce", "now"}, {"secret", "algs"}, "key")
+    client = client_in(found, keys)
     now = now_in(found["now"])
     try:
         read = token_of(found["token"])
     except Refused:
         raise NoCase from None
     failure = first_failure(client, found["nonce"], now, read)
+    return "refused " + failure if failure else ok([("written", written(read.members))])
+
+
+def verify_refreshed(line):
+    needed = {"token", "first", "access_token", "id", "issuer", "now"}
+    found, keys = read_case(line, needed, {"secret", "algs"}, "key")
+    client = client_in(found, keys)
+    now = now_in(found["now"])
+    try:
+        read, first = token_of(found["token"]), claim_members(found["first"].encode())
+    except Refused:
+        raise NoCase from None
+    failure = refreshed_failure(client, now, first, found["access_token"], read)
     return "refused " + failure if failure else ok([("written", written(read.members))])
 
 
@@ -375,7 +423,8 @@ def token_answer(line):
     return ok([("written", written_tokens(found))])
 
 
-OPERATIONS = {"header": header, "id_claims": id_claims, "token": token, "verify": verify, "hash": hash_answer,
+OPERATIONS = {"header": header, "id_claims": id_claims, "token": token, "verify": verify,
+              "verify_refreshed": verify_refreshed, "hash": hash_answer,
               "issue": issue, "token_response": token_response, "token_answer": token_answer}
 
 # ---- generated cases

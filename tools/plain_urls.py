@@ -73,7 +73,7 @@ def scopes_of(of):
         if name == "scope":
             scopes.append(value)
         elif name == "scopes":
-            scopes += value.split(" ")
+            scopes += value.split(" ") if value else []
     return scopes
 
 

@@ -75,7 +75,8 @@ pub use oidc_oauth2_requests::{
 pub use oidc_tokens::{
     AudiencesClaim, ClaimsVerificationError, IdToken, IdTokenClaims, IdTokenFields,
     IdTokenVerifier, IssuerClaim, JsonWebToken, JsonWebTokenAlgorithm, JsonWebTokenError,
-    NonceVerifier, Payload, TokenHeader, TokenResponse, UserInfoVerifier, from_code, from_token,
+    NonceVerifier, Payload, RefreshedClaimsError, TokenHeader, TokenResponse, UserInfoVerifier,
+    from_code, from_token,
 };
 
 // User info and logout.

@@ -1,6 +1,6 @@
 -- The checks, one after the other, are those of acceptance.
 use Rattle.std.proofs.Common.{◌≡◌, ℕ, suc, ℤ, Bool, true, false, List, [], ◌∷◌, Option, None, Some, refl, ap, ◌∙◌, arith, ⊎_elim}
-use Rattle.std.specs.Prelude.{Result, Ok, Err, not, ◌&&◌, if◌then◌else◌, Contains, All, int_lt, ◌<ℤ◌, is_none}
+use Rattle.std.specs.Prelude.{Result, Ok, Err, not, ◌&&◌, if◌then◌else◌, Contains, int_lt, ◌<ℤ◌, is_none}
 use Rattle.std.specs.List.{list_all, list_any}
 use Rattle.std.specs.Option.{option_or}
 use Rattle.std.specs.Str.{bytes_eq}
@@ -30,7 +30,7 @@ same_bytes xs ys h = (bytes_eq-Decides xs ys).0 h
 pub bytes_same : (xs ys : List ℕ) → xs ≡ ys → bytes_eq xs ys ≡ true
 bytes_same xs ys h = (bytes_eq-Decides xs ys).1 h
 
-contains_found : {A : Type 0} (test : A → Bool) (x : A) → ((y : A) → test y ≡ true → y ≡ x) → (xs : List A) → list_any test xs ≡ true → Contains xs x
+pub contains_found : {A : Type 0} (test : A → Bool) (x : A) → ((y : A) → test y ≡ true → y ≡ x) → (xs : List A) → list_any test xs ≡ true → Contains xs x
 contains_found test x same [] h = absurd (false≢true h)
 contains_found test x same (y ∷ ys) h =
     ⊎_elim
@@ -38,7 +38,7 @@ contains_found test x same (y ∷ ys) h =
     (λ there. let rest : Contains ys x = contains_found test x same ys there in (suc rest.0, omega (arith, rest.1), rest.2))
     (or_cases (test y) (list_any test ys) h)
 
-found_contained : {A : Type 0} (test : A → Bool) (x : A) → test x ≡ true → (xs : List A) → Contains xs x → list_any test xs ≡ true
+pub found_contained : {A : Type 0} (test : A → Bool) (x : A) → test x ≡ true → (xs : List A) → Contains xs x → list_any test xs ≡ true
 found_contained test x passes xs h = list_any_at test xs h.0 x h.1 (ap test h.2 ∙ passes)
 
 pub alone : (id : List ℕ) (audiences : List (List ℕ)) → is_alone_in id audiences ≡ true → IsForAlone id audiences
@@ -126,7 +126,7 @@ module _ {Key Use Algorithm Type' : Type 0} (k : KeyMeanings Key Use Algorithm T
 
 -- ---- all of them
 
-pub passes : (test : Bool) (refusal : ClaimsVerificationError) → unless test refusal ≡ None → test ≡ true
+pub passes : {E : Type 0} (test : Bool) (refusal : E) → unless test refusal ≡ None → test ≡ true
 passes true refusal h = refl
 passes false refusal h = absurd cc
 
@@ -138,10 +138,10 @@ first_two : (a b : Option ClaimsVerificationError) → option_or a b ≡ None �
 first_two None b h = (refl, h)
 first_two (Some e) b h = absurd cc
 
-abbrev All_none : Option ClaimsVerificationError → Option ClaimsVerificationError → Option ClaimsVerificationError → Option ClaimsVerificationError → Option ClaimsVerificationError → Option ClaimsVerificationError → Type 0
+abbrev pub All_none : {E : Type 0} → Option E → Option E → Option E → Option E → Option E → Option E → Type 0
 All_none a b c d e f = (a ≡ None) × (b ≡ None) × (c ≡ None) × (d ≡ None) × (e ≡ None) × (f ≡ None)
 
-all_six : (a b c d e f : Option ClaimsVerificationError) → first_refusal (a ∷ b ∷ c ∷ d ∷ e ∷ f ∷ []) ≡ None → All_none a b c d e f
+pub all_six : {E : Type 0} (a b c d e f : Option E) → first_refusal (a ∷ b ∷ c ∷ d ∷ e ∷ f ∷ []) ≡ None → All_none a b c d e f
 all_six None None None None None None h = (refl, refl, refl, refl, refl, refl)
 all_six (Some x) b c d e f h = absurd cc
 all_six None (Some x) c d e f h = absurd cc
@@ -150,7 +150,7 @@ all_six None None None (Some x) e f h = absurd cc
 all_six None None None None (Some x) f h = absurd cc
 all_six None None None None None (Some x) h = absurd cc
 
-six_back : (a b c d e f : Option ClaimsVerificationError) → All_none a b c d e f → first_refusal (a ∷ b ∷ c ∷ d ∷ e ∷ f ∷ []) ≡ None
+pub six_back : {E : Type 0} (a b c d e f : Option E) → All_none a b c d e f → first_refusal (a ∷ b ∷ c ∷ d ∷ e ∷ f ∷ []) ≡ None
 six_back a b c d e f h = rw (h.0, h.1, h.2, h.3, h.4, h.5) refl
 
 module _ {Key Use Algorithm Type' : Type 0} (k : KeyMeanings Key Use Algorithm Type') {JE AC GC : Type 0} where

@@ -22,7 +22,7 @@ use Rattle.oidc_tokens.proofs.Accepted.{bytes_same, alone_back}
 same_err : {A : Type 0} (o : Result A SignatureVerificationError) (a b : SignatureVerificationError) → o ≡ Err a → o ≡ Err b → a ≡ b
 same_err o a b h k = let both = sym h ∙ k in cc both
 
-pub same_some : (a b : ClaimsVerificationError) → Some a ≡ Some b → a ≡ b
+pub same_some : {E : Type 0} (a b : E) → Some a ≡ Some b → a ≡ b
 same_some a b h = cc
 
 -- ---- the header

@@ -8,4 +8,7 @@ mod UserInfo
 mod IssuedClaims
 mod Judged
 mod NeverMemory
+mod RefreshedRows
+mod RefreshedWhy
+mod RefreshedJudged
 pub mod Theorems

@@ -84,7 +84,7 @@ module _ {Key Use Algorithm Type' : Type 0} (k : KeyMeanings Key Use Algorithm T
 -- ---- the same as checks, in the order in which they are made
 
 -- no refusal where the check holds
-abbrev pub unless : Bool → ClaimsVerificationError → Option ClaimsVerificationError
+abbrev pub unless : {E : Type 0} → Bool → E → Option E
 unless holds refusal = if holds then None else Some refusal
 
 -- none where the verdict is Ok
@@ -94,7 +94,7 @@ refused_as wrap (Ok u) = None
 refused_as wrap (Err refusal) = Some (wrap refusal)
 
 -- the first that refuses
-abbrev pub first_refusal : List (Option ClaimsVerificationError) → Option ClaimsVerificationError
+abbrev pub first_refusal : {E : Type 0} → List (Option E) → Option E
 first_refusal checks = fold option_or None checks
 
 module _ {Key Use Algorithm Type' : Type 0} (k : KeyMeanings Key Use Algorithm Type') {JE AC GC : Type 0} where

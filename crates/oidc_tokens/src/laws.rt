@@ -2,6 +2,7 @@
 //! law in its contract, and does nothing.
 
 ghost use Rattle.oidc_tokens.specs.Verification.{FailsUnlessAccepted};
+ghost use Rattle.oidc_tokens.specs.Refreshed.{RefreshedFailsUnlessAccepted};
 ghost use Rattle.oidc_tokens.specs.UserInfoVerification.{InfoFailsUnlessAccepted};
 ghost use Rattle.oidc_tokens.specs.Signatures.{meanings};
 
@@ -28,4 +29,17 @@ pub fn info_accepted_where_no_check_fails<K: JsonWebKey, JE: JweContentEncryptio
     ensures { let k = meanings K.JsonWebKey K.KeyUse.JsonWebKeyUse
         K.SigningAlgorithm.JwsSigningAlgorithm.own K.SigningAlgorithm.ClosedVocabulary
         K.SigningAlgorithm.KeyType.ClosedVocabulary in InfoFailsUnlessAccepted k JE P }
+{}
+
+/// No check of an ID token that comes with refreshed tokens fails exactly where the token is accepted, for every
+/// key type, first ID token and access token.
+pub fn refreshed_accepted_where_no_check_fails<
+    K: JsonWebKey,
+    AC: AdditionalClaims,
+    GC: GenderClaim,
+    JE: JweContentEncryptionAlgorithm,
+>()
+    ensures { let k = meanings K.JsonWebKey K.KeyUse.JsonWebKeyUse
+        K.SigningAlgorithm.JwsSigningAlgorithm.own K.SigningAlgorithm.ClosedVocabulary
+        K.SigningAlgorithm.KeyType.ClosedVocabulary in RefreshedFailsUnlessAccepted k JE AC GC }
 {}

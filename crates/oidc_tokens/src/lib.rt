@@ -5,6 +5,8 @@
 //!   passed on here.
 //! - [`IdTokenVerifier`] is what a client expects of an ID token. [`IdToken::claims`] gives the claims
 //!   where the verifier accepts the token (section 3.1.3.7), else the first check that fails.
+//! - [`IdToken::refreshed_claims`] gives those of an ID token that came with refreshed tokens, where it is accepted
+//!   beside the first ID token of the sign-in and the access token that came with it (section 12.2).
 //! - [`UserInfoVerifier`] is what it expects of a user info answer that is a token (sections 5.3.2 and 5.3.4).
 //! - [`IdToken::new`] issues a token. [`from_token`] and [`from_code`] are the hashes of an access token
 //!   and of a code that it may hold (sections 3.1.3.6 and 3.3.2.11).
@@ -28,6 +30,7 @@ mod core_tokens;
 mod hashes;
 mod id_token;
 pub mod laws;
+mod refreshed;
 mod token;
 mod verification;
 
@@ -37,6 +40,7 @@ pub use crate::core_tokens::{
 };
 pub use crate::hashes::{from_code, from_token};
 pub use crate::id_token::{IdToken, IdTokenClaims, IdTokenFields};
+pub use crate::refreshed::RefreshedClaimsError;
 pub use crate::token::TokenResponse;
 pub use crate::verification::{
     AudiencesClaim, ClaimsVerificationError, IdTokenVerifier, IssuerClaim, NonceVerifier,

@@ -2,7 +2,7 @@
 use Rattle.std.specs.Prelude.{ℕ, List, [], ◌∷◌, Option, codes, find}
 use Rattle.std.specs.Str.{bytes_eq}
 use Rattle.vectors_tokens.specs.declared.operations.Operation.{Operation}
-use Rattle.vectors_tokens.specs.declared.operations.Operation.TheVariants.{Display, TokenResponse, TokenAnswer, Header, IdClaims, IdToken, Verify, Hash, Issue, InfoClaims, InfoRequest, InfoAnswer, InfoIssue, Authorize, Logout}
+use Rattle.vectors_tokens.specs.declared.operations.Operation.TheVariants.{Display, TokenResponse, TokenAnswer, Header, IdClaims, IdToken, Verify, VerifyRefreshed, Hash, Issue, InfoClaims, InfoRequest, InfoAnswer, InfoIssue, Authorize, Logout}
 
 -- the name of an operation, the value of `op`
 abbrev pub operation_name : Operation → List ℕ
@@ -13,6 +13,7 @@ operation_name Header = codes "header"
 operation_name IdClaims = codes "id_claims"
 operation_name IdToken = codes "token"
 operation_name Verify = codes "verify"
+operation_name VerifyRefreshed = codes "verify_refreshed"
 operation_name Hash = codes "hash"
 operation_name Issue = codes "issue"
 operation_name InfoClaims = codes "info_claims"
@@ -24,7 +25,7 @@ operation_name Logout = codes "logout"
 
 -- all operations
 abbrev pub operations : List Operation
-operations = Display ∷ TokenResponse ∷ TokenAnswer ∷ Header ∷ IdClaims ∷ IdToken ∷ Verify ∷ Hash ∷ Issue ∷ InfoClaims ∷ InfoRequest ∷ InfoAnswer ∷ InfoIssue ∷ Authorize ∷ Logout ∷ []
+operations = Display ∷ TokenResponse ∷ TokenAnswer ∷ Header ∷ IdClaims ∷ IdToken ∷ Verify ∷ VerifyRefreshed ∷ Hash ∷ Issue ∷ InfoClaims ∷ InfoRequest ∷ InfoAnswer ∷ InfoIssue ∷ Authorize ∷ Logout ∷ []
 
 -- the operation of that name
 abbrev pub operation_of : List ℕ → Option Operation

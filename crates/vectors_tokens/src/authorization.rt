@@ -375,9 +375,12 @@ pub(crate) fn text_in(alloc: Global, text: &str) -> Result<String, CaseError> {
     Ok(String::from_str(alloc, text)?)
 }
 
-// The scopes of a text, with a space between each two.
+// The scopes of a text, with a space between each two; the empty text is none.
 fn scopes_of(alloc: Global, text: &str) -> Result<Vec<Scope>, CaseError> {
     let mut scopes = Vec::new(alloc);
+    if text.is_empty() {
+        return Ok(scopes);
+    }
     for word in text.split(' ') {
         scopes.push(Scope::new(String::from_str(alloc, word)?))?;
     }

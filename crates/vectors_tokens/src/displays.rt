@@ -5,7 +5,7 @@ use http::StatusCode;
 use oidc_keys::SignatureVerificationError;
 use oidc_members::{ParseKind, Refusal};
 use oidc_oauth2::{Body, Fault};
-use oidc_tokens::{ClaimsVerificationError, JsonWebTokenError};
+use oidc_tokens::{ClaimsVerificationError, JsonWebTokenError, RefreshedClaimsError};
 use oidc_types::SigningError;
 use oidc_user_info::{BuildUrlError, InfoOther, PrepareInfoError, ResponseCause, UserInfoError};
 use std::alloc::Global;
@@ -44,6 +44,7 @@ pub(crate) fn display(alloc: Global, case: &Case) -> Result<String, CaseError> {
         "InfoOther" => one_of(alloc, &INFO_CAUSES, variant),
         "JsonWebTokenError" => token_error(alloc, variant),
         "PrepareInfoError" => one_of(alloc, &INFO_REQUESTS, variant),
+        "RefreshedClaimsError" => refreshed_error(alloc, variant),
         "ResponseCause" => one_of(alloc, &RESPONSES, variant),
         "UserInfoError" => user_info_error(alloc, variant),
         _ => Err(CaseError::NoCase),
@@ -68,6 +69,22 @@ fn token_error(alloc: Global, variant: &str) -> Result<String, CaseError> {
     let all = [
         JsonWebTokenError::SigningError(SigningError::CryptoError),
         JsonWebTokenError::Memory,
+    ];
+    one_of(alloc, &all, variant)
+}
+
+fn refreshed_error(alloc: Global, variant: &str) -> Result<String, CaseError> {
+    let all = [
+        RefreshedClaimsError::Claims(ClaimsVerificationError::Expired),
+        RefreshedClaimsError::OtherIssuer,
+        RefreshedClaimsError::OtherSubject,
+        RefreshedClaimsError::OtherAudience,
+        RefreshedClaimsError::OtherAuthTime,
+        RefreshedClaimsError::OtherNonce,
+        RefreshedClaimsError::OtherAuthorizedParty,
+        RefreshedClaimsError::Signing(SigningError::CryptoError),
+        RefreshedClaimsError::TokenHash,
+        RefreshedClaimsError::Memory,
     ];
     one_of(alloc, &all, variant)
 }

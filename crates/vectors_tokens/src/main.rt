@@ -7,6 +7,7 @@ mod authorization;
 mod displays;
 mod logout;
 mod operations;
+mod refreshed;
 mod responses;
 mod tokens;
 mod user_info;

@@ -3,7 +3,7 @@
 ghost use Rattle.std.specs.Prelude.{◌≡◌};
 ghost use Rattle.vectors_tokens.specs.Operations as spec;
 
-use crate::{authorization, displays, logout, responses, tokens, user_info, verifiers};
+use crate::{authorization, displays, logout, refreshed, responses, tokens, user_info, verifiers};
 use case_lines::{Case, CaseError, CaseOperation};
 use std::alloc::Global;
 
@@ -17,6 +17,7 @@ pub(crate) enum Operation {
     IdClaims,
     IdToken,
     Verify,
+    VerifyRefreshed,
     Hash,
     Issue,
     InfoClaims,
@@ -29,7 +30,7 @@ pub(crate) enum Operation {
 
 impl Operation {
     /// Every operation.
-    const ALL: [Operation; 15] = [
+    const ALL: [Operation; 16] = [
         Operation::Display,
         Operation::TokenResponse,
         Operation::TokenAnswer,
@@ -37,6 +38,7 @@ impl Operation {
         Operation::IdClaims,
         Operation::IdToken,
         Operation::Verify,
+        Operation::VerifyRefreshed,
         Operation::Hash,
         Operation::Issue,
         Operation::InfoClaims,
@@ -59,6 +61,7 @@ impl Operation {
             Operation::IdClaims => "id_claims",
             Operation::IdToken => "token",
             Operation::Verify => "verify",
+            Operation::VerifyRefreshed => "verify_refreshed",
             Operation::Hash => "hash",
             Operation::Issue => "issue",
             Operation::InfoClaims => "info_claims",
@@ -97,6 +100,7 @@ impl CaseOperation for Operation {
             Operation::IdClaims => tokens::id_claims(alloc, case),
             Operation::IdToken => tokens::token(alloc, case),
             Operation::Verify => verifiers::verify(alloc, case),
+            Operation::VerifyRefreshed => refreshed::verify_refreshed(alloc, case),
             Operation::Hash => tokens::hash(alloc, case),
             Operation::Issue => tokens::issue(alloc, case),
             Operation::InfoClaims => user_info::info_claims(alloc, case),

@@ -293,8 +293,8 @@ fn token_or_refusal(
     }
 }
 
-// The claims of a text that has to hold them.
-fn claims_of(alloc: Global, text: &str) -> Result<Claims, CaseError> {
+/// The claims of a text that has to hold them.
+pub(crate) fn claims_of(alloc: Global, text: &str) -> Result<Claims, CaseError> {
     match claims_in(alloc, text) {
         Ok(claims) => Ok(claims),
         Err(error) => Err(unread(&error)),

@@ -55,8 +55,8 @@ pub(crate) fn parties_in(alloc: Global, case: &Case) -> Result<Parties, CaseErro
     Ok(Parties { id, issuer, keys })
 }
 
-// The verifier of a client with a list of algorithms, or without.
-fn verifier_in<'a>(
+/// The verifier of a client with a list of algorithms, or without.
+pub(crate) fn verifier_in<'a>(
     alloc: Global,
     case: &Case,
     parties: &'a Parties,
@@ -111,7 +111,8 @@ fn verdict_line(
     }
 }
 
-fn written_line(alloc: Global, claims: &Claims) -> Result<String, CaseError> {
+/// The claims of a token that is accepted.
+pub(crate) fn written_line(alloc: Global, claims: &Claims) -> Result<String, CaseError> {
     let written = written_claims(alloc, claims)?;
     ok_pair(alloc, "written", written.as_str())
 }
@@ -139,8 +140,8 @@ fn keys_in(alloc: Global, case: &Case) -> Result<JsonWebKeySet<VerifierKey>, Cas
     Ok(JsonWebKeySet::new(keys))
 }
 
-// The moment of whole seconds. Rust reads a number behind a `+`, which no line has.
-fn moment(text: &str) -> Result<Timestamp, CaseError> {
+/// The moment of whole seconds. Rust reads a number behind a `+`, which no line has.
+pub(crate) fn moment(text: &str) -> Result<Timestamp, CaseError> {
     if text.as_bytes().first() == Some(&b'+') {
         return Err(CaseError::NoCase);
     }
