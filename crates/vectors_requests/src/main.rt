@@ -1,13 +1,14 @@
-//! The program `vectors_requests`: cases of the requests of a client beside the one that exchanges a code, and of their
-//! answers, as lines of text.
+//! The program `vectors_requests`: cases of the requests that the typed client makes beside the one that exchanges a
+//! code, and of their answers, as lines of text.
 //!
 //! The page of `case_lines` has the rules of lines, README.md the operations.
 #![tactic(auto)]
 
 mod answers;
+mod asked;
+mod clients;
 mod operations;
 mod requests;
-mod senders;
 
 use crate::operations::Operation;
 use case_lines::{answer_lines, exit_code};

@@ -17,6 +17,7 @@ pub(crate) enum Operation {
     DeviceRequest,
     IntrospectionRequest,
     RevocationRequest,
+    TokensAnswer,
     DeviceAnswer,
     IntrospectionAnswer,
     PollAnswer,
@@ -25,7 +26,7 @@ pub(crate) enum Operation {
 
 impl Operation {
     /// Every operation.
-    const ALL: [Operation; 11] = [
+    const ALL: [Operation; 12] = [
         Operation::RefreshRequest,
         Operation::PasswordRequest,
         Operation::ClientCredentialsRequest,
@@ -33,6 +34,7 @@ impl Operation {
         Operation::DeviceRequest,
         Operation::IntrospectionRequest,
         Operation::RevocationRequest,
+        Operation::TokensAnswer,
         Operation::DeviceAnswer,
         Operation::IntrospectionAnswer,
         Operation::PollAnswer,
@@ -51,6 +53,7 @@ impl Operation {
             Operation::DeviceRequest => "device_request",
             Operation::IntrospectionRequest => "introspection_request",
             Operation::RevocationRequest => "revocation_request",
+            Operation::TokensAnswer => "tokens_answer",
             Operation::DeviceAnswer => "device_answer",
             Operation::IntrospectionAnswer => "introspection_answer",
             Operation::PollAnswer => "poll_answer",
@@ -87,6 +90,7 @@ impl CaseOperation for Operation {
             Operation::DeviceRequest => requests::device_request(alloc, case),
             Operation::IntrospectionRequest => requests::introspection_request(alloc, case),
             Operation::RevocationRequest => requests::revocation_request(alloc, case),
+            Operation::TokensAnswer => answers::tokens_answer(alloc, case),
             Operation::DeviceAnswer => answers::device_answer(alloc, case),
             Operation::IntrospectionAnswer => answers::introspection_answer(alloc, case),
             Operation::PollAnswer => answers::poll_answer(alloc, case),
