@@ -1,22 +1,33 @@
-//! A site that signs a user in, over the crates `oidc` and `oidc_pairs`: what its author writes.
+//! A site that signs users in and out, over the crate `oidc` and the crates whose words its contracts cite: what its
+//! author writes.
 //!
 //! The site's transport, its generator and its clock are its own. Here the provider is played by `Recorded`, which
 //! answers from a list, and the generator begins at a fixed number, so that the program always prints the same. Two
 //! browsers begin a login. The program reads the query with which the first one comes back from standard input, and
-//! shows that the second one, which was handed that query, is refused.
+//! shows that the second one, which was handed that query, is refused. Then both sign in, each with its own. The tokens
+//! of the first one's user are refreshed (`src/tokens.rt`), and the user signs out (`src/sign_out.rt`); a refresh of
+//! the second one's brings the ID token of somebody else, so that user has to sign in again.
 #![tactic(auto)]
 
 ghost use Rattle.std.specs.Prelude.{◌≡◌, ◌↔◌, true, false, None, Some, IfOk, IfSome, IsSome, IsTrue, OnOk, option_and_then};
 ghost use Rattle.std.specs.FinMap as finite;
 ghost use Rattle.std.specs.Option.{option_copied};
+ghost use Rattle.oidc_types.specs.Random.{random_text};
 ghost use Rattle.oidc.specs.Pairs.{pairs};
 ghost use Rattle.oidc.specs.Token.{subject_of};
 ghost use Rattle.oidc.specs.Errors.{is_spent_by};
 ghost use Rattle.oidc.specs.BeforeRequest.{login_named_by, state_in};
 
 mod provider;
+mod session;
+mod sign_out;
+mod tokens;
+mod visit;
 
-use crate::provider::{answers, metadata, text};
+use crate::provider::{answers, metadata, print_requests, text};
+use crate::session::{Session, Visit};
+use crate::tokens::{RevocationClient, revocation_client};
+use crate::visit::visits;
 use jiff::Timestamp;
 use oidc::core_types::{CoreGenderClaim, CoreJsonWebKey};
 use oidc::login::{LoginClient, LoginError, LoginSecrets, Logins, SignedIn, UserInfoDemand};
@@ -34,7 +45,7 @@ use url::Url;
 type SiteLogins<'c> = Logins<'c, AllOtherClaims, CoreGenderClaim, CoreJsonWebKey>;
 
 /// A user of it.
-type User = SignedIn<AllOtherClaims, CoreGenderClaim>;
+pub(crate) type User = SignedIn<AllOtherClaims, CoreGenderClaim>;
 
 // The site as the provider knows it: made once, and borrowed by its logins.
 fn client(alloc: Global) -> anyhow::Result<LoginClient> {
@@ -59,7 +70,9 @@ fn begin<'c, R: Rng>(
     client: &'c LoginClient,
     logins: &mut SiteLogins<'c>,
     rng: &mut R,
-) -> anyhow::Result<(Url, CsrfToken)> {
+) -> anyhow::Result<(Url, CsrfToken)>
+    ensures { IfOk result (λ sent. sent.1 ≡ random_text 16 (R.stream rng.old)) }
+{
     let LoginSecrets {
         state,
         nonce,
@@ -74,7 +87,7 @@ fn begin<'c, R: Rng>(
 }
 
 // Whether the query's one `state` is the one that the browser's session keeps.
-fn is_own(alloc: Global, kept: &CsrfToken, query: &[u8]) -> Result<bool, AllocError>
+pub(crate) fn is_own(alloc: Global, kept: &CsrfToken, query: &[u8]) -> Result<bool, AllocError>
     ensures { IfOk result (λ own. IsTrue own ↔ (state_in (pairs query.now) ≡ Some kept.now)) }
 {
     Ok(Pairs::parse(alloc, query)?.only("state") == Some(kept.secret()))
@@ -125,20 +138,43 @@ fn greeting(alloc: Global, user: &User) -> anyhow::Result<String> {
     }
 }
 
-// What a site says to who comes back. `LoginError` says why nobody is signed in.
-fn said<E>(alloc: Global, reply: &Result<User, LoginError<E>>) -> anyhow::Result<String> {
-    match reply {
-        Ok(user) => greeting(alloc, user),
-        Err(LoginError::State) => text(alloc, "not signed in: this browser began no such login"),
-        Err(_) => text(alloc, "not signed in"),
+// What a site says to who isn't signed in. `LoginError` says why.
+fn said<E>(refusal: &LoginError<E>) -> &'static str {
+    match refusal {
+        LoginError::State => "not signed in: this browser began no such login",
+        _ => "not signed in",
     }
 }
 
-// What it answers the browser that comes back. A site goes on with the user here.
+// Puts a user into the session, in the place of any other.
+fn admit(alloc: Global, session: &mut Session, user: User) -> anyhow::Result<String> {
+    let visit = Visit::new(alloc, user)?;
+    let line = greeting(alloc, &visit.user);
+    drop(session.visit.replace(visit));
+    line
+}
+
+// What it makes of the reply to a callback.
+fn admit_any<E: Drop>(
+    alloc: Global,
+    session: &mut Session,
+    reply: Result<User, LoginError<E>>,
+) -> anyhow::Result<String> {
+    match reply {
+        Ok(user) => admit(alloc, session, user),
+        Err(refusal) => {
+            let line = said(&refusal);
+            drop(refusal);
+            text(alloc, line)
+        }
+    }
+}
+
+// What it answers the browser that comes back: the state counts until its login is gone, and no longer.
 fn answered<H: SyncHttpClient<Error: Drop>>(
     alloc: Global,
     logins: &mut SiteLogins<'_>,
-    kept: &CsrfToken,
+    session: &mut Session,
     query: &[u8],
     http: &mut H,
     now: Timestamp,
@@ -146,55 +182,206 @@ fn answered<H: SyncHttpClient<Error: Drop>>(
     requires { H.ready http.old }
     ensures { H.ready http.new }
 {
+    let Some(kept) = &session.login else {
+        return text(alloc, "not signed in: this browser began no login");
+    };
     let reply = come_back(alloc, logins, kept, query, http, now);
-    let line = said(alloc, &reply);
-    drop(reply);
-    line
+    session.forget_login(&reply);
+    admit_any(alloc, session, reply)
 }
 
-// Sends a browser to the provider, and gives the state that its session keeps.
-fn sent<'c, R: Rng>(
+// A browser comes back.
+fn answer<H: SyncHttpClient<Error: Drop>>(
+    rt: &impl Print,
+    alloc: Global,
+    logins: &mut SiteLogins<'_>,
+    session: &mut Session,
+    query: &str,
+    http: &mut H,
+    now: Timestamp,
+) -> anyhow::Result<()>
+    requires { H.ready http.old }
+    ensures { H.ready http.new }
+{
+    let line = answered(alloc, logins, session, query.as_bytes(), http, now)?;
+    println!(rt; "{line}")?;
+    Ok(())
+}
+
+// Sends a browser to the provider. Its session keeps the state. The URL is printed for the reader of the example: a
+// site prints none, since it holds the state and the nonce.
+fn send<'c, R: Rng>(
     rt: &impl Print,
     alloc: Global,
     client: &'c LoginClient,
     logins: &mut SiteLogins<'c>,
     rng: &mut R,
-) -> anyhow::Result<CsrfToken> {
+    session: &mut Session,
+) -> anyhow::Result<()> {
     let (url, kept) = begin(alloc, client, logins, rng)?;
+    session.login = Some(kept);
     println!(rt; "{url}")?;
-    Ok(kept)
+    Ok(())
 }
 
-// Two browsers begin, and both come back with the query of the first one's callback.
-fn sign_in<H: SyncHttpClient<Error: Drop>>(
+/// The site's clients, made once.
+#[derive(Drop)]
+pub(crate) struct Site {
+    // That of the logins, which refreshes too.
+    pub(crate) client: LoginClient,
+    // The one that revokes.
+    pub(crate) revocation: RevocationClient,
+}
+
+/// The sessions of two browsers.
+#[derive(Drop)]
+pub(crate) struct Browsers {
+    pub(crate) first: Session,
+    pub(crate) second: Session,
+}
+
+/// The queries with which browsers come to the site.
+#[derive(Drop)]
+pub(crate) struct Queries {
+    // The callbacks of the two logins.
+    pub(crate) first: String,
+    pub(crate) second: String,
+    // One that somebody else made, at the page behind the logout.
+    pub(crate) forged: String,
+    // The return from the provider's logout.
+    pub(crate) signed_out: String,
+}
+
+// Two browsers begin. The second one comes back with the query of the first one's callback, and then each with its own.
+fn sign_in<'c, H: SyncHttpClient<Error: Drop>, R: Rng>(
     rt: &impl Print,
     alloc: Global,
-    client: &LoginClient,
-    query: &[u8],
+    client: &'c LoginClient,
+    logins: &mut SiteLogins<'c>,
+    rng: &mut R,
+    queries: &Queries,
+    browsers: &mut Browsers,
     http: &mut H,
     now: Timestamp,
 ) -> anyhow::Result<()>
     requires { H.ready http.old }
+    ensures { H.ready http.new }
 {
-    let mut logins = Logins::new(alloc, client)?;
-    // This generator can be guessed. A site takes one for secrets: `StdRng` of the kit's `rand`, by `make_rng(&rt)`.
-    let mut rng = Pcg32::new(42, 54);
-    let first = sent(rt, alloc, client, &mut logins, &mut rng)?;
-    let second = sent(rt, alloc, client, &mut logins, &mut rng)?;
-    let refusal = answered(alloc, &mut logins, &second, query, http, now)?;
-    println!(rt; "{refusal}")?;
-    let line = answered(alloc, &mut logins, &first, query, http, now)?;
-    println!(rt; "{line}")?;
-    Ok(())
+    send(rt, alloc, client, logins, rng, &mut browsers.first)?;
+    send(rt, alloc, client, logins, rng, &mut browsers.second)?;
+    answer(
+        rt,
+        alloc,
+        logins,
+        &mut browsers.second,
+        queries.first.as_str(),
+        http,
+        now,
+    )?;
+    answer(
+        rt,
+        alloc,
+        logins,
+        &mut browsers.first,
+        queries.first.as_str(),
+        http,
+        now,
+    )?;
+    answer(
+        rt,
+        alloc,
+        logins,
+        &mut browsers.second,
+        queries.second.as_str(),
+        http,
+        now,
+    )
+}
+
+// From signing in to signing out, at one moment.
+fn stay<H: SyncHttpClient<Error: Drop>, R: Rng>(
+    rt: &impl Print,
+    alloc: Global,
+    site: &Site,
+    rng: &mut R,
+    queries: &Queries,
+    browsers: &mut Browsers,
+    http: &mut H,
+) -> anyhow::Result<()>
+    requires { H.ready http.old }
+{
+    let now = Timestamp::from_second(1000)?;
+    let mut logins = Logins::new(alloc, &site.client)?;
+    let signed_in = sign_in(
+        rt,
+        alloc,
+        &site.client,
+        &mut logins,
+        rng,
+        queries,
+        browsers,
+        http,
+        now,
+    );
+    drop(logins);
+    signed_in?;
+    visits(rt, alloc, site, rng, queries, browsers, http, now)
+}
+
+fn new_site(alloc: Global) -> anyhow::Result<Site> {
+    let client = client(alloc)?;
+    match revocation_client(alloc) {
+        Ok(revocation) => Ok(Site { client, revocation }),
+        Err(error) => {
+            drop(client);
+            Err(error)
+        }
+    }
+}
+
+// The site, with two browsers.
+fn serve<H: SyncHttpClient<Error: Drop>, R: Rng>(
+    rt: &impl Print,
+    alloc: Global,
+    rng: &mut R,
+    queries: &Queries,
+    http: &mut H,
+) -> anyhow::Result<()>
+    requires { H.ready http.old }
+{
+    let site = new_site(alloc)?;
+    let mut browsers = Browsers {
+        first: Session::new(),
+        second: Session::new(),
+    };
+    let stayed = stay(rt, alloc, &site, rng, queries, &mut browsers, http);
+    drop(browsers);
+    drop(site);
+    stayed
+}
+
+// A line of the input.
+fn line(rt: &impl Input, alloc: Global) -> anyhow::Result<String> {
+    let mut line = String::new(alloc);
+    let _ = rt.read_line(&mut line)?;
+    Ok(String::from_str(alloc, line.as_str().trim())?)
+}
+
+fn read_queries(rt: &impl Input, alloc: Global) -> anyhow::Result<Queries> {
+    Ok(Queries {
+        first: line(rt, alloc)?,
+        second: line(rt, alloc)?,
+        forged: line(rt, alloc)?,
+        signed_out: line(rt, alloc)?,
+    })
 }
 
 fn main(rt: HostRuntime) -> anyhow::Result<()> {
     let alloc = rt.alloc();
-    let mut query = String::new(alloc);
-    let _ = rt.read_line(&mut query)?;
-    let now = Timestamp::from_second(1000)?;
+    let queries = read_queries(&rt, alloc)?;
     let mut http = Recorded::new(alloc, answers(alloc)?);
-    let client = client(alloc)?;
-    let query = query.as_str().trim().as_bytes();
-    sign_in(&rt, alloc, &client, query, &mut http, now)
+    // This generator can be guessed. A site takes one for secrets: `StdRng` of the kit's `rand`, by `make_rng(&rt)`.
+    let mut rng = Pcg32::new(42, 54);
+    serve(&rt, alloc, &mut rng, &queries, &mut http)?;
+    print_requests(&rt, &http)
 }

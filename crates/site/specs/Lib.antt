@@ -1,0 +1,3 @@
+-- In reading order: the types that the site brings to its logins; what a refresh rests on.
+pub mod Types
+pub mod Tokens
