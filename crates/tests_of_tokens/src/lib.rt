@@ -9,6 +9,8 @@
 mod claims;
 #[cfg(test)]
 mod client;
+#[cfg(test)]
+mod many_members;
 pub mod tenant;
 #[cfg(test)]
 mod tokens;
