@@ -16,7 +16,6 @@ ghost use Rattle.oidc_cli.specs.Report.{refresh_pair, user_info_pair, HasNoFloat
 ghost use Rattle.oidc_cli.specs.Steps.{behind};
 
 use crate::user::{User, UserClaims, UserInfo};
-use form_urlencoded::byte_serialize;
 use http_header::HeaderValue;
 use oidc_keys::SignatureVerificationError;
 use oidc_login::{BeginError, LoginError, TooLong};
@@ -25,6 +24,7 @@ use oidc_oauth2::{
     CoreErrorResponseType, CoreRequestTokenError, Fault, HttpRequest, OtherCause,
     RequestTokenError, StandardErrorResponse,
 };
+use oidc_pairs::push_escaped;
 use oidc_tokens::{ClaimsVerificationError, Payload};
 use oidc_types::{CoreAuthErrorResponseType, RefreshToken, Vocabulary};
 use oidc_user_info::{InfoOther, ResponseCause, UserInfoError};
@@ -32,16 +32,6 @@ use std::alloc::{AllocError, Global};
 use url::Url;
 
 // ---- form texts, pair by pair
-
-// Adds bytes as a form writes a name or a value.
-fn push_escaped(text: &mut String, bytes: &[u8]) -> Result<(), AllocError>
-    ensures { OnOk result (string_bytes text.new ≡ string_bytes text.old ++ escaped bytes.now) }
-{
-    for piece in byte_serialize(bytes) {
-        text.push_str(piece)?;
-    }
-    Ok(())
-}
 
 // Adds the first pair of a form text.
 fn push_first(text: &mut String, name: &str, value: &[u8]) -> Result<(), AllocError>
@@ -93,6 +83,18 @@ fn push_body(text: &mut String, request: &HttpRequest) -> Result<(), AllocError>
 
 // ---- lines
 
+// How many bytes a line has room for at once. Most lines of logins have fewer.
+const ROOM: usize = 1_024;
+
+// The beginning of a line that may be long.
+fn begun_with(alloc: Global, words: &str) -> Result<String, AllocError>
+    ensures ok { IfOk result (λ text. string_bytes text ≡ words.now) }
+{
+    let mut text = String::with_capacity(alloc, ROOM)?;
+    text.push_str(words)?;
+    Ok(text)
+}
+
 /// The line of what a begin answered. For want of memory there is none.
 #[tactic(auto, unfolding(crate::specs::Report::begin_line))]
 pub fn begin_line(alloc: Global, reply: &Result<Url, BeginError>) -> Result<String, AllocError>
@@ -117,7 +119,7 @@ pub fn begin_line(alloc: Global, reply: &Result<Url, BeginError>) -> Result<Stri
 fn begin_ok_line(alloc: Global, url: &Url) -> Result<String, AllocError>
     ensures { IfOk result (λ text. string_bytes text ≡ line_of_begin (Ok url.now)) }
 {
-    let mut text = String::from_str(alloc, "begin ok ")?;
+    let mut text = begun_with(alloc, "begin ok ")?;
     text.push_str(url.as_str())?;
     text.push_str("\n")?;
     Ok(text)
@@ -128,7 +130,7 @@ pub fn request_line(alloc: Global, request: &HttpRequest) -> Result<String, Allo
     ensures { IfOk result (λ text. string_bytes text ≡ line_of_request request.now) }
 {
     let headers = request.headers();
-    let mut text = String::from_str(alloc, "request ")?;
+    let mut text = begun_with(alloc, "request ")?;
     push_first(&mut text, "method", request.method().as_str().as_bytes())?;
     push_behind(&mut text, "address", request.address().as_bytes())?;
     push_header(&mut text, "accept", headers.get("accept"))?;
@@ -223,7 +225,7 @@ fn signed_line(alloc: Global, signed: &User) -> Result<String, AllocError>
         → IfOk result (λ text. string_bytes text ≡ line_of_verdict (Ok signed.now)) }
 {
     let claims = claims_text(alloc, signed.claims())?;
-    let mut text = String::from_str(alloc, "callback ok ")?;
+    let mut text = begun_with(alloc, "callback ok ")?;
     push_first(
         &mut text,
         "access_token",

@@ -16,7 +16,7 @@ use crate::script::answers::read_answers;
 use crate::script::values::{
     optional_demand, optional_text, optional_url, pair_algorithms, pair_moment, pair_text, pair_url,
 };
-use oidc_pairs::Pairs;
+use oidc_pairs::BorrowedPairs;
 use oidc_types::{ClientId, ClientSecret, CsrfToken, Nonce, PkceCodeVerifier};
 use std::alloc::{AllocError, Global};
 
@@ -46,7 +46,7 @@ fn line_feed(script: &[u8]) -> Option<usize>
 pub fn read_line(alloc: Global, line: &[u8]) -> Result<Option<Event>, AllocError>
     ensures { IfOk result (λ event. event ≡ event_of line.now) }
 {
-    let pairs = Pairs::parse(alloc, line)?;
+    let pairs = BorrowedPairs::parse(alloc, line)?;
     match read_event(alloc, &pairs) {
         Ok(event) => Ok(Some(event)),
         Err(LineError::NoEvent) => Ok(None),
@@ -67,7 +67,7 @@ fn kind_named(text: &str) -> Option<LineKind>
 }
 
 // The kind that the first pair names, where that is named `op`.
-fn kind_of(line: &Pairs) -> Option<LineKind>
+fn kind_of(line: &BorrowedPairs<'_>) -> Option<LineKind>
     ensures { result ≡ kind_in line.now }
 {
     let first = line.as_slice().first()?;
@@ -128,14 +128,14 @@ fn is_name_of(kind: LineKind, name: &str) -> bool
 }
 
 // Whether a line of this kind may have a name, and this line has it once.
-fn is_name_once(kind: LineKind, line: &Pairs, name: &str) -> bool
+fn is_name_once(kind: LineKind, line: &BorrowedPairs<'_>, name: &str) -> bool
     ensures { result ≡ (spec.is_name_of kind name.now && is_some (text_of_pair line.now name.now)) }
 {
     is_name_of(kind, name) && line.only(name).is_some()
 }
 
 // Whether each name of a line is one that its kind may have, and none stands twice.
-fn has_each_name_once(kind: LineKind, line: &Pairs) -> bool
+fn has_each_name_once(kind: LineKind, line: &BorrowedPairs<'_>) -> bool
     ensures { result ≡ spec.has_each_name_once kind line.now }
 {
     line.as_slice()
@@ -146,7 +146,7 @@ fn has_each_name_once(kind: LineKind, line: &Pairs) -> bool
 // ---- events
 
 #[tactic(auto, unfolding(crate::specs::Script::event_of_pairs))]
-fn read_event(alloc: Global, line: &Pairs) -> Result<Event, LineError>
+fn read_event(alloc: Global, line: &BorrowedPairs<'_>) -> Result<Event, LineError>
     ensures { Reads (λ event. event) result (event_of_pairs line.now) }
 {
     let Some(kind) = kind_of(line) else {
@@ -159,7 +159,7 @@ fn read_event(alloc: Global, line: &Pairs) -> Result<Event, LineError>
 }
 
 // The secret on a client line, where it has one.
-fn read_secret(alloc: Global, line: &Pairs) -> Result<Option<ClientSecret>, LineError>
+fn read_secret(alloc: Global, line: &BorrowedPairs<'_>) -> Result<Option<ClientSecret>, LineError>
     ensures { Reads (λ secret. secret) result (optional_value Some line.now (codes "secret")) }
 {
     match optional_text(alloc, line, "secret")? {
@@ -169,7 +169,7 @@ fn read_secret(alloc: Global, line: &Pairs) -> Result<Option<ClientSecret>, Line
 }
 
 #[tactic(auto, unfolding(crate::specs::Script::provider_urls))]
-fn read_urls(alloc: Global, line: &Pairs) -> Result<ProviderUrls, LineError>
+fn read_urls(alloc: Global, line: &BorrowedPairs<'_>) -> Result<ProviderUrls, LineError>
     ensures { Reads (λ read. read) result (provider_urls line.now) }
 {
     let issuer = pair_url(alloc, line, "issuer")?;
@@ -187,7 +187,7 @@ fn read_urls(alloc: Global, line: &Pairs) -> Result<ProviderUrls, LineError>
     })
 }
 
-fn read_client(alloc: Global, line: &Pairs) -> Result<ClientLine, LineError>
+fn read_client(alloc: Global, line: &BorrowedPairs<'_>) -> Result<ClientLine, LineError>
     ensures { Reads (λ read. read) result (client_values line.now) }
 {
     let id = pair_text(alloc, line, "id")?;
@@ -205,7 +205,7 @@ fn read_client(alloc: Global, line: &Pairs) -> Result<ClientLine, LineError>
     })
 }
 
-fn read_begin(alloc: Global, line: &Pairs) -> Result<BeginLine, LineError>
+fn read_begin(alloc: Global, line: &BorrowedPairs<'_>) -> Result<BeginLine, LineError>
     ensures { Reads (λ read. read) result (begin_values line.now) }
 {
     let state = pair_text(alloc, line, "state")?;
@@ -223,7 +223,7 @@ fn read_begin(alloc: Global, line: &Pairs) -> Result<BeginLine, LineError>
     })
 }
 
-fn read_callback(alloc: Global, line: &Pairs) -> Result<CallbackLine, LineError>
+fn read_callback(alloc: Global, line: &BorrowedPairs<'_>) -> Result<CallbackLine, LineError>
     ensures { Reads (λ read. read) result (callback_values line.now) }
 {
     let now = pair_moment(line, "now")?;
@@ -237,7 +237,7 @@ fn read_callback(alloc: Global, line: &Pairs) -> Result<CallbackLine, LineError>
 }
 
 // The event of a line of this kind, whose names are right.
-fn read_values(alloc: Global, kind: LineKind, line: &Pairs) -> Result<Event, LineError>
+fn read_values(alloc: Global, kind: LineKind, line: &BorrowedPairs<'_>) -> Result<Event, LineError>
     ensures { Reads (λ event. event) result (spec.event_values kind line.now) }
 {
     match kind {

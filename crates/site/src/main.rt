@@ -35,7 +35,7 @@ use oidc::{
     AllOtherClaims, AuthenticationFlow, Client, ClientId, ClientSecret, CsrfToken, EndUserName,
     Recorded, RedirectUrl, Scope, SyncHttpClient, UserInfoResponseType,
 };
-use oidc_pairs::Pairs;
+use oidc_pairs::only_value;
 use rand_core::Rng;
 use rand_pcg::Pcg32;
 use std::alloc::{AllocError, Global};
@@ -90,7 +90,7 @@ fn begin<'c, R: Rng>(
 pub(crate) fn is_own(alloc: Global, kept: &CsrfToken, query: &[u8]) -> Result<bool, AllocError>
     ensures { IfOk result (λ own. IsTrue own ↔ (state_in (pairs query.now) ≡ Some kept.now)) }
 {
-    Ok(Pairs::parse(alloc, query)?.only("state") == Some(kept.secret()))
+    Ok(only_value(alloc, query, "state")?.as_deref() == Some(kept.secret()))
 }
 
 // The browser comes back. `kept` is the state that its session keeps: the login of another browser is refused.

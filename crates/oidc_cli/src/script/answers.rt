@@ -14,7 +14,7 @@ use http::response::Parts;
 use http::{Response, StatusCode, Version};
 use http_header::{CONTENT_TYPE, HeaderMap, HeaderMapError, HeaderValue};
 use oidc_oauth2::{Answer, Body, HttpResponse};
-use oidc_pairs::Pairs;
+use oidc_pairs::BorrowedPairs;
 use std::alloc::{AllocError, Global};
 
 // The names under which an answer stands.
@@ -56,7 +56,7 @@ fn fault_name(to: AnswerTo) -> &'static str
 }
 
 // The fault of the one pair with this name.
-fn pair_fault(line: &Pairs, name: &str) -> Result<Answer, LineError>
+fn pair_fault(line: &BorrowedPairs<'_>, name: &str) -> Result<Answer, LineError>
     ensures { Reads seen_answer result (pair_value spec.fault_of_text line.now name.now) }
 {
     if only_text(line, name)? != "1" {
@@ -67,7 +67,10 @@ fn pair_fault(line: &Pairs, name: &str) -> Result<Answer, LineError>
 
 // The answer without a status, where there is one.
 #[tactic(auto, unfolding(crate::specs::Script::answer_without_status))]
-fn answer_without_status(line: &Pairs, to: AnswerTo) -> Result<Option<Answer>, LineError>
+fn answer_without_status(
+    line: &BorrowedPairs<'_>,
+    to: AnswerTo,
+) -> Result<Option<Answer>, LineError>
     ensures { Reads (λ answer. option_map seen_answer answer) result
         (spec.answer_without_status to line.now) }
 {
@@ -121,7 +124,11 @@ fn or_empty(alloc: Global, text: Option<String>) -> String
 
 // The response with a status.
 #[tactic(auto, unfolding(crate::specs::Script::response_of))]
-fn read_response(alloc: Global, line: &Pairs, to: AnswerTo) -> Result<HttpResponse, LineError>
+fn read_response(
+    alloc: Global,
+    line: &BorrowedPairs<'_>,
+    to: AnswerTo,
+) -> Result<HttpResponse, LineError>
     ensures { Reads (λ response. seen_response response) result (spec.response_of to line.now) }
 {
     let status = pair_status(line, status_name(to))?;
@@ -136,7 +143,11 @@ fn read_response(alloc: Global, line: &Pairs, to: AnswerTo) -> Result<HttpRespon
 
 // The answer to a request, where there is one.
 #[tactic(auto, unfolding(crate::specs::Script::answer_of))]
-fn read_answer(alloc: Global, line: &Pairs, to: AnswerTo) -> Result<Option<Answer>, LineError>
+fn read_answer(
+    alloc: Global,
+    line: &BorrowedPairs<'_>,
+    to: AnswerTo,
+) -> Result<Option<Answer>, LineError>
     ensures { Reads (λ answer. option_map seen_answer answer) result (spec.answer_of to line.now) }
 {
     if lacks(line, status_name(to)) {
@@ -184,7 +195,7 @@ fn in_order(
 
 /// What the provider answers on a callback line.
 #[tactic(auto, unfolding(crate::specs::Script::answers_of))]
-pub fn read_answers(alloc: Global, line: &Pairs) -> Result<Vec<Answer>, LineError>
+pub fn read_answers(alloc: Global, line: &BorrowedPairs<'_>) -> Result<Vec<Answer>, LineError>
     ensures { Reads (λ answers. map seen_answer answers.items) result (spec.answers_of line.now) }
 {
     let token = read_answer(alloc, line, AnswerTo::Token)?;

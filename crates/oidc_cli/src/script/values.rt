@@ -15,27 +15,27 @@ use http::StatusCode;
 use http_header::{HeaderValue, HeaderValueError};
 use jiff::Timestamp;
 use oidc_login::UserInfoDemand;
-use oidc_pairs::Pairs;
+use oidc_pairs::BorrowedPairs;
 use oidc_types::{ClosedVocabulary, CoreJwsSigningAlgorithm, Marker, UrlText, UrlTextError};
 use oidc_user_info::UserInfoResponseType;
 use std::alloc::Global;
 
 /// Whether a line has no pair with this name.
-pub fn lacks(line: &Pairs, name: &str) -> bool
+pub fn lacks(line: &BorrowedPairs<'_>, name: &str) -> bool
     ensures { result ≡ spec.lacks line.now name.now }
 {
     line.first(name).is_none()
 }
 
 /// The value of the one pair with this name.
-pub fn only_text<'a>(line: &'a Pairs, name: &str) -> Result<&'a str, LineError>
+pub fn only_text<'a>(line: &'a BorrowedPairs<'_>, name: &str) -> Result<&'a str, LineError>
     ensures { Reads (λ text. text.now) result (text_of_pair line.now name.now) }
 {
     line.only(name).ok_or(LineError::NoEvent)
 }
 
 /// A copy of the value of the one pair with this name.
-pub fn pair_text(alloc: Global, line: &Pairs, name: &str) -> Result<String, LineError>
+pub fn pair_text(alloc: Global, line: &BorrowedPairs<'_>, name: &str) -> Result<String, LineError>
     ensures { Reads string_bytes result (text_of_pair line.now name.now) }
 {
     let text = only_text(line, name)?;
@@ -43,7 +43,11 @@ pub fn pair_text(alloc: Global, line: &Pairs, name: &str) -> Result<String, Line
 }
 
 /// A copy of the value of the one pair with this name, where there is such a pair.
-pub fn optional_text(alloc: Global, line: &Pairs, name: &str) -> Result<Option<String>, LineError>
+pub fn optional_text(
+    alloc: Global,
+    line: &BorrowedPairs<'_>,
+    name: &str,
+) -> Result<Option<String>, LineError>
     ensures { Reads (λ text. option_map string_bytes text) result
         (spec.optional_value Some line.now name.now) }
 {
@@ -54,7 +58,11 @@ pub fn optional_text(alloc: Global, line: &Pairs, name: &str) -> Result<Option<S
 }
 
 /// The URL text of the one pair with this name.
-pub fn pair_url<M: Marker>(alloc: Global, line: &Pairs, name: &str) -> Result<UrlText<M>, LineError>
+pub fn pair_url<M: Marker>(
+    alloc: Global,
+    line: &BorrowedPairs<'_>,
+    name: &str,
+) -> Result<UrlText<M>, LineError>
     ensures { Reads (λ url. url) result (pair_value url_of_text line.now name.now) }
 {
     url_of(alloc, only_text(line, name)?)
@@ -63,7 +71,7 @@ pub fn pair_url<M: Marker>(alloc: Global, line: &Pairs, name: &str) -> Result<Ur
 /// The URL text of the one pair with this name, where there is such a pair.
 pub fn optional_url<M: Marker>(
     alloc: Global,
-    line: &Pairs,
+    line: &BorrowedPairs<'_>,
     name: &str,
 ) -> Result<Option<UrlText<M>>, LineError>
     ensures { Reads (λ url. url) result (spec.optional_value url_of_text line.now name.now) }
@@ -88,7 +96,7 @@ pub fn url_of<M: Marker>(alloc: Global, text: &str) -> Result<UrlText<M>, LineEr
 /// The algorithms of the one pair with this name.
 pub fn pair_algorithms(
     alloc: Global,
-    line: &Pairs,
+    line: &BorrowedPairs<'_>,
     name: &str,
 ) -> Result<Vec<CoreJwsSigningAlgorithm>, LineError>
     ensures { Reads (λ found. found.items) result (pair_value algorithms_in line.now name.now) }
@@ -135,7 +143,10 @@ fn algorithm_of(text: &str) -> Option<CoreJwsSigningAlgorithm>
 }
 
 /// The demand of the one pair with this name, where there is such a pair.
-pub fn optional_demand(line: &Pairs, name: &str) -> Result<Option<UserInfoDemand>, LineError>
+pub fn optional_demand(
+    line: &BorrowedPairs<'_>,
+    name: &str,
+) -> Result<Option<UserInfoDemand>, LineError>
     ensures { Reads (λ demand. demand) result (spec.optional_value demand_in line.now name.now) }
 {
     if lacks(line, name) {
@@ -145,7 +156,7 @@ pub fn optional_demand(line: &Pairs, name: &str) -> Result<Option<UserInfoDemand
 }
 
 // The demand of the one pair with this name.
-fn pair_demand(line: &Pairs, name: &str) -> Result<UserInfoDemand, LineError>
+fn pair_demand(line: &BorrowedPairs<'_>, name: &str) -> Result<UserInfoDemand, LineError>
     ensures { Reads (λ demand. demand) result (pair_value demand_in line.now name.now) }
 {
     demand_of(only_text(line, name)?).ok_or(LineError::NoEvent)
@@ -174,7 +185,7 @@ fn demanding(signed: bool, response_type: UserInfoResponseType) -> UserInfoDeman
 }
 
 /// The moment of the one pair with this name.
-pub fn pair_moment(line: &Pairs, name: &str) -> Result<Timestamp, LineError>
+pub fn pair_moment(line: &BorrowedPairs<'_>, name: &str) -> Result<Timestamp, LineError>
     ensures { Reads (λ t. t.nanosecond) result (pair_value moment_in line.now name.now) }
 {
     moment_of(only_text(line, name)?).ok_or(LineError::NoEvent)
@@ -204,7 +215,7 @@ pub fn begins_with_plus(text: &str) -> bool
 }
 
 /// The status code of the one pair with this name.
-pub fn pair_status(line: &Pairs, name: &str) -> Result<StatusCode, LineError>
+pub fn pair_status(line: &BorrowedPairs<'_>, name: &str) -> Result<StatusCode, LineError>
     ensures { Reads (λ code. code) result (pair_value status_code_in line.now name.now) }
 {
     status_code_of(only_text(line, name)?).ok_or(LineError::NoEvent)
@@ -227,7 +238,11 @@ fn status_code_of(text: &str) -> Option<StatusCode>
 }
 
 // The content type of the one pair with this name.
-fn pair_content_type(alloc: Global, line: &Pairs, name: &str) -> Result<HeaderValue, LineError>
+fn pair_content_type(
+    alloc: Global,
+    line: &BorrowedPairs<'_>,
+    name: &str,
+) -> Result<HeaderValue, LineError>
     ensures { Reads (λ v. v.bytes) result (pair_value content_type_in line.now name.now) }
 {
     content_type_of(alloc, only_text(line, name)?)
@@ -236,7 +251,7 @@ fn pair_content_type(alloc: Global, line: &Pairs, name: &str) -> Result<HeaderVa
 /// The content type of the one pair with this name, where there is such a pair.
 pub fn optional_content_type(
     alloc: Global,
-    line: &Pairs,
+    line: &BorrowedPairs<'_>,
     name: &str,
 ) -> Result<Option<HeaderValue>, LineError>
     ensures { Reads (λ v. option_map (λ v. v.bytes) v) result

@@ -1,6 +1,7 @@
 // The step before the token request: the login that a query names, its error, its code, and the request.
 
-ghost use Rattle.std.specs.Prelude.{◌≡◌, Err, IfErr, IfNone, IfSome, IsSome, IsTrue, false, true, if◌then◌else◌};
+ghost use Rattle.std.specs.Prelude.{◌≡◌, Err, IfErr, IfNone, IfOk, IfSome, IsSome, IsTrue, OnErr, OnOk, false, true, if◌then◌else◌};
+ghost use Rattle.std.specs.Cow.{cow_str_bytes};
 ghost use Rattle.oidc_pairs.specs.Pairs.{pairs};
 ghost use Rattle.oidc_oauth2.specs.Pkce.{is_verifier};
 ghost use Rattle.oidc_oauth2.specs.TokenAnswers.{is_over_long};
@@ -24,11 +25,12 @@ use oidc_oauth2::{
     CodeTokenRequest, CoreErrorResponseType, HttpRequest, OtherCause, PrepareError,
     RequestTokenError, StandardErrorResponse,
 };
-use oidc_pairs::Pairs;
+use oidc_pairs::{first_value, only_value};
 use oidc_types::{
     AuthorizationCode, CoreAuthErrorResponseType, CoreJwsSigningAlgorithm, Vocabulary,
 };
-use std::alloc::Global;
+use std::alloc::{AllocError, Global};
+use std::borrow::CowStr;
 use std::marker::Model;
 
 // The most bytes that the query of a callback may have.
@@ -49,18 +51,23 @@ impl Model for TakenLogin {
     ghost view = { λ t. record { login = t.login; request = t.request } };
 }
 
-// Takes the login of a query's one state out.
+// Takes the login of a query's one state out. Where there is no memory for the state, nothing is taken.
 #[tactic(auto, using(crate::proofs::Entries::remove_absent))]
-fn named_login(pending: &mut Store, query: &Pairs) -> Option<Login>
-    ensures login { result ≡ login_named_by pending.old query.now }
-    ensures verifier { IfSome result (λ l. IsTrue (is_verifier l.verifier)) }
-    ensures rest { pending.new ≡ without_named pending.old query.now }
-    ensures kept { IfNone result (pending.new ≡ pending.old) }
+fn named_login(
+    alloc: Global,
+    pending: &mut Store,
+    query: &[u8],
+) -> Result<Option<Login>, AllocError>
+    ensures login { IfOk result (λ found. found ≡ login_named_by pending.old (pairs query.now)) }
+    ensures verifier { IfOk result (λ found. IfSome found (λ l. IsTrue (is_verifier l.verifier))) }
+    ensures rest { OnOk result (pending.new ≡ without_named pending.old (pairs query.now)) }
+    ensures kept { IfOk result (λ found. IfNone found (pending.new ≡ pending.old)) }
+    ensures unread { OnErr result (pending.new ≡ pending.old) }
     ensures verifiers { HasVerifiers pending.old → HasVerifiers pending.new }
 {
-    match query.only("state") {
-        Some(state) => pending.take(state),
-        None => None,
+    match only_value(alloc, query, "state")? {
+        Some(state) => Ok(pending.take(state.as_str())),
+        None => Ok(None),
     }
 }
 
@@ -93,11 +100,12 @@ fn token_request<
     alloc: Global,
     client: &MetadataClient<AC, GC, K>,
     login: &Login,
-    code: &str,
+    code: CowStr<'_, Global>,
 ) -> Result<HttpRequest, PrepareError>
-    ensures { Prepares result (request.token_request client.now login.now code.now) }
+    ensures { let sent = cow_str_bytes code.entry in
+        Prepares result (request.token_request client.now login.now sent) }
 {
-    let code = AuthorizationCode::new(String::from_str(alloc, code)?);
+    let code = AuthorizationCode::new(code.into_owned(alloc)?);
     let verifier = login.verifier.clone_in(alloc)?;
     let Ok(request) = client.exchange_code(alloc, code) else {
         drop(verifier);
@@ -112,19 +120,20 @@ fn token_request<
 
 // The refusal of a query by its first `error`.
 #[tactic(auto, unfolding(crate::specs::BeforeRequest::error_word))]
-fn provider_refusal<E>(alloc: Global, text: &str) -> LoginError<E>
+fn provider_refusal<E>(alloc: Global, text: CowStr<'_, Global>) -> LoginError<E>
     ensures gives { Gives login_errors {A = SeenTaken} (Err result)
-        (Err (LoginError.Provider (request.error_word text.now))) }
+        (Err (LoginError.Provider (request.error_word (cow_str_bytes text.entry)))) }
     ensures no_fault { faulted result ≡ false }
     ensures spent { spent_of result ≡ true }
 {
-    match String::from_str(alloc, text) {
+    match text.into_owned(alloc) {
         Ok(text) => LoginError::Provider(CoreAuthErrorResponseType::from_str(text)),
         Err(_) => LoginError::Memory { spent: true },
     }
 }
 
-// The rows before the token request, of a query whose pairs are read.
+// The rows before the token request, of a query that isn't too long. Want of memory for the state leaves the store as
+// it was; all other has spent the login.
 #[tactic(auto, unfolding(crate::specs::Steps::taken_login_by))]
 fn taken_login_by<
     AC: AdditionalClaims,
@@ -135,24 +144,38 @@ fn taken_login_by<
     alloc: Global,
     client: &MetadataClient<AC, GC, K>,
     pending: &mut Store,
-    query: &Pairs,
+    query: &[u8],
 ) -> Result<TakenLogin, LoginError<E>>
-    ensures gives { Gives login_errors result (steps.taken_login_by client.now pending.old query.now) }
+    ensures gives { Gives login_errors result
+        (steps.taken_login_by client.now pending.old (pairs query.now)) }
     ensures no_fault { IfErr result (λ e. faulted e ≡ false) }
     ensures store { pending.new ≡ (if is_spent_by result
-        then without_named pending.old query.now else pending.old) }
-    ensures left { OrMemory login_errors result (pending.new ≡ without_named pending.old query.now) }
-    ensures removed { is_spent_by result ≡ true → IsSome (login_named_by pending.old query.now) }
+        then without_named pending.old (pairs query.now) else pending.old) }
+    ensures left { OrMemory login_errors result
+        (pending.new ≡ without_named pending.old (pairs query.now)) }
+    ensures removed { is_spent_by result ≡ true
+        → IsSome (login_named_by pending.old (pairs query.now)) }
     ensures verifiers { HasVerifiers pending.old → HasVerifiers pending.new }
 {
-    let Some(login) = named_login(pending, query) else {
+    let Ok(named) = named_login(alloc, pending, query) else {
+        return Err(LoginError::Memory { spent: false });
+    };
+    let Some(login) = named else {
         return Err(LoginError::State);
     };
-    if let Some(error) = query.first("error") {
+    let Ok(error) = first_value(alloc, query, "error") else {
+        drop(login);
+        return Err(LoginError::Memory { spent: true });
+    };
+    if let Some(error) = error {
         drop(login);
         return Err(provider_refusal(alloc, error));
     }
-    let Some(code) = query.only("code") else {
+    let Ok(code) = only_value(alloc, query, "code") else {
+        drop(login);
+        return Err(LoginError::Memory { spent: true });
+    };
+    let Some(code) = code else {
         drop(login);
         return Err(LoginError::Callback);
     };
@@ -203,8 +226,5 @@ pub(crate) fn taken_login<
     if is_too_long(query) {
         return Err(LoginError::TooLong(TooLong::Callback));
     }
-    let Ok(pairs) = Pairs::parse(alloc, query) else {
-        return Err(LoginError::Memory { spent: false });
-    };
-    taken_login_by(alloc, client, pending, &pairs)
+    taken_login_by(alloc, client, pending, query)
 }

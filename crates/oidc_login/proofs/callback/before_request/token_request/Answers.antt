@@ -1,5 +1,6 @@
 use Rattle.std.proofs.Common.{◌≡◌, ℕ, List, Option, None, Some, Result, sym, ap, subst, ◌∙◌}
 use Rattle.std.specs.Prelude.{IsSomeAnd, option_map, option_and_then}
+use Rattle.std.specs.Cow.{cow_str_bytes}
 use Rattle.oidc_types.specs.{TextAndUrl}
 use Rattle.oidc_oauth2.specs.Messages.{SeenRequest}
 use Rattle.oidc_oauth2.specs.Requests.{SeenCodeRequest, code_request, Prepares}
@@ -27,19 +28,19 @@ prepared_for client login code result (Some e) own verified sent verifier redire
 pub returns-in-None : goal.returns-in-None
 unfolding token_request
 returns-in-None g c =
-    let code = c.new-code.ensures.kept ∙ c.in_ok-from_str.ensures.ok in
+    let code = c.new-code.ensures.kept ∙ c.in_ok-into_owned.ensures.ok in
     let own = ap (λ (l : SeenLogin). l.verifier) c.login.view_is in
     let redirect = ap (λ (l : SeenLogin). option_map (λ (u : TextAndUrl). u.text) l.redirect_uri) c.login.view_is in
-    prepared_for c.args.client.now c.args.login.now c.args.code.now c.http_request_of.result c.args.client.now.token_uri _ _ _ _ _
+    prepared_for c.args.client.now c.args.login.now (cow_str_bytes c.args.code) c.http_request_of.result c.args.client.now.token_uri _ _ _ _ _
     (rw code at c.in-Ok.ensures.request) c.set_pkce_verifier-request.ensures.set c.without_redirect_uri.ensures.set (c.in_ok-verifier.ensures.copy ∙ own)
     (sym (ap (option_map (λ (u : TextAndUrl). u.text)) c.in-None.is) ∙ redirect) c.http_request_of.ensures
 
 pub returns-in-Some : goal.returns-in-Some
 unfolding token_request
 returns-in-Some g c =
-    let code = c.new-code.ensures.kept ∙ c.in_ok-from_str.ensures.ok in
+    let code = c.new-code.ensures.kept ∙ c.in_ok-into_owned.ensures.ok in
     let own = ap (λ (l : SeenLogin). l.verifier) c.login.view_is in
     let redirect = ap (λ (l : SeenLogin). option_map (λ (u : TextAndUrl). u.text) l.redirect_uri) c.login.view_is in
-    prepared_for c.args.client.now c.args.login.now c.args.code.now c.http_request_of-in-Some.result c.args.client.now.token_uri _ _ _ _ _
+    prepared_for c.args.client.now c.args.login.now (cow_str_bytes c.args.code) c.http_request_of-in-Some.result c.args.client.now.token_uri _ _ _ _ _
     (rw code at c.in-Ok.ensures.request) c.set_pkce_verifier-request.ensures.set c.set_redirect_uri.ensures.set (c.in_ok-verifier.ensures.copy ∙ own)
     (sym (ap (option_map (λ (u : TextAndUrl). u.text)) c.in-Some.is) ∙ redirect) c.http_request_of-in-Some.ensures
