@@ -21,6 +21,7 @@ sys.dont_write_bytecode = True
 import plain_answers
 import plain_callback
 import plain_claims
+import plain_front
 import plain_info
 import plain_keys
 import plain_requests
@@ -40,7 +41,7 @@ READERS = {
     "vectors": {"standard": standard, **plain_answers.OPERATIONS, **plain_keys.OPERATIONS},
     "vectors_requests": plain_requests.OPERATIONS,
     "vectors_tokens": {**plain_tokens.OPERATIONS, **plain_info.OPERATIONS, **plain_urls.OPERATIONS},
-    "vectors_logins": plain_callback.OPERATIONS,
+    "vectors_logins": {**plain_callback.OPERATIONS, **plain_front.OPERATIONS},
 }
 
 # Pieces of cases with a URL that the URL Standard writes otherwise, or refuses (sections 3.5, 4.4 and 4.5). The readers
@@ -79,7 +80,7 @@ GENERATED = {
     "vectors": [lambda: ["op=standard&text=" + text for text in plain_claims.texts()]],
     "vectors_requests": [],
     "vectors_tokens": [plain_tokens.cases, plain_info.cases, plain_urls.cases],
-    "vectors_logins": [plain_callback.short_cases, plain_callback.long_cases],
+    "vectors_logins": [plain_callback.short_cases, plain_callback.long_cases, plain_front.cases],
 }
 
 

@@ -260,17 +260,10 @@ def changed_claim(first, new):
     return next((refusal for refusal, holds in rows if not holds), None)
 
 
-def refreshed_hash_failure(token, access_token):
-    """As `hash_failure`, where a key of the issuer has no hash."""
-    if "at_hash" in own_of(token.members) and not token.header["alg"].startswith("HS"):
-        return "signing unsupported_alg"
-    return hash_failure(token, access_token)
-
-
 def refreshed_failure(client, now, first, access_token, token):
     """The first row that fails. A client that wants no nonce takes the token's own."""
     return (first_failure(client, own_of(token.members).get("nonce"), now, token)
-            or changed_claim(first, token.members) or refreshed_hash_failure(token, access_token))
+            or changed_claim(first, token.members) or hash_failure(token, access_token))
 
 
 # ---- cases

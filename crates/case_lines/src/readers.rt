@@ -1,6 +1,7 @@
 //! Values of a line that more than one program reads.
 
 use crate::case::CaseError;
+use jiff::Timestamp;
 use oidc_pairs::Pairs;
 use oidc_types::{ClosedVocabulary, CoreJwsSigningAlgorithm, Marker, UrlText, UrlTextError};
 use std::alloc::Global;
@@ -20,6 +21,29 @@ where
 /// The signing algorithm of a text.
 pub fn algorithm(text: &str) -> Result<CoreJwsSigningAlgorithm, CaseError> {
     CoreJwsSigningAlgorithm::from_str(text).ok_or(CaseError::NoCase)
+}
+
+/// The signing algorithms of a list, with a space between each two, or of an empty text.
+pub fn algorithms(alloc: Global, text: &str) -> Result<Vec<CoreJwsSigningAlgorithm>, CaseError> {
+    let mut algorithms = Vec::new(alloc);
+    if text.is_empty() {
+        return Ok(algorithms);
+    }
+    for word in text.split(' ') {
+        algorithms.push(algorithm(word)?)?;
+    }
+    Ok(algorithms)
+}
+
+/// The moment of whole seconds. Rust reads a number behind a `+`, which no line has.
+pub fn moment(text: &str) -> Result<Timestamp, CaseError> {
+    if text.as_bytes().first() == Some(&b'+') {
+        return Err(CaseError::NoCase);
+    }
+    match Timestamp::from_second(number::<i64>(text)?) {
+        Ok(moment) => Ok(moment),
+        Err(_) => Err(CaseError::NoCase),
+    }
 }
 
 /// The URL of a text that has to be one.

@@ -16,3 +16,5 @@ pub use Rattle.oidc_login.specs.Causes
 pub use Rattle.oidc_login.specs.ValidLogin
 pub use Rattle.oidc_login.specs.Runs
 pub use Rattle.oidc_login.specs.Events
+pub use Rattle.oidc_login.specs.FrontChannel
+pub use Rattle.oidc_login.specs.FrontCauses

@@ -6,7 +6,8 @@
 //! - [`core_types`] has the types of the standards' own vocabularies, and the aliases over them. It is `core` in the
 //!   Rust crate, a name that stands here for the language's own library.
 //! - [`login`] has what that crate leaves to its callers: pending logins, from the URL that sends a user to the
-//!   provider to the claims that sign the user in, and [`login::LoginSecrets`], drawn from a generator.
+//!   provider to the claims that sign the user in, [`login::LoginSecrets`], drawn from a generator, and
+//!   [`login::front_channel`], which judges the answer of an implicit or a hybrid flow.
 //!
 //! What each item promises stands in the page of its crate. The words of `oidc_login` that its contracts cite are passed on
 //! by `specs/Lib.antt`; a contract that speaks of the crates below logins lists the crate that it speaks of.

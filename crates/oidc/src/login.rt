@@ -1,4 +1,5 @@
-//! Pending logins, which the Rust crate leaves to its callers, and what each of them starts from.
+//! Pending logins and the answers of implicit and hybrid flows, which the Rust crate leaves to its callers, and what
+//! each login starts from.
 
 ghost use Rattle.std.specs.Prelude.{◌≡◌, IfOk, OnOk, OnErr};
 ghost use Rattle.oidc_types.specs.Random.{random_text, stream_after};
@@ -6,8 +7,8 @@ ghost use Rattle.oidc.specs.LoginSecrets.{StandsWithin};
 
 use crate::{CsrfToken, Nonce, PkceCodeChallenge, PkceCodeVerifier};
 pub use oidc_login::{
-    BeginError, LoginClient, LoginError, LoginIdToken, LoginRequest, Logins, MetadataClient,
-    NewLoginsError, SignedIn, TooLong, UserInfoDemand,
+    BeginError, FrontAnswer, FrontError, LoginClient, LoginError, LoginIdToken, LoginRequest,
+    Logins, MetadataClient, NewLoginsError, SignedIn, TooLong, UserInfoDemand, front_channel,
 };
 use rand_core::Rng;
 use std::alloc::{AllocError, Global};

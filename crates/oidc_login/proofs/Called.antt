@@ -1,11 +1,8 @@
 -- What the whole of a callback says of single refusals, and of an Ok.
-use Rattle.std.proofs.Common.{◌≡◌, ◌≢◌, ℕ, List, drop, Bool, true, false, Option, None, Some, Result, Ok, Err, refl, sym, ap, subst, ◌∙◌}
+use Rattle.std.proofs.Common.{◌≡◌, ℕ, List, drop, Bool, true, false, Option, None, Some, Result, Ok, Err, refl, sym, ap, subst, ◌∙◌}
 use Rattle.std.specs.Prelude.{is_some, IfOk, IfErr, IfSome, IsSome, IsSomeAnd, OnOk}
 use Rattle.oidc_pairs.specs.Pairs.{pairs}
-use Rattle.oidc_keys.specs.declared.refusals.SignatureVerificationError.TheVariants as signature
 use Rattle.oidc_types.specs.declared.core_authorization.CoreAuthErrorResponseType.{CoreAuthErrorResponseType}
-use Rattle.oidc_types.specs.declared.core_algorithms.CoreJweContentEncryptionAlgorithm.{CoreJweContentEncryptionAlgorithm}
-use Rattle.oidc_types.specs.declared.core_algorithms.CoreJwsSigningAlgorithm.{CoreJwsSigningAlgorithm}
 use Rattle.oidc_types.specs.declared.signing_error.SigningError.{SigningError}
 use Rattle.oidc_types.specs.declared.signing_error.SigningError.TheVariants as signing
 use Rattle.oidc_oauth2.specs.Messages.{SeenAnswer}
@@ -17,9 +14,6 @@ use Rattle.oidc_oauth2.specs.declared.error_types.CoreErrorResponseType.{CoreErr
 use Rattle.oidc_oauth2.specs.declared.token_answers.OtherCause.TheVariants as other
 use Rattle.oidc_oauth2.specs.declared.token_answers.RequestTokenError.{RequestTokenError}
 use Rattle.oidc_oauth2.specs.declared.token_answers.RequestTokenError.TheVariants as token_error
-use Rattle.oidc_jwt.specs.declared.header.JsonWebTokenAlgorithm.{JsonWebTokenAlgorithm}
-use Rattle.oidc_jwt.specs.declared.header.JsonWebTokenAlgorithm.TheVariants as algorithm
-use Rattle.oidc_tokens.specs.Signatures.{key_for}
 use Rattle.oidc_tokens.specs.declared.verification.refusals.ClaimsVerificationError.{ClaimsVerificationError}
 use Rattle.oidc_tokens.specs.declared.verification.refusals.ClaimsVerificationError.TheVariants as check
 use Rattle.oidc_user_info.specs.UserInfoClaims.{SeenUserInfoClaims}
@@ -30,7 +24,7 @@ use Rattle.oidc_user_info.specs.declared.errors.UserInfoError.{UserInfoError}
 use Rattle.oidc_user_info.specs.declared.errors.UserInfoError.TheVariants as info_error
 use Rattle.oidc_login.specs.Types.{SiteTypes}
 use Rattle.oidc_login.specs.Logins.{SeenLogin}
-use Rattle.oidc_login.specs.Token.{subject_of, verifier_of, IsAcceptedBy, FitsHash, HasOwnHash}
+use Rattle.oidc_login.specs.Token.{subject_of, IsAcceptedBy, claimed_hash, HasOwnHash}
 use Rattle.oidc_login.specs.SignedIn.{SeenSignedIn}
 use Rattle.oidc_login.specs.Errors.{Error, seen, wants_memory, is_wanting, hides_memory, login_errors}
 use Rattle.oidc_login.specs.BeforeRequest.{login_named_by}
@@ -40,7 +34,8 @@ use Rattle.oidc_login.specs.Runs.{Ran}
 use Rattle.oidc_login.specs.declared.errors.LoginError.{LoginError}
 use Rattle.oidc_login.specs.declared.errors.LoginError.TheVariants as login
 use Rattle.oidc_login.specs.declared.errors.TooLong.TheVariants as place
-use Rattle.oidc_login.proofs.NoMemory.{NeverWants, wanting, never_wanting, never_memory}
+use Rattle.oidc_login.proofs.NoMemory.{NeverWants, wanting, never_wanted, never_wanting, never_memory}
+use Rattle.oidc_login.proofs.TokenHash.{fits_own}
 use Rattle.oidc_login.proofs.InfoAnswers.{IsOwn, IsAbout, info_own}
 use Rattle.oidc_login.proofs.Asked.{about}
 use Rattle.oidc_login.proofs.Found.{info_answered}
@@ -75,23 +70,6 @@ given_state {A = A} (Err e) gives = unless_state A (wants_memory e) e gives
 -- ---- user info is about the ID token's subject
 
 module _ {AC GC Key Use : Type 0} (types : SiteTypes AC GC Key Use) (a : Attempt Key) where
-  never_wanted : (e : ClaimsVerificationError) → e ≢ check.Memory → e ≢ wanting → is_wanting e ≡ false
-  never_wanted check.Unsupported own inside = refl
-  never_wanted check.InvalidIssuer own inside = refl
-  never_wanted check.InvalidAudience own inside = refl
-  never_wanted (check.SignatureVerification signature.AmbiguousKeyId) own inside = refl
-  never_wanted (check.SignatureVerification signature.CryptoError) own inside = refl
-  never_wanted (check.SignatureVerification signature.DisallowedAlg) own inside = refl
-  never_wanted (check.SignatureVerification signature.InvalidKey) own inside = refl
-  never_wanted (check.SignatureVerification signature.NoMatchingKey) own inside = refl
-  never_wanted (check.SignatureVerification signature.NoSignature) own inside = refl
-  never_wanted (check.SignatureVerification signature.UnsupportedAlg) own inside = refl
-  never_wanted check.Expired own inside = refl
-  never_wanted check.InvalidNonce own inside = refl
-  never_wanted check.InvalidSubject own inside = refl
-  never_wanted (check.SignatureVerification signature.Memory) own inside = absurd (inside refl)
-  never_wanted check.Memory own inside = absurd (own refl)
-
   -- a refusal that has its cause
   caused_wanted : (ask : SeenInfoRequest Key) (answers : List SeenAnswer) (e : ClaimsVerificationError)
       → info_causes.Cause ask answers types (info_error.ClaimsVerification e) → is_wanting e ≡ false
@@ -131,20 +109,9 @@ module _ {AC GC Key Use : Type 0} (types : SiteTypes AC GC Key Use) (a : Attempt
         some_and _ is.held.login (λ l. IsAcceptedBy types a.client l.nonce a.now signed.id_token) is.holds.reads.answered.asked.has_code.names.login_named
         (subst (IsAcceptedBy types a.client is.held.login.nonce a.now) (sym is.own_id_token) is.accepted)
 
-    same_alg : (x y : CoreJwsSigningAlgorithm) (o : JsonWebTokenAlgorithm CoreJweContentEncryptionAlgorithm CoreJwsSigningAlgorithm) → o ≡ algorithm.Signature x → o ≡ algorithm.Signature y → x ≡ y
-    same_alg x y o a b = cc
-
-    same_key : {R : Type 0} (x y : Key) (o : Result Key R) → o ≡ Ok x → o ≡ Ok y → x ≡ y
-    same_key x y o a b = cc
-
     hash_by : (signed : SeenSignedIn AC GC) (is : IsSignedIn types a answers signed) → HasOwnHash types a.client is.held.token is.held.tokens.access_token
-    hash_by signed is alg key has_alg has_key =
-        let x = is.accepted in
-        let by_alg : x.alg ≡ alg = same_alg x.alg alg _ x.signed has_alg in
-        let chosen = subst (λ g. key_for types.keys (verifier_of types a.client) is.held.token.header.kid g ≡ Ok x.key) by_alg x.chosen in
-        let by_key : x.key ≡ key = same_key x.key key _ chosen has_key in
-        subst (λ g. FitsHash types is.held.token key g is.held.tokens.access_token) by_alg
-        (subst (λ k. FitsHash types is.held.token k x.alg is.held.tokens.access_token) by_key is.fits_hash)
+    hash_by signed is =
+        fits_own types a.client is.held.login.nonce a.now is.held.token is.accepted (claimed_hash is.held.token) is.held.tokens.access_token is.fits_hash
 
     pub hash : (signed : SeenSignedIn AC GC) → IsSignedIn types a answers signed → HasOwnHash types a.client signed.id_token signed.access_token
     hash signed is =

@@ -18,6 +18,10 @@ pub mod Valid
 pub mod Drives
 pub mod Signing
 pub mod Called
+pub mod Fronts
+pub mod FrontRows
+pub mod FrontBack
+pub mod FrontCalled
 pub mod NoFloat
 pub mod EventSteps
 pub mod Spent

@@ -1,15 +1,35 @@
 -- No check of an ID token wants memory, where no verdict of a key does.
-use Rattle.std.proofs.Common.{◌≢◌, ℕ, ℤ, List, Some, Err}
+use Rattle.std.proofs.Common.{◌≡◌, ◌≢◌, ℕ, ℤ, List, false, Some, Err, refl}
 use Rattle.oidc_types.specs.declared.core_algorithms.CoreJwsSigningAlgorithm.{CoreJwsSigningAlgorithm}
 use Rattle.oidc_keys.specs.declared.refusals.SignatureVerificationError.TheVariants as signature
 use Rattle.oidc_tokens.specs.declared.verification.refusals.ClaimsVerificationError.{ClaimsVerificationError}
+use Rattle.oidc_tokens.specs.declared.verification.refusals.ClaimsVerificationError.TheVariants as check
 use Rattle.oidc_tokens.specs.declared.verification.refusals.ClaimsVerificationError.TheVariants.{SignatureVerification, Memory}
 use Rattle.oidc_tokens.proofs.Theorems as tokens
 use Rattle.oidc_login.specs.Types.{SeenLoginClient, SiteTypes}
 use Rattle.oidc_login.specs.Token.{SeenIdToken, verifier_of, is_nonce, failure_for}
+use Rattle.oidc_login.specs.Errors.{is_wanting}
 
 abbrev pub wanting : ClaimsVerificationError
 wanting = SignatureVerification signature.Memory
+
+-- a kind that is neither
+pub never_wanted : (e : ClaimsVerificationError) → e ≢ check.Memory → e ≢ wanting → is_wanting e ≡ false
+never_wanted check.Unsupported own inside = refl
+never_wanted check.InvalidIssuer own inside = refl
+never_wanted check.InvalidAudience own inside = refl
+never_wanted (check.SignatureVerification signature.AmbiguousKeyId) own inside = refl
+never_wanted (check.SignatureVerification signature.CryptoError) own inside = refl
+never_wanted (check.SignatureVerification signature.DisallowedAlg) own inside = refl
+never_wanted (check.SignatureVerification signature.InvalidKey) own inside = refl
+never_wanted (check.SignatureVerification signature.NoMatchingKey) own inside = refl
+never_wanted (check.SignatureVerification signature.NoSignature) own inside = refl
+never_wanted (check.SignatureVerification signature.UnsupportedAlg) own inside = refl
+never_wanted check.Expired own inside = refl
+never_wanted check.InvalidNonce own inside = refl
+never_wanted check.InvalidSubject own inside = refl
+never_wanted (check.SignatureVerification signature.Memory) own inside = absurd (inside refl)
+never_wanted check.Memory own inside = absurd (own refl)
 
 module _ {AC GC Key Use : Type 0} (types : SiteTypes AC GC Key Use) where
   -- the law of keys

@@ -12,19 +12,20 @@ use Rattle.oidc_login.specs.Logins.{SeenLogin, Pending}
 use Rattle.oidc_login.specs.Token.{Tokens, SeenIdToken, tokens_or_refusal, failure_for, hash_refusal, has_another_hash}
 use Rattle.oidc_login.specs.SignedIn.{SeenSignedIn, signed_by, with_user_info}
 use Rattle.oidc_login.specs.Errors.{wants_memory, login_errors}
-use Rattle.oidc_login.specs.Callback.{Meant, SeenTaken, taken_login, user_of_answer, user_with_info}
+use Rattle.oidc_login.specs.Callback.{SeenTaken, taken_login, user_of_answer, user_with_info}
 use Rattle.oidc_login.specs.Steps.{taken_login_by, tokens_of, accepted_token, user_of_tokens, info_of}
 use Rattle.oidc_login.specs.declared.errors.TooLong.TheVariants as place
 use Rattle.oidc_login.specs.declared.errors.LoginError.{LoginError}
 use Rattle.oidc_login.specs.declared.errors.LoginError.TheVariants as refusal
 
-then_value : {A B : Type 0} (m : Meant (Unit {0})) (n : Meant A) (f : A → Meant B) → (m >> (n >>= f)) ≡ ((m >> n) >>= f)
-then_value (Ok u) n f = refl
-then_value (Err e) n f = refl
+module _ {F : Type 0} where
+  pub then_value : {A B : Type 0} (m : Result (Unit {0}) F) (n : Result A F) (f : A → Result B F) → (m >> (n >>= f)) ≡ ((m >> n) >>= f)
+  then_value (Ok u) n f = refl
+  then_value (Err e) n f = refl
 
-then_row : {B : Type 0} (m n : Meant (Unit {0})) (next : Meant B) → (m >> (n >> next)) ≡ ((m >> n) >> next)
-then_row (Ok u) n next = refl
-then_row (Err e) n next = refl
+  pub then_row : {B : Type 0} (m n : Result (Unit {0}) F) (next : Result B F) → (m >> (n >> next)) ≡ ((m >> n) >> next)
+  then_row (Ok u) n next = refl
+  then_row (Err e) n next = refl
 
 -- ---- before the token request
 

@@ -47,7 +47,7 @@ use Rattle.oidc_login.proofs.Verification.{accepts}
 use Rattle.oidc_login.proofs.TokenHash.{beside, differ_back, same_back, by_hash, by_check}
 use Rattle.oidc_login.proofs.TokenRuns.{token_run}
 
-no_value : (values : List (List ℕ)) → option_map error_word (first_value values) ≡ None → values ≡ []
+pub no_value : (values : List (List ℕ)) → option_map error_word (first_value values) ≡ None → values ≡ []
 no_value [] is = refl
 no_value (value ∷ others) is = cc
 

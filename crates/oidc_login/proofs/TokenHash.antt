@@ -1,5 +1,5 @@
--- The hash beside an accepted ID token is that of its algorithm under its key, and what its rows say.
-use Rattle.std.proofs.Common.{◌≡◌, ◌≢◌, ℕ, List, Bool, true, false, Option, Some, Result, Ok, refl, sym, ap, ◌∙◌}
+-- The hash of a text beside an accepted ID token is that of its algorithm under its key, and what its rows say.
+use Rattle.std.proofs.Common.{◌≡◌, ◌≢◌, ℕ, ℤ, List, Bool, true, false, Option, Some, Result, Ok, refl, sym, ap, subst, ◌∙◌}
 use Rattle.std.specs.Prelude.{not}
 use Rattle.std.specs.Option.{ok_or}
 use Rattle.std.specs.Str.{bytes_eq}
@@ -7,14 +7,16 @@ use Rattle.std.proofs.lemmas.Slice.Eq.{bytes_eq-Decides}
 use Rattle.oidc_types.specs.{signing_text}
 use Rattle.oidc_types.specs.declared.signing_error.SigningError.{SigningError}
 use Rattle.oidc_types.specs.declared.signing_error.SigningError.TheVariants.{UnsupportedAlg}
+use Rattle.oidc_types.specs.declared.core_algorithms.CoreJweContentEncryptionAlgorithm.{CoreJweContentEncryptionAlgorithm}
 use Rattle.oidc_types.specs.declared.core_algorithms.CoreJwsSigningAlgorithm.{CoreJwsSigningAlgorithm}
+use Rattle.oidc_jwt.specs.declared.header.JsonWebTokenAlgorithm.{JsonWebTokenAlgorithm}
 use Rattle.oidc_jwt.specs.declared.header.JsonWebTokenAlgorithm.TheVariants as algorithm
 use Rattle.oidc_tokens.specs.Hashes.{hashing, hash_or_refusal}
 use Rattle.oidc_tokens.specs.Signatures.{signing_alg, key_for}
 use Rattle.oidc_tokens.specs.declared.verification.refusals.ClaimsVerificationError.{ClaimsVerificationError}
 use Rattle.oidc_oauth2.specs.Replies.{◌>>=◌, ◌>>◌, ◌when◌, ◌for◌}
 use Rattle.oidc_login.specs.Types.{SiteTypes, SeenLoginClient}
-use Rattle.oidc_login.specs.Token.{SeenIdToken, KeyVerifier, verifier_of, claimed_hash, hash_under, hashing_found, or_no_hash, hash_beside, refusal_of_claim, claims_another}
+use Rattle.oidc_login.specs.Token.{SeenIdToken, KeyVerifier, verifier_of, IsAcceptedBy, claimed_hash, hash_under, FitsClaim, HasOwnClaim, hashing_found, or_no_hash, hash_beside, refusal_of_claim, claims_another}
 use Rattle.oidc_login.specs.SignedIn.{SeenSignedIn, signed_by}
 use Rattle.oidc_login.specs.Callback.{Meant}
 use Rattle.oidc_login.specs.Causes.{Held}
@@ -28,9 +30,26 @@ module _ {AC GC Key Use : Type 0} (types : SiteTypes AC GC Key Use) (v : KeyVeri
       ∙ ap (λ r. r >>= λ key. Ok (hashing (signing_text alg) (types.keys.keys.hash_of key alg))) chosen
 
   -- the hash, or the refusal that names the algorithm
-  pub beside : (access_token : List ℕ) → hash_beside types v token access_token ≡ ok_or (hash_under types key alg access_token) (UnsupportedAlg (signing_text alg))
+  pub beside : (text : List ℕ) → hash_beside types v token text ≡ ok_or (hash_under types key alg text) (UnsupportedAlg (signing_text alg))
   unfolding hash_beside
-  beside access_token = ap (λ r. hash_or_refusal (or_no_hash r) access_token) found
+  beside text = ap (λ r. hash_or_refusal (or_no_hash r) text) found
+
+-- ---- a claim that fits by the algorithm and the key of an acceptance
+
+same_alg : (x y : CoreJwsSigningAlgorithm) (o : JsonWebTokenAlgorithm CoreJweContentEncryptionAlgorithm CoreJwsSigningAlgorithm) → o ≡ algorithm.Signature x → o ≡ algorithm.Signature y → x ≡ y
+same_alg x y o a b = cc
+
+same_key : {Key R : Type 0} (x y : Key) (o : Result Key R) → o ≡ Ok x → o ≡ Ok y → x ≡ y
+same_key x y o a b = cc
+
+module _ {AC GC Key Use : Type 0} (types : SiteTypes AC GC Key Use) (client : SeenLoginClient Key) (nonce : List ℕ) (now : ℤ) (token : SeenIdToken AC GC) (x : IsAcceptedBy types client nonce now token) where
+  -- fits by those of the token
+  pub fits_own : (claimed : Option (List ℕ)) (text : List ℕ) → FitsClaim types claimed x.key x.alg text → HasOwnClaim types claimed client token text
+  fits_own claimed text fits alg key has_alg has_key =
+      let by_alg : x.alg ≡ alg = same_alg x.alg alg _ x.signed has_alg in
+      let chosen = subst (λ g. key_for types.keys (verifier_of types client) token.header.kid g ≡ Ok x.key) by_alg x.chosen in
+      let by_key : x.key ≡ key = same_key x.key key _ chosen has_key in
+      subst (λ g. FitsClaim types claimed key g text) by_alg (subst (λ k. FitsClaim types claimed k x.alg text) by_key fits)
 
 -- ---- the rows on a claim
 

@@ -1,7 +1,8 @@
 -- In reading order: what a site brings; pending logins, what a begin answers and what it leaves; what the query of a
 -- callback names and the token request; its answer with the ID token and the hash in it; the request for user info; who
 -- is signed in; the table of a callback, what each reply rests on, which logins are valid, and what a callback leaves of
--- a transport and of the store; begins and callbacks, one after another.
+-- a transport and of the store; begins and callbacks, one after another. Then the table of an implicit or a hybrid answer,
+-- and what each such answer rests on.
 pub mod Types
 pub mod Logins
 pub mod Begin
@@ -15,6 +16,8 @@ pub mod Causes
 pub mod ValidLogin
 pub mod Runs
 pub mod Events
+pub mod FrontChannel
+pub mod FrontCauses
 -- lower words that these cite
 pub use Rattle.oidc_pairs.specs.Pairs
 pub use Rattle.oidc_pairs.specs.Form
@@ -25,3 +28,4 @@ pub use Rattle.oidc_oauth2.specs.Exchanges
 -- what no public clause cites
 pub mod Steps
 pub mod Store
+pub mod FrontSteps

@@ -1,6 +1,7 @@
 -- What single functions of a callback answer, between the steps of its table (`Callback.antt`). No public clause cites this.
 use Rattle.std.specs.Prelude.{◌≡◌, ℕ, ℤ, List, true, Option, None, Some, Result, Ok, IfErr}
 use Rattle.oidc_types.specs.declared.signing_error.SigningError.{SigningError}
+use Rattle.oidc_types.specs.declared.signing_error.SigningError.TheVariants as signing
 use Rattle.oidc_oauth2.specs.Messages.{SeenResponse, SeenAnswer}
 use Rattle.oidc_oauth2.specs.Replies.{◌>>=◌, ◌>>◌, ◌when◌, ◌for◌, ◌or◌, ◌or_as◌}
 use Rattle.oidc_oauth2.specs.TokenAnswers.{is_over_long}
@@ -50,6 +51,11 @@ abbrev pub of_info : {E : Type 0} → UserInfoError E → LoginError E
 of_info (info.TooLong body) = login.TooLong place.UserInfoAnswer
 of_info info.Memory = login.Memory true
 of_info e = login.UserInfo e
+
+-- a refusal of a hash is the one that is meant, or want of memory
+abbrev pub RefusesAs : Option SigningError → SigningError → Type 0
+RefusesAs meant signing.Memory = Unit {0}
+RefusesAs meant refusal = meant ≡ Some refusal
 
 -- ---- rows of the table, those of one function at a time
 

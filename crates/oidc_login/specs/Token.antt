@@ -1,5 +1,5 @@
 -- The answer to a login's token request, and the ID token among its tokens: RFC 6749 sections 5.1 and 5.2, OpenID Connect
--- Core 1.0 sections 2, 3.1.3.3 and 3.1.3.6 to 3.1.3.8.
+-- Core 1.0 sections 2, 3.1.3.3, 3.1.3.6 to 3.1.3.8 and 3.3.2.11.
 use Rattle.std.specs.Prelude.{◌≡◌, ℕ, ℤ, List, [], Bool, false, not, Option, None, Some, Result, Ok, Err}
 use Rattle.std.specs.Option.{option_map_or}
 use Rattle.std.specs.Str.{bytes_eq}
@@ -107,28 +107,45 @@ module _ {AC GC Key Use : Type 0} (types : SiteTypes AC GC Key Use) where
   FailsFor client sent now token kind =
       Cause types.keys (verifier_of client) (is_nonce sent) now token kind
 
--- ---- the hash of an access token that the ID token beside it may hold
+-- ---- the hashes of an access token and of a code that the ID token beside them may hold
 
 -- the `at_hash` of an ID token, where it has one
 abbrev pub claimed_hash : {AC GC : Type 0} → SeenIdToken AC GC → Option (List ℕ)
 claimed_hash token = token.payload.own.access_token_hash
 
+-- its `c_hash`, where it has one
+abbrev pub claimed_code_hash : {AC GC : Type 0} → SeenIdToken AC GC → Option (List ℕ)
+claimed_code_hash token = token.payload.own.code_hash
+
 module _ {AC GC Key Use : Type 0} (types : SiteTypes AC GC Key Use) where
-  -- the hash of an access token by the hash function that goes with an algorithm under a key, where there is one
+  -- the hash of a text by the hash function that goes with an algorithm under a key, where there is one
   abbrev pub hash_under : Key → CoreJwsSigningAlgorithm → List ℕ → Option (List ℕ)
-  hash_under key alg access_token = hash_text (types.keys.keys.hash_of key alg) access_token
+  hash_under key alg text = hash_text (types.keys.keys.hash_of key alg) text
+
+  -- A hash that is claimed, where one is, is that of this text by this algorithm under this key.
+  abbrev pub FitsClaim : Option (List ℕ) → Key → CoreJwsSigningAlgorithm → List ℕ → Type 0
+  FitsClaim claimed key alg text =
+      (claim : List ℕ) → claimed ≡ Some claim → hash_under key alg text ≡ Some claim
 
   -- An `at_hash`, where there is one, is the hash of this access token by this algorithm under this key.
   abbrev pub FitsHash : SeenIdToken AC GC → Key → CoreJwsSigningAlgorithm → List ℕ → Type 0
-  FitsHash token key alg access_token =
-      (claim : List ℕ) → claimed_hash token ≡ Some claim → hash_under key alg access_token ≡ Some claim
+  FitsHash token key alg access_token = FitsClaim (claimed_hash token) key alg access_token
 
-  -- The same by the algorithm that the token is signed by, under the key that checks it for this client.
-  abbrev pub HasOwnHash : SeenLoginClient Key → SeenIdToken AC GC → List ℕ → Type 0
-  HasOwnHash client token access_token =
+  -- A hash that is claimed is that of this text by the algorithm that the token is signed by, under the key that
+  -- checks it for this client.
+  abbrev pub HasOwnClaim : Option (List ℕ) → SeenLoginClient Key → SeenIdToken AC GC → List ℕ → Type 0
+  HasOwnClaim claimed client token text =
       (alg : CoreJwsSigningAlgorithm) (key : Key) → token.header.alg ≡ algorithm.Signature alg
       → key_for types.keys (verifier_of types client) token.header.kid alg ≡ Ok key
-      → FitsHash token key alg access_token
+      → FitsClaim claimed key alg text
+
+  -- so is an `at_hash`, of an access token
+  abbrev pub HasOwnHash : SeenLoginClient Key → SeenIdToken AC GC → List ℕ → Type 0
+  HasOwnHash client token access_token = HasOwnClaim (claimed_hash token) client token access_token
+
+  -- and a `c_hash`, of a code
+  abbrev pub HasOwnCodeHash : SeenLoginClient Key → SeenIdToken AC GC → List ℕ → Type 0
+  HasOwnCodeHash client token code = HasOwnClaim (claimed_code_hash token) client token code
 
   -- ---- the same as a value, for any token
 
@@ -144,11 +161,10 @@ abbrev pub or_no_hash : Result Hashing SignatureVerificationError → Hashing
 or_no_hash (Ok by) = by
 or_no_hash (Err refusal) = hashing [] None
 
--- the hash of an access token beside an ID token, or why it has none
+-- the hash of an access token or of a code beside an ID token, or why it has none
 unfoldable pub hash_beside : {AC GC Key Use : Type 0} → SiteTypes AC GC Key Use → KeyVerifier Key
     → SeenIdToken AC GC → List ℕ → Result (List ℕ) SigningError
-hash_beside types v token access_token =
-    hash_or_refusal (or_no_hash (hashing_found types v token)) access_token
+hash_beside types v token text = hash_or_refusal (or_no_hash (hashing_found types v token)) text
 
 -- ---- what is said of a claim and the hash that it stands for
 
@@ -163,6 +179,17 @@ abbrev pub claims_another : Option (List ℕ) → Result (List ℕ) SigningError
 claims_another None hash = false
 claims_another (Some claim) (Ok hash) = not (bytes_eq hash claim)
 claims_another (Some claim) (Err refusal) = false
+
+module _ {AC GC Key Use : Type 0} (types : SiteTypes AC GC Key Use) (v : KeyVerifier Key) (token : SeenIdToken AC GC) where
+  -- why there is none of a text beside an ID token, where the text is there and a hash of it is claimed
+  abbrev pub refusal_beside : Option (List ℕ) → Option (List ℕ) → Option SigningError
+  refusal_beside claim None = None
+  refusal_beside claim (Some text) = refusal_of_claim claim (hash_beside types v token text)
+
+  -- another one than that of the text is claimed
+  abbrev pub is_another_beside : Option (List ℕ) → Option (List ℕ) → Bool
+  is_another_beside claim None = false
+  is_another_beside claim (Some text) = claims_another claim (hash_beside types v token text)
 
 module _ {AC GC Key Use : Type 0} (types : SiteTypes AC GC Key Use) where
   -- the same of the `at_hash` of a token and the hash of the access token beside it

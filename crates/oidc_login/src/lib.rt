@@ -7,6 +7,9 @@
 //! - [`Logins`] is the store. [`Logins::begin`] gives the authorization URL of a login and keeps its nonce, its PKCE
 //!   verifier and what it demands of user info ([`UserInfoDemand`]); [`Logins::callback`] takes the login that a
 //!   callback names, exchanges its code, asks for user info where the login demands it, and signs the user in.
+//! - [`front_channel`] judges the answer of an implicit or a hybrid flow, which comes in the query itself: without a
+//!   store, a transport or a request, with the state and the nonce that the site kept. [`FrontAnswer`] is an answer
+//!   that is accepted, [`FrontError`] why one isn't.
 //! - [`laws`] has what holds of whole runs of begins and callbacks.
 //!
 //! The transport is the caller's: anything that implements `oidc_oauth2::SyncHttpClient`, as
@@ -23,6 +26,10 @@
 //! rests on in `specs/Causes.antt`, a valid login in `specs/ValidLogin.antt`, and all together as `Ran` in
 //! `specs/Runs.antt`; whole runs in `specs/Events.antt`.
 //!
+//! Of `front_channel` the same holds without a transport: its table stands in `specs/FrontChannel.antt`, what each of its
+//! answers rests on in `specs/FrontCauses.antt`. An answer is accepted only with the state and the nonce that are handed
+//! in; an `at_hash` or a `c_hash` that is absent binds nothing.
+//!
 //! `Ran` says all this for some answers. Where the transport keeps a log, they are those that came.
 //! Of one that keeps none, as over a network, a contract can't say what came; `callback` is one
 //! function for every transport, and nothing that it may call says which of the two it was handed.
@@ -32,19 +39,23 @@
 //! then.
 //!
 //! The standards: RFC 6749 (section 4.1), RFC 6750 section 2.1, RFC 7636, RFC 7515 section 7.1, and OpenID Connect
-//! Core 1.0 (sections 2, 3.1.2.1, 3.1.3.3, 3.1.3.6, 3.1.3.7, 5.3.2 and 5.3.4).
+//! Core 1.0 (sections 2, 3.1.2.1, 3.1.3.3, 3.1.3.6, 3.1.3.7, 3.2.2, 3.3.2, 5.3.2 and 5.3.4).
 #![tactic(auto)]
 
 mod begin;
 mod callback;
 mod errors;
+mod front;
+mod hashes;
 pub mod laws;
 mod logins;
+mod query;
 mod signed_in;
 mod store;
 mod types;
 
 pub use errors::{BeginError, LoginError, NewLoginsError, TooLong};
+pub use front::{FrontAnswer, FrontError, front_channel};
 pub use logins::Logins;
 pub use signed_in::{LoginIdToken, SignedIn};
 pub use types::{LoginClient, LoginRequest, MetadataClient, UserInfoDemand};

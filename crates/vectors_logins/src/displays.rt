@@ -2,8 +2,8 @@
 
 use case_lines::{Case, CaseError, one_of};
 use oidc_cli::Failed;
-use oidc_login::{BeginError, LoginError, NewLoginsError, TooLong};
-use oidc_members::FieldName;
+use oidc_login::{BeginError, FrontError, LoginError, NewLoginsError, TooLong};
+use oidc_members::{FieldName, ParseKind, Refusal};
 use oidc_oauth2::{Fault, RequestTokenError};
 use oidc_tokens::ClaimsVerificationError;
 use oidc_types::{CoreAuthErrorResponseType, SigningError};
@@ -38,6 +38,7 @@ pub(crate) fn display(alloc: Global, case: &Case) -> Result<String, CaseError> {
     match case.value("type") {
         "BeginError" => one_of(alloc, &BEGINS, variant),
         "Failed" => one_of(alloc, &CALLS, variant),
+        "FrontError" => front_error(alloc, variant),
         "LoginError" => login_error(alloc, variant),
         "NewLoginsError" => one_of(alloc, &STORES, variant),
         "TooLong" => one_of(alloc, &PLACES, variant),
@@ -59,6 +60,23 @@ fn login_error(alloc: Global, variant: &str) -> Result<String, CaseError> {
         LoginError::TokenHash,
         LoginError::UserInfo(UserInfoError::Request(Fault)),
         LoginError::Memory { spent: false },
+    ];
+    one_of(alloc, &all, variant)
+}
+
+fn front_error(alloc: Global, variant: &str) -> Result<String, CaseError> {
+    let none = FieldName::new(String::from_str(alloc, "EdDSA")?);
+    let all = [
+        FrontError::TooLong,
+        FrontError::State,
+        FrontError::Provider(CoreAuthErrorResponseType::LoginRequired),
+        FrontError::NoIdToken,
+        FrontError::Parse(Refusal::of_text(alloc, ParseKind::Token)),
+        FrontError::Claims(ClaimsVerificationError::InvalidNonce),
+        FrontError::Signing(SigningError::UnsupportedAlg(none)),
+        FrontError::TokenHash,
+        FrontError::CodeHash,
+        FrontError::Memory,
     ];
     one_of(alloc, &all, variant)
 }

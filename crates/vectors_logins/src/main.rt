@@ -1,9 +1,10 @@
-//! The program `vectors_logins`: cases of whole logins as lines of text.
+//! The program `vectors_logins`: cases of whole logins, and of the answers of other flows, as lines of text.
 //!
 //! The page of `case_lines` has the rules of lines, README.md the operations.
 #![tactic(auto)]
 
 mod displays;
+mod front;
 mod operations;
 mod scripts;
 

@@ -3,7 +3,7 @@
 ghost use Rattle.std.specs.Prelude.{◌≡◌};
 ghost use Rattle.vectors_logins.specs.Operations as spec;
 
-use crate::{displays, scripts};
+use crate::{displays, front, scripts};
 use case_lines::{Case, CaseError, CaseOperation};
 use std::alloc::Global;
 
@@ -11,12 +11,13 @@ use std::alloc::Global;
 #[derive(Clone, Copy, Debug, PartialEq, Eq)]
 pub(crate) enum Operation {
     Run,
+    Front,
     Display,
 }
 
 impl Operation {
     /// Every operation.
-    const ALL: [Operation; 2] = [Operation::Run, Operation::Display];
+    const ALL: [Operation; 3] = [Operation::Run, Operation::Front, Operation::Display];
 
     // Its name, the value of `op`.
     fn name(self) -> &'static str
@@ -24,6 +25,7 @@ impl Operation {
     {
         match self {
             Operation::Run => "run",
+            Operation::Front => "front",
             Operation::Display => "display",
         }
     }
@@ -49,6 +51,7 @@ impl CaseOperation for Operation {
     fn answer(self, alloc: Global, case: &Case) -> Result<String, CaseError> {
         match self {
             Operation::Run => scripts::run(alloc, case),
+            Operation::Front => front::front(alloc, case),
             Operation::Display => displays::display(alloc, case),
         }
     }

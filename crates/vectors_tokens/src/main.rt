@@ -11,7 +11,6 @@ mod refreshed;
 mod responses;
 mod tokens;
 mod user_info;
-mod verifier_keys;
 mod verifiers;
 mod words;
 

@@ -1,10 +1,9 @@
 //! The verdict of a client on an ID token that came with refreshed tokens.
 
 use crate::tokens::{Claims, Token, claims_of, token_of};
-use crate::verifier_keys::VerifierKey;
-use crate::verifiers::{Parties, moment, parties_in, verifier_in, written_line};
+use crate::verifiers::{Parties, parties_in, verifier_in, written_line};
 use crate::words::claims_word;
-use case_lines::{Case, CaseError, refused_word};
+use case_lines::{Case, CaseError, VerifierKey, moment, refused_word};
 use oidc_tokens::{IdTokenVerifier, RefreshedClaimsError};
 use oidc_types::{AccessToken, SigningError};
 use std::alloc::Global;

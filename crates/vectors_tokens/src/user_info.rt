@@ -1,12 +1,11 @@
 //! User info: its claims, the request for it, what its answers are worth, and tokens of it that are issued.
 
 use crate::tokens::unsigned_line;
-use crate::verifier_keys::VerifierKey;
 use crate::verifiers::{Parties, parties_in};
 use crate::words::claims_word;
 use case_lines::{
-    Case, CaseError, algorithm, object, ok_form, ok_pair, parse_line, refused_as, refused_word,
-    request_line, response_in, url_of,
+    Case, CaseError, VerifierKey, algorithm, object, ok_form, ok_pair, parse_line, refused_as,
+    refused_word, request_line, response_in, url_of,
 };
 use oidc_claims::{AdditionalClaims, AllOtherClaims};
 use oidc_keys::{CoreHmacKey, JsonWebKeySet};

@@ -1,10 +1,10 @@
 //! The verdict of a client on an ID token.
 
 use crate::tokens::{Claims, Token, token_of, written_claims};
-use crate::verifier_keys::{VerifierKey, key_of};
 use crate::words::claims_word;
-use case_lines::{Case, CaseError, algorithm, number, ok_pair, refused_word, url_of};
-use jiff::Timestamp;
+use case_lines::{
+    Case, CaseError, VerifierKey, algorithms, keys_in, moment, ok_pair, refused_word, url_of,
+};
 use oidc_keys::JsonWebKeySet;
 use oidc_tokens::{ClaimsVerificationError, IdTokenVerifier};
 use oidc_types::{ClientId, ClientSecret, CoreJwsSigningAlgorithm, IssuerUrl, Nonce};
@@ -115,38 +115,4 @@ fn verdict_line(
 pub(crate) fn written_line(alloc: Global, claims: &Claims) -> Result<String, CaseError> {
     let written = written_claims(alloc, claims)?;
     ok_pair(alloc, "written", written.as_str())
-}
-
-// The algorithms of a list, with a space between each two.
-fn algorithms(alloc: Global, text: &str) -> Result<Vec<CoreJwsSigningAlgorithm>, CaseError> {
-    let mut algorithms = Vec::new(alloc);
-    if text.is_empty() {
-        return Ok(algorithms);
-    }
-    for word in text.split(' ') {
-        algorithms.push(algorithm(word)?)?;
-    }
-    Ok(algorithms)
-}
-
-// The keys of the issuer, in their order.
-fn keys_in(alloc: Global, case: &Case) -> Result<JsonWebKeySet<VerifierKey>, CaseError> {
-    let mut keys = Vec::new(alloc);
-    for pair in case.pairs() {
-        if pair.name() == "key" {
-            keys.push(key_of(alloc, pair.value())?)?;
-        }
-    }
-    Ok(JsonWebKeySet::new(keys))
-}
-
-/// The moment of whole seconds. Rust reads a number behind a `+`, which no line has.
-pub(crate) fn moment(text: &str) -> Result<Timestamp, CaseError> {
-    if text.as_bytes().first() == Some(&b'+') {
-        return Err(CaseError::NoCase);
-    }
-    match Timestamp::from_second(number::<i64>(text)?) {
-        Ok(moment) => Ok(moment),
-        Err(_) => Err(CaseError::NoCase),
-    }
 }

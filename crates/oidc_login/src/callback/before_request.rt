@@ -16,6 +16,7 @@ ghost use Rattle.oidc_login.specs.Callback.{without_named, callback_store, SeenT
 ghost use Rattle.oidc_login.specs.Steps as steps;
 
 use crate::errors::{LoginError, TooLong};
+use crate::query::{error_code, is_too_long};
 use crate::signed_in::TokenResponse;
 use crate::store::{Login, Store};
 use crate::types::MetadataClient;
@@ -26,15 +27,10 @@ use oidc_oauth2::{
     RequestTokenError, StandardErrorResponse,
 };
 use oidc_pairs::{first_value, only_value};
-use oidc_types::{
-    AuthorizationCode, CoreAuthErrorResponseType, CoreJwsSigningAlgorithm, Vocabulary,
-};
+use oidc_types::{AuthorizationCode, CoreJwsSigningAlgorithm};
 use std::alloc::{AllocError, Global};
 use std::borrow::CowStr;
 use std::marker::Model;
-
-// The most bytes that the query of a callback may have.
-const MAX_QUERY: usize = 1_048_576;
 
 // A login that was taken out, and its token request.
 #[derive(Drop)]
@@ -119,15 +115,14 @@ fn token_request<
 }
 
 // The refusal of a query by its first `error`.
-#[tactic(auto, unfolding(crate::specs::BeforeRequest::error_word))]
 fn provider_refusal<E>(alloc: Global, text: CowStr<'_, Global>) -> LoginError<E>
     ensures gives { Gives login_errors {A = SeenTaken} (Err result)
         (Err (LoginError.Provider (request.error_word (cow_str_bytes text.entry)))) }
     ensures no_fault { faulted result ≡ false }
     ensures spent { spent_of result ≡ true }
 {
-    match text.into_owned(alloc) {
-        Ok(text) => LoginError::Provider(CoreAuthErrorResponseType::from_str(text)),
+    match error_code(alloc, text.as_str()) {
+        Ok(code) => LoginError::Provider(code),
         Err(_) => LoginError::Memory { spent: true },
     }
 }
@@ -190,13 +185,6 @@ fn taken_login_by<
             Err(LoginError::Memory { spent: true })
         }
     }
-}
-
-// Whether a query is too long.
-fn is_too_long(query: &[u8]) -> bool
-    ensures { result ≡ is_over_long query.now }
-{
-    query.len() > MAX_QUERY
 }
 
 // The rows before the token request.

@@ -1,11 +1,9 @@
 // The step behind the answer to the token request: its tokens, the ID token among them, and the `at_hash` in that.
 
-ghost use Rattle.std.specs.Prelude.{◌≡◌, [], is_some, Err, IfErr, IfOk, false, true};
+ghost use Rattle.std.specs.Prelude.{◌≡◌, is_some, Err, IfErr, IfOk, false, true};
 ghost use Rattle.oidc_oauth2.specs.Messages.{seen_response};
 ghost use Rattle.oidc_oauth2.specs.Replies.{Gives, Unless};
 ghost use Rattle.oidc_oauth2.specs.Exchanges.{answer_of};
-ghost use Rattle.oidc_types.specs.declared.signing_error.SigningError.TheVariants.{UnsupportedAlg};
-ghost use Rattle.oidc_tokens.specs.Hashes.{GivesHash};
 ghost use Rattle.oidc_login.specs.Errors.{faulted, is_spent_by, login_errors, seen, wants_memory};
 ghost use Rattle.oidc_login.specs.Types.{site_types};
 ghost use Rattle.oidc_login.specs.Token as hashes;
@@ -15,16 +13,16 @@ ghost use Rattle.oidc_login.specs.Steps as steps;
 ghost use Rattle.oidc_login.specs.Steps.{Faults, IsPassed};
 
 use crate::errors::LoginError;
+use crate::hashes::token_fits;
 use crate::signed_in::{LoginIdToken, SignedIn, TokenResponse};
 use crate::store::Login;
 use crate::types::MetadataClient;
 use jiff::Timestamp;
 use oidc_claims::{AdditionalClaims, GenderClaim};
 use oidc_keys::JsonWebKey;
-use oidc_members::FieldName;
 use oidc_oauth2::{HttpResponse, OAuth2TokenResponse, RequestTokenError, token_answer};
-use oidc_tokens::{IdTokenVerifier, from_token};
-use oidc_types::{AccessToken, AccessTokenHash, CoreJwsSigningAlgorithm, SigningError};
+use oidc_tokens::IdTokenVerifier;
+use oidc_types::{AccessToken, CoreJwsSigningAlgorithm, SigningError};
 use std::alloc::Global;
 use std::marker::Model;
 
@@ -48,38 +46,6 @@ fn tokens_of<
     }
 }
 
-// The refusal of a token that no key checks. None that is accepted is one.
-fn no_hash(alloc: Global) -> SigningError
-    ensures { result ≡ UnsupportedAlg [] }
-{
-    SigningError::UnsupportedAlg(FieldName::new(String::new(alloc)))
-}
-
-// The hash of an access token beside an ID token.
-#[tactic(auto, unfolding(crate::specs::Token::hash_beside))]
-fn hash_beside<
-    AC: AdditionalClaims,
-    GC: GenderClaim,
-    K: JsonWebKey<SigningAlgorithm = CoreJwsSigningAlgorithm>,
->(
-    alloc: Global,
-    verifier: &IdTokenVerifier<'_, K>,
-    token: &LoginIdToken<AC, GC>,
-    access_token: &AccessToken,
-) -> Result<AccessTokenHash, SigningError>
-    ensures { let types = site_types AC.read_of GC.read_of
-        K.JsonWebKey K.KeyUse.JsonWebKeyUse in
-        GivesHash (hashes.hash_beside types verifier.now token.now access_token.now) result }
-{
-    let Ok(alg) = token.signing_alg() else {
-        return Err(no_hash(alloc));
-    };
-    let Ok(key) = token.signing_key(verifier) else {
-        return Err(no_hash(alloc));
-    };
-    from_token(alloc, access_token, alg, key)
-}
-
 // The rows on the hash that an ID token may claim of the access token beside it.
 fn checked_hash<
     AC: AdditionalClaims,
@@ -99,12 +65,9 @@ fn checked_hash<
     ensures no_fault { IfErr result (λ e. faulted e ≡ false) }
     ensures spent { is_spent_by result ≡ true }
 {
-    let Some(claim) = token.token().unverified_payload().access_token_hash() else {
-        return Ok(());
-    };
-    match hash_beside(alloc, verifier, token, access_token) {
-        Ok(hash) => {
-            if hash.as_str() == claim.as_str() {
+    match token_fits(alloc, verifier, token, Some(access_token)) {
+        Ok(fits) => {
+            if fits {
                 Ok(())
             } else {
                 Err(LoginError::TokenHash)

@@ -6,8 +6,8 @@ use Rattle.oidc_types.specs.declared.core_algorithms.CoreJwsSigningAlgorithm.{Co
 use Rattle.oidc_keys.specs.declared.core_jwk.CoreJsonWebKeyUse.{CoreJsonWebKeyUse}
 use Rattle.oidc_keys.specs.Jwk.{Verdict}
 use Rattle.oidc_keys.specs.CoreJwk.{symmetric_verdict, compared, hash_function}
-use Rattle.vectors_tokens.specs.declared.verifier_keys.VerifierKey.{VerifierKey}
-use Rattle.vectors_tokens.specs.declared.verifier_keys.VerifierKey.TheVariants.{Secret, Given}
+use Rattle.case_lines.specs.declared.verifier_keys.VerifierKey.{VerifierKey}
+use Rattle.case_lines.specs.declared.verifier_keys.VerifierKey.TheVariants.{Secret, Given}
 
 abbrev pub id_of : VerifierKey → Option (List ℕ)
 id_of (Secret key) = key.id
@@ -26,7 +26,6 @@ abbrev pub verdict_of : VerifierKey → CoreJwsSigningAlgorithm → List ℕ →
 verdict_of (Secret key) alg message signature = symmetric_verdict key.secret alg message signature
 verdict_of (Given key) alg message signature = compared key.signature signature
 
--- A key that is given has no hash function.
+-- The hash function of an algorithm is the same under each key.
 abbrev pub hash_of : VerifierKey → CoreJwsSigningAlgorithm → Option (List ℕ → List ℕ)
-hash_of (Secret key) alg = hash_function alg
-hash_of (Given key) alg = None
+hash_of key alg = hash_function alg

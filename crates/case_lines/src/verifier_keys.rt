@@ -1,13 +1,16 @@
 //! The keys of verifiers: a client's secret, and keys of an issuer that know one signature.
 
-ghost use Rattle.std.specs.Prelude.{None};
+ghost use Rattle.std.specs.Prelude.{◌≡◌, None, Some, Err, IfOk};
 ghost use Rattle.std.proofs.Common.{arith};
-ghost use Rattle.vectors_tokens.specs.VerifierKeys as spec;
-ghost use Rattle.vectors_tokens.specs.declared.verifier_keys.VerifierKey.TheVariants.{Secret};
+ghost use Rattle.oidc_keys.specs.Jwk.{digest_by};
+ghost use Rattle.oidc_keys.specs.CoreJwk.{hash_function};
+ghost use Rattle.case_lines.specs.VerifierKeys as spec;
+ghost use Rattle.case_lines.specs.declared.verifier_keys.VerifierKey.TheVariants.{Secret};
 
-use case_lines::{CaseError, bytes_of};
+use crate::case::{Case, CaseError, bytes_of};
 use oidc_keys::{
-    CoreJsonWebKey, CoreJsonWebKeyUse, HashError, JsonWebKey, SignatureVerificationError,
+    CoreJsonWebKey, CoreJsonWebKeyUse, HashError, JsonWebKey, JsonWebKeySet,
+    SignatureVerificationError,
 };
 use oidc_members::FieldName;
 use oidc_oauth2::Body;
@@ -16,16 +19,20 @@ use std::alloc::{AllocError, Global};
 
 /// A key of an issuer. It takes its own signature for one of every message, and no other.
 #[derive(Drop)]
-pub(crate) struct IssuerKey {
-    kind: CoreJsonWebKeyType,
-    purpose: Option<CoreJsonWebKeyUse>,
-    id: Option<JsonWebKeyId>,
-    signature: Body,
+pub struct IssuerKey {
+    /// Its type.
+    pub kind: CoreJsonWebKeyType,
+    /// What it is for, where that is said.
+    pub purpose: Option<CoreJsonWebKeyUse>,
+    /// Its ID, where it has one.
+    pub id: Option<JsonWebKeyId>,
+    /// The signature that it takes.
+    pub signature: Body,
 }
 
 /// A key of a verifier.
 #[derive(Drop)]
-pub(crate) enum VerifierKey {
+pub enum VerifierKey {
     /// The key that a client's secret is.
     Secret(CoreJsonWebKey),
     /// A key of the issuer.
@@ -100,17 +107,40 @@ impl JsonWebKey for VerifierKey {
     ) -> Result<Vec<u8>, HashError> {
         match self {
             VerifierKey::Secret(key) => key.hash_bytes(alloc, bytes, alg),
-            VerifierKey::Given(_) => Err(HashError::Unsupported),
+            VerifierKey::Given(_) => hash_by(alloc, bytes, alg),
         }
     }
 
     ghost verdict_is_never_memory = { λ key algorithm message signature h. Prim.grind (arith) };
 }
 
+// The digest by the hash function of an algorithm, which is that of any secret.
+fn hash_by(alloc: Global, bytes: &[u8], alg: &CoreJwsSigningAlgorithm) -> Result<Vec<u8>, HashError>
+    ensures digest { IfOk result (λ digest.
+        digest_by (hash_function alg.now) bytes.now ≡ Some digest.items) }
+    ensures unsupported { result ≡ Err HashError.Unsupported → hash_function alg.now ≡ None }
+{
+    let secret = CoreJsonWebKey::new_symmetric(Vec::new(alloc));
+    let digest = secret.hash_bytes(alloc, bytes, alg);
+    drop(secret);
+    digest
+}
+
 // ---- keys of a line
 
-/// The key that a line gives as `kty:use:kid:hex`.
-pub(crate) fn key_of(alloc: Global, text: &str) -> Result<VerifierKey, CaseError> {
+/// The keys of the issuer that a line gives, each by `key`, in their order.
+pub fn keys_in(alloc: Global, case: &Case) -> Result<JsonWebKeySet<VerifierKey>, CaseError> {
+    let mut keys = Vec::new(alloc);
+    for pair in case.pairs() {
+        if pair.name() == "key" {
+            keys.push(key_of(alloc, pair.value())?)?;
+        }
+    }
+    Ok(JsonWebKeySet::new(keys))
+}
+
+// The key that a line gives as `kty:use:kid:hex`.
+fn key_of(alloc: Global, text: &str) -> Result<VerifierKey, CaseError> {
     let (kind, rest) = cut(text)?;
     let (purpose, rest) = cut(rest)?;
     let (id, signature) = cut(rest)?;
