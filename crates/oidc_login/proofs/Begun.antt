@@ -10,7 +10,6 @@ use Rattle.oidc_oauth2.specs.Replies.{◌>>=◌, ◌>>◌, ◌when◌}
 use Rattle.oidc_client.specs.Authorization.{IsUnmanagedBeside, StandOnce}
 use Rattle.oidc_login.specs.Logins.{Pending}
 use Rattle.oidc_login.specs.Begin.{LoginRequest, Begin, Meant, Begins, is_code_flow, is_long_url, url_with, challenge_or_refusal, url_or_refusal, reply_by}
-use Rattle.oidc_login.specs.Events.{is_accepted}
 use Rattle.oidc_login.specs.declared.errors.BeginError.{BeginError}
 use Rattle.oidc_login.specs.declared.errors.BeginError.TheVariants as begin
 use Rattle.oidc_login.proofs.TokenHash.{differ_back}
@@ -182,23 +181,6 @@ module _ (client_id : List ℕ) (has_endpoint : Bool) (pending : Pending) (b : B
       (when_ok begin.Verifier (not (is_verifier b.verifier)) _ challenge
       (when_ok begin.ClientId (not (bytes_eq b.request.client_id client_id)) _ challenge
       (when_ok begin.Flow (not (is_code_flow b.request.flow)) _ challenge is))))
-
-  free : (challenge : List ℕ) → challenge_or_refusal client_id has_endpoint pending b ≡ Ok challenge → finite.contains_key pending b.request.state ≡ false
-  unfolding challenge_or_refusal
-  free challenge is =
-      when_passed begin.Pending (finite.contains_key pending b.request.state) _ challenge
-      (when_ok begin.UserInfoEndpoint (is_some b.user_info && not has_endpoint) _ challenge
-      (when_ok begin.Verifier (not (is_verifier b.verifier)) _ challenge
-      (when_ok begin.ClientId (not (bytes_eq b.request.client_id client_id)) _ challenge
-      (when_ok begin.Flow (not (is_code_flow b.request.flow)) _ challenge is))))
-
-  free_by : (m : Meant (List ℕ)) → challenge_or_refusal client_id has_endpoint pending b ≡ m → is_accepted (m >>= url_or_refusal b.request) ≡ true → finite.contains_key pending b.request.state ≡ false
-  free_by (Ok challenge) is accepted = free challenge is
-  free_by (Err e) is accepted = absurd cc
-
-  -- the state of an accepted begin was not pending
-  pub was_free : is_accepted reply ≡ true → finite.contains_key pending b.request.state ≡ false
-  was_free accepted = free_by _ refl accepted
 
   accepted_by : (m : Meant (List ℕ)) (url : Parts) → challenge_or_refusal client_id has_endpoint pending b ≡ m → Ok url ≡ (m >>= url_or_refusal b.request) → is_some b.user_info ≡ true → has_endpoint ≡ true
   accepted_by (Ok challenge) url is given = challenged challenge is

@@ -54,7 +54,7 @@ pub verifier_found : (m : Pending) (q : List ℕ) (found : Option SeenLogin) →
 verifier_found m q None h e = tt
 verifier_found m q (Some l) h e = h q l (sym e)
 
-pub same : (x y : List ℕ) → ties x y ≡ true → x ≡ y
+same : (x y : List ℕ) → ties x y ≡ true → x ≡ y
 same x y e = (bytes_decides x y).0 (sym (is_eq-slice_cmp x y) ∙ e)
 
 unmoved : (a : Bool) (y : Option SeenLogin) → (a ≡ true → y ≡ None) → cond a None y ≡ y

@@ -19,7 +19,7 @@ use Rattle.oidc_tokens.specs.Signatures.{key_for}
 use Rattle.oidc_tokens.specs.declared.verification.refusals.ClaimsVerificationError.{ClaimsVerificationError}
 use Rattle.oidc_login.specs.Types.{SiteTypes}
 use Rattle.oidc_login.specs.BeforeRequest.{error_word, state_in, error_in}
-use Rattle.oidc_login.specs.Token.{SeenIdToken, id_token_of, KeyVerifier, verifier_of, is_sent, IsAcceptedBy, failure_for, claimed_hash, claimed_code_hash, refusal_of_claim, claims_another, refusal_beside, is_another_beside}
+use Rattle.oidc_login.specs.Token.{SeenIdToken, id_token_of, KeyVerifier, verifier_of, is_nonce as is_sent, IsAcceptedBy, failure_for, claimed_hash, claimed_code_hash, refusal_of_claim, claims_another, refusal_beside, is_another_beside}
 use Rattle.oidc_login.specs.FrontChannel.{FrontReply, FrontAttempt, SeenFrontAnswer, front_answer, front, id_token_in, access_tokens_in, codes_in, is_several, token_hash_refusal, code_hash_refusal, has_other_token, has_other_code}
 use Rattle.oidc_login.specs.FrontCauses.{IsClaimed, IsAnotherHash, FitsValues, MisfitsValues, HasState, HasNoError, HasIdToken, ReadsIdToken, AcceptsIdToken, own_hash_function, HasHashes, IsFrontAnswer, FrontCause}
 use Rattle.oidc_login.specs.declared.front.FrontError.{FrontError}

@@ -1,20 +1,21 @@
 -- What the table of `front_channel` says of its result, clause by clause.
-use Rattle.std.proofs.Common.{◌≡◌, ℕ, List, [], ◌∷◌, false, Option, Some, Result, Ok, Err, refl, sym, ap, subst, ◌∙◌}
+use Rattle.std.proofs.Common.{◌≡◌, ℕ, ℤ, List, false, Option, None, Some, Result, Ok, Err, refl, sym, ap, subst, ◌∙◌}
 use Rattle.std.specs.Prelude.{IfOk, IfErr, IfSome, OnOk}
 use Rattle.oidc_pairs.specs.Pairs.{pairs, only_of}
 use Rattle.oidc_types.specs.declared.signing_error.SigningError.{SigningError}
 use Rattle.oidc_types.specs.declared.signing_error.SigningError.TheVariants as signing
 use Rattle.oidc_oauth2.specs.Replies.{Unless, Gives}
 use Rattle.oidc_oauth2.proofs.Runs.{unless_map}
+use Rattle.oidc_tokens.specs.declared.verification.refusals.ClaimsVerificationError.TheVariants as check
 use Rattle.oidc_login.specs.Types.{SiteTypes}
 use Rattle.oidc_login.specs.BeforeRequest.{state_in}
-use Rattle.oidc_login.specs.Token.{SeenIdToken, IsAcceptedBy, claimed_hash, claimed_code_hash, HasOwnClaim, HasOwnHash, HasOwnCodeHash}
-use Rattle.oidc_login.specs.FrontChannel.{FrontAttempt, SeenFrontAnswer, front, front_errors, is_memory, holds_memory}
+use Rattle.oidc_login.specs.Token.{SeenIdToken, IsAcceptedBy, claimed_hash, claimed_code_hash, FitsClaim, HasOwnClaim, HasOwnHash, HasOwnCodeHash}
+use Rattle.oidc_login.specs.FrontChannel.{FrontReply, FrontAttempt, SeenFrontAnswer, front, front_errors, is_memory, holds_memory}
 use Rattle.oidc_login.specs.FrontCauses.{FitsValues, IsFrontAnswer, FrontCause}
 use Rattle.oidc_login.specs.declared.front.FrontError.{FrontError}
 use Rattle.oidc_login.specs.declared.front.FrontError.TheVariants as refusal
 use Rattle.oidc_login.proofs.Walks.{Walk}
-use Rattle.oidc_login.proofs.NoMemory.{NeverWants, never_wanted, never_wanting, never_memory}
+use Rattle.oidc_login.proofs.NoMemory.{NeverWants, wanting, never_wanted, never_wanting, never_memory}
 use Rattle.oidc_login.proofs.TokenHash.{fits_own}
 use Rattle.oidc_login.proofs.FrontRows.{front-walk}
 use Rattle.oidc_login.proofs.FrontBack.{refused, answers}

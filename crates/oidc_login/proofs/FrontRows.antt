@@ -15,7 +15,7 @@ use Rattle.oidc_tokens.specs.Signatures.{key_for}
 use Rattle.oidc_tokens.proofs.Theorems.{failure_cause}
 use Rattle.oidc_login.specs.Types.{SiteTypes}
 use Rattle.oidc_login.specs.BeforeRequest.{state_in, error_in}
-use Rattle.oidc_login.specs.Token.{SeenIdToken, id_token_of, KeyVerifier, verifier_of, is_sent, failure_for, claimed_hash, claimed_code_hash, FitsClaim, refusal_of_claim, claims_another, refusal_beside, is_another_beside}
+use Rattle.oidc_login.specs.Token.{SeenIdToken, id_token_of, KeyVerifier, verifier_of, is_nonce as is_sent, failure_for, claimed_hash, claimed_code_hash, FitsClaim, refusal_of_claim, claims_another, refusal_beside, is_another_beside}
 use Rattle.oidc_login.specs.FrontChannel.{FrontAttempt, SeenFrontAnswer, front, id_token_in, access_tokens_in, codes_in, is_several, token_hash_refusal, code_hash_refusal, has_other_token, has_other_code}
 use Rattle.oidc_login.specs.FrontCauses.{IsClaimed, FitsValues, MisfitsValues, HasState, HasNoError, HasIdToken, ReadsIdToken, AcceptsIdToken, HasHashes, FitsToken, IsFrontAnswer, FrontCause}
 use Rattle.oidc_login.specs.declared.front.FrontError.{FrontError}

@@ -12,7 +12,7 @@ use Rattle.oidc_tokens.specs.declared.verification.refusals.ClaimsVerificationEr
 use Rattle.oidc_tokens.specs.Verification.{first_failure, Judges}
 use Rattle.oidc_login.specs.Types.{SeenLoginClient, SiteTypes}
 use Rattle.oidc_login.specs.BeforeRequest.{state_in, error_in}
-use Rattle.oidc_login.specs.Token.{SeenIdToken, id_token_of, KeyVerifier, verifier_of, is_sent, failure_for, claimed_hash, claimed_code_hash, refusal_beside, is_another_beside}
+use Rattle.oidc_login.specs.Token.{SeenIdToken, id_token_of, KeyVerifier, verifier_of, is_nonce as is_sent, failure_for, claimed_hash, claimed_code_hash, refusal_beside, is_another_beside}
 use Rattle.oidc_login.specs.Steps.{RefusesAs}
 use Rattle.oidc_login.specs.FrontChannel.{FrontReply, FrontAttempt, SeenFrontAnswer, front_answer, front, front_errors, is_memory, id_token_in, access_tokens_in, codes_in, is_several, token_hash_refusal, code_hash_refusal, has_other_token, has_other_code}
 use Rattle.oidc_login.specs.FrontSteps.{of_signing, of_check, checked_state, checked_fits, token_in, checked_hashes, checked_token, answer_with, answer_in}

@@ -25,5 +25,3 @@ pub mod FrontCalled
 pub mod NoFloat
 pub mod EventSteps
 pub mod Spent
-pub mod Alike
-pub mod Isolated

@@ -7,7 +7,7 @@ use Rattle.oidc_tokens.specs.declared.verification.refusals.ClaimsVerificationEr
 use Rattle.oidc_tokens.specs.declared.verification.refusals.ClaimsVerificationError.TheVariants.{SignatureVerification, Memory}
 use Rattle.oidc_tokens.proofs.Theorems as tokens
 use Rattle.oidc_login.specs.Types.{SeenLoginClient, SiteTypes}
-use Rattle.oidc_login.specs.Token.{SeenIdToken, verifier_of, is_sent, failure_for}
+use Rattle.oidc_login.specs.Token.{SeenIdToken, verifier_of, is_nonce, failure_for}
 use Rattle.oidc_login.specs.Errors.{is_wanting}
 
 abbrev pub wanting : ClaimsVerificationError
@@ -38,7 +38,7 @@ module _ {AC GC Key Use : Type 0} (types : SiteTypes AC GC Key Use) where
 
   pub never_wanting : NeverWants → (client : SeenLoginClient Key) (sent : List ℕ) (now : ℤ) (token : SeenIdToken AC GC) → failure_for types client sent now token ≢ Some wanting
   never_wanting law client sent now token =
-      tokens.never_memory_inside types.keys law (verifier_of types client) (is_sent sent) now token
+      tokens.never_memory_inside types.keys law (verifier_of types client) (is_nonce sent) now token
 
   pub never_memory : (client : SeenLoginClient Key) (sent : List ℕ) (now : ℤ) (token : SeenIdToken AC GC) → failure_for types client sent now token ≢ Some Memory
-  never_memory client sent now token = tokens.never_memory types.keys (verifier_of types client) (is_sent sent) now token
+  never_memory client sent now token = tokens.never_memory types.keys (verifier_of types client) (is_nonce sent) now token

@@ -29,7 +29,7 @@ use Rattle.oidc_user_info.specs.declared.errors.UserInfoError.TheVariants as inf
 use Rattle.oidc_login.specs.Types.{SiteTypes}
 use Rattle.oidc_login.specs.Logins.{SeenLogin}
 use Rattle.oidc_login.specs.BeforeRequest.{token_request, error_word, login_named_by, error_in, code_in}
-use Rattle.oidc_login.specs.Token.{Tokens, TokenError, error_read, tokens_read, tokens_or_refusal, SeenIdToken, subject_of, verifier_of, is_sent, failure_for, claimed_hash}
+use Rattle.oidc_login.specs.Token.{Tokens, TokenError, error_read, tokens_read, tokens_or_refusal, SeenIdToken, subject_of, verifier_of, is_nonce, failure_for, claimed_hash}
 use Rattle.oidc_login.specs.SignedIn.{SeenSignedIn, signed_by}
 use Rattle.oidc_login.specs.UserInfo.{info_ask}
 use Rattle.oidc_login.specs.Errors.{Error}
@@ -136,7 +136,7 @@ module _ {AC GC Key Use : Type 0} (types : SiteTypes AC GC Key Use) (a : Attempt
         held = h;
         holds = holds;
         check_failed = is;
-        cause = failure_cause types.keys (verifier_of types a.client) (is_sent h.login.nonce) a.now h.token kind is;
+        cause = failure_cause types.keys (verifier_of types a.client) (is_nonce h.login.nonce) a.now h.token kind is;
       }) (λ none_fails.
       let accepted : Accepted types a answers h = record { holds = holds; accepts = accepts types a.client h.login.nonce a.now h.token none_fails } in
       let x = accepted.accepts in

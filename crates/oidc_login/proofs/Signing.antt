@@ -8,7 +8,7 @@ use Rattle.oidc_tokens.specs.declared.verification.refusals.ClaimsVerificationEr
 use Rattle.oidc_tokens.specs.Verification.{first_failure, Judges}
 use Rattle.oidc_login.specs.Types.{SeenLoginClient, SiteTypes}
 use Rattle.oidc_login.specs.Logins.{SeenLogin}
-use Rattle.oidc_login.specs.Token.{SeenIdToken, KeyVerifier, verifier_of, is_sent, failure_for, claimed_hash, hash_beside, Tokens}
+use Rattle.oidc_login.specs.Token.{SeenIdToken, KeyVerifier, verifier_of, is_nonce, failure_for, claimed_hash, hash_beside, Tokens}
 use Rattle.oidc_login.specs.SignedIn.{SeenSignedIn, signed_by}
 use Rattle.oidc_login.specs.Errors.{seen, wants_memory, faulted, spent_of, login_errors}
 use Rattle.oidc_login.specs.Callback.{Meant}
@@ -73,9 +73,9 @@ module _ {AC GC Key Use : Type 0} (types : SiteTypes AC GC Key Use) (client : Se
 
   -- the verifier of a client and the nonce of a login, by other names
   pub same_failure : (verifier : KeyVerifier Key) (sent : List ℕ) → verifier ≡ verifier_of types client → sent ≡ l.nonce
-      → first_failure types.keys verifier (is_sent sent) now token ≡ failure_for types client l.nonce now token
+      → first_failure types.keys verifier (is_nonce sent) now token ≡ failure_for types client l.nonce now token
   same_failure verifier sent own nonce =
-      ap (λ v. first_failure types.keys v (is_sent sent) now token) own ∙ ap (λ n. first_failure types.keys (verifier_of types client) (is_sent n) now token) nonce
+      ap (λ v. first_failure types.keys v (is_nonce sent) now token) own ∙ ap (λ n. first_failure types.keys (verifier_of types client) (is_nonce n) now token) nonce
 
   pub same_hash : {E : Type 0} (result : Result (Unit {0}) (LoginError E)) (verifier : KeyVerifier Key) → verifier ≡ verifier_of types client
       → Gives login_errors result (checked_hash (claimed_hash token) (hash_beside types verifier token access_token)) → Gives login_errors result hash_meant

@@ -1,7 +1,7 @@
 -- A login that was taken out is not there for the next callback.
-use Rattle.std.proofs.Common.{◌≡◌, ◌≤◌, ℕ, ◌+◌, List, [], ◌∷◌, ◌++◌, length, map, Bool, true, false, Option, None, Some, Ok, Err, cond, refl, sym, ap, subst, ◌∙◌, arith, inl, inr, ⊎_elim, lit≤}
+use Rattle.std.proofs.Common.{◌≡◌, ◌≤◌, ℕ, ◌+◌, suc, List, [], ◌∷◌, ◌++◌, length, map, take, Bool, true, false, Option, None, Some, Ok, Err, cond, refl, sym, ap, subst, ◌∙◌, arith, inl, inr, ⊎_elim, lit≤}
 use Rattle.std.specs.Prelude.{◌⊎◌, ◌&&◌, not, if◌then◌else◌, option_and_then}
-use Rattle.std.specs.List.{filter, take_while}
+use Rattle.std.specs.List.{filter, take_while, prefix_len, zip}
 use Rattle.std.specs.FinMap as finite
 use Rattle.std.specs.Ordering.{nat_cmp, eq_by_cmp}
 use Rattle.std.specs.Str.{bytes_eq}
@@ -19,8 +19,8 @@ use Rattle.oidc_login.specs.BeforeRequest.{state_in, login_named_by}
 use Rattle.oidc_login.specs.Callback.{Attempt, Meant, SeenTaken, taken_login, outcome}
 use Rattle.oidc_login.specs.Steps.{taken_run}
 use Rattle.oidc_login.specs.Causes.{Asks, Cause}
-use Rattle.oidc_login.specs.Events.{Call, Event, begins, calls, Step, called_with, begin_step, callback_step, steps_from, store_of, is_accepted, is_of_state, has_any, EventStep, has_sent, calls_back, steps_behind, SpentOnce}
-use Rattle.oidc_login.proofs.EventSteps.{taken_more, goes_on, going_on, event_steps_dropped}
+use Rattle.oidc_login.specs.Events.{Call, Event, begins, calls, Step, called_with, begin_step, callback_step, steps_from, store_of, is_accepted, is_of_state, has_any, EventStep, has_sent, begins_again, calls_back, steps_behind, SpentOnce}
+use Rattle.oidc_login.proofs.EventSteps.{event_steps_dropped}
 use Rattle.oidc_login.proofs.Walks.{Walk}
 use Rattle.oidc_login.proofs.Rows.{taken_login-walk}
 
@@ -162,6 +162,9 @@ module _ {AC GC Key Use : Type 0} (types : SiteTypes AC GC Key Use) (client : Se
 -- ---- the same among the events of a run with their steps
 
 module _ {AC GC : Type 0} (s : List ℕ) where
+  abbrev goes_on : EventStep AC GC → Bool
+  goes_on turn = not (begins_again s turn)
+
   abbrev sent_among : List (EventStep AC GC) → ℕ
   sent_among turns = length (filter (λ (turn : EventStep AC GC). has_sent turn.1) (filter (calls_back s) turns))
 
@@ -176,8 +179,21 @@ module _ {AC GC : Type 0} (s : List ℕ) where
   call_counted true turn turns n rest = one_counted turn.1.sent turn _ n rest
   call_counted false turn turns n rest = omega (arith, rest)
 
+taken_by : {A : Type 0} (x : A) (xs : List A) (n : ℕ) (b : Bool) → take (cond b (1 + n) 0) (x ∷ xs) ≡ cond b (x ∷ take n xs) []
+taken_by x xs n true =
+    let more : 1 + n ≡ suc n = omega arith in
+    ap (λ k. take k (x ∷ xs)) more
+taken_by x xs n false = refl
+
+taken_more : {A : Type 0} (p : A → Bool) (x : A) (xs : List A) → take_while p (x ∷ xs) ≡ cond (p x) (x ∷ take_while p xs) []
+taken_more p x xs = taken_by x xs (prefix_len p xs) (p x)
+
 module _ {AC GC Key Use : Type 0} (types : SiteTypes AC GC Key Use) (client : SeenLoginClient Key) where
-  counted : (s : List ℕ) (later : List Event) (m : Pending) → sent_among s (going_on types client s later m) ≡ sending types client s m later
+  -- events with their steps from a store on, up to the next accepted begin of a state
+  abbrev going_on : List ℕ → List Event → Pending → List (EventStep AC GC)
+  going_on s later m = take_while (goes_on s) (zip later (steps_from types client m later))
+
+  counted : (s : List ℕ) (later : List Event) (m : Pending) → sent_among s (going_on s later m) ≡ sending types client s m later
   counted s [] m = refl
   counted s (begins b ∷ later) m =
       ap (sent_among s) (taken_more (goes_on s) (begins b, begin_step types client m b) _)
@@ -185,7 +201,7 @@ module _ {AC GC Key Use : Type 0} (types : SiteTypes AC GC Key Use) (client : Se
       (counted s later (begin_step types client m b).pending)
   counted s (calls c ∷ later) m =
       ap (sent_among s) (taken_more (goes_on s) (calls c, callback_step types client m c) _)
-      ∙ call_counted s (is_of_state s (state_in (pairs c.query))) (calls c, callback_step types client m c) (going_on types client s later (callback_step types client m c).pending) _
+      ∙ call_counted s (is_of_state s (state_in (pairs c.query))) (calls c, callback_step types client m c) (going_on s later (callback_step types client m c).pending) _
       (counted s later (callback_step types client m c).pending)
 
 -- ---- the run of a begin and its callbacks alone

@@ -112,10 +112,10 @@ module _ {AC GC Key Use : Type 0} (types : SiteTypes AC GC Key Use) (a : FrontAt
 
   -- ---- an Ok
 
-  -- An answer that is accepted: the query has the request's state, no error, one ID token, which the client accepts with
-  -- the request's nonce at this moment, and at most one access token and one code. The `at_hash` is absent, or there is
-  -- no access token, or it is the hash of the one, by the algorithm and under the key of the acceptance; and so the
-  -- `c_hash` and the code. (It rests on no record before, so that it can be read alone.)
+  -- An answer that is accepted: the query has the request's state, no error and one ID token, which the client accepts
+  -- with the request's nonce at this moment. Its `at_hash` and its `c_hash` are each absent, without a value in the
+  -- query, or the hash of the one value, by the algorithm and under the key of the acceptance. (It rests on no record
+  -- before, so that it can be read alone.)
   pub record IsFrontAnswer (answer : SeenFrontAnswer AC GC) : Type 0 where
     pub short_query : is_over_long a.query ≡ false
     pub own_state : only_of (values a.query (codes "state")) ≡ Some a.state

@@ -8,7 +8,7 @@ use Rattle.oidc_oauth2.specs.Replies.{◌>>=◌, ◌>>◌, ◌when◌, ◌for◌
 use Rattle.oidc_oauth2.specs.TokenAnswers.{is_over_long}
 use Rattle.oidc_login.specs.Types.{SeenLoginClient, SiteTypes}
 use Rattle.oidc_login.specs.BeforeRequest.{state_in, error_in}
-use Rattle.oidc_login.specs.Token.{SeenIdToken, id_token_of, KeyVerifier, verifier_of, is_sent, failure_for, claimed_hash, claimed_code_hash, refusal_beside, is_another_beside}
+use Rattle.oidc_login.specs.Token.{SeenIdToken, id_token_of, KeyVerifier, verifier_of, is_nonce as is_sent, failure_for, claimed_hash, claimed_code_hash, refusal_beside, is_another_beside}
 use Rattle.oidc_login.specs.Errors.{is_wanting}
 use Rattle.oidc_login.specs.declared.front.FrontError.{FrontError}
 use Rattle.oidc_login.specs.declared.front.FrontError.TheVariants as refusal
@@ -98,7 +98,7 @@ front types a = do
   Provider for error_in (pairs a.query)
   -- 3.2.2.5, 3.3.2.5
   text ← id_token_in (pairs a.query) or NoIdToken
-  -- section 2; RFC 7515 section 7.1
+  -- 2
   token ← id_token_of types text or_as Parse
   -- 3.2.2.11, 3.3.2.12; 3.1.3.7
   Claims for failure_for types a.client a.nonce a.now token

@@ -1,8 +1,8 @@
 -- In reading order: what a site brings; pending logins, what a begin answers and what it leaves; what the query of a
 -- callback names and the token request; its answer with the ID token and the hash in it; the request for user info; who
 -- is signed in; the table of a callback, what each reply rests on, which logins are valid, and what a callback leaves of
--- a transport and of the store; begins and callbacks, one after another, each login by itself, and dealt to several stores.
--- Then the table of an implicit or a hybrid answer, and what each such answer rests on.
+-- a transport and of the store; begins and callbacks, one after another. Then the table of an implicit or a hybrid answer,
+-- and what each such answer rests on.
 pub mod Types
 pub mod Logins
 pub mod Begin
@@ -16,7 +16,6 @@ pub mod Causes
 pub mod ValidLogin
 pub mod Runs
 pub mod Events
-pub mod Isolation
 pub mod FrontChannel
 pub mod FrontCauses
 -- lower words that these cite

@@ -1,5 +1,5 @@
 -- The answer to a login's token request, and the ID token among its tokens: RFC 6749 sections 5.1 and 5.2, OpenID Connect
--- Core 1.0 sections 2, 3.1.3.3, 3.1.3.6 to 3.1.3.8, 3.2.2.9, 3.3.2.10 and 3.3.2.11.
+-- Core 1.0 sections 2, 3.1.3.3, 3.1.3.6 to 3.1.3.8 and 3.3.2.11.
 use Rattle.std.specs.Prelude.{◌≡◌, ℕ, ℤ, List, [], Bool, false, not, Option, None, Some, Result, Ok, Err}
 use Rattle.std.specs.Option.{option_map_or}
 use Rattle.std.specs.Str.{bytes_eq}
@@ -80,9 +80,9 @@ module _ {AC GC Key Use : Type 0} (types : SiteTypes AC GC Key Use) where
 
 -- ---- what is expected of the ID token
 
--- a text is there, and is the one that was sent
-abbrev pub is_sent : List ℕ → Option (List ℕ) → Bool
-is_sent sent text = option_map_or (λ n. bytes_eq n sent) text false
+-- a nonce is there, and is the one that was sent
+abbrev pub is_nonce : List ℕ → Option (List ℕ) → Bool
+is_nonce sent nonce = option_map_or (λ n. bytes_eq n sent) nonce false
 
 abbrev pub KeyVerifier : Type 0 → Type 0
 KeyVerifier Key = SeenVerifier Key CoreJwsSigningAlgorithm
@@ -95,17 +95,17 @@ module _ {AC GC Key Use : Type 0} (types : SiteTypes AC GC Key Use) where
 
   -- a client accepts the token, with the nonce that was sent, at this moment (nanoseconds since the Unix epoch)
   abbrev pub IsAcceptedBy : SeenLoginClient Key → List ℕ → ℤ → SeenIdToken AC GC → Type 0
-  IsAcceptedBy client sent now token = Accepts types.keys (verifier_of client) (is_sent sent) now token
+  IsAcceptedBy client sent now token = Accepts types.keys (verifier_of client) (is_nonce sent) now token
 
   -- the first check of a token that fails
   abbrev pub failure_for : SeenLoginClient Key → List ℕ → ℤ → SeenIdToken AC GC → Option ClaimsVerificationError
   failure_for client sent now token =
-      first_failure types.keys (verifier_of client) (is_sent sent) now token
+      first_failure types.keys (verifier_of client) (is_nonce sent) now token
 
   -- why a check of a token fails, said by itself
   abbrev pub FailsFor : SeenLoginClient Key → List ℕ → ℤ → SeenIdToken AC GC → ClaimsVerificationError → Type 0
   FailsFor client sent now token kind =
-      Cause types.keys (verifier_of client) (is_sent sent) now token kind
+      Cause types.keys (verifier_of client) (is_nonce sent) now token kind
 
 -- ---- the hashes of an access token and of a code that the ID token beside them may hold
 

@@ -8,7 +8,7 @@ ghost use Rattle.oidc_oauth2.specs.Replies.{Gives, Unless};
 ghost use Rattle.oidc_login.specs.Types.{site_types};
 ghost use Rattle.oidc_login.specs.BeforeRequest as request;
 ghost use Rattle.oidc_login.specs.BeforeRequest.{state_in};
-ghost use Rattle.oidc_login.specs.Token.{is_sent, IsAcceptedBy, HasOwnHash, HasOwnCodeHash};
+ghost use Rattle.oidc_login.specs.Token.{is_nonce as is_sent, IsAcceptedBy, HasOwnHash, HasOwnCodeHash};
 ghost use Rattle.oidc_login.specs.FrontChannel.{front, front_attempt, front_errors, is_memory, holds_memory, is_several, access_tokens_in, codes_in, SeenFrontAnswer};
 ghost use Rattle.oidc_login.specs.FrontCauses.{FrontCause, IsFrontAnswer};
 ghost use Rattle.oidc_login.specs.FrontSteps as steps;
@@ -32,8 +32,7 @@ use std::alloc::{AllocError, Global};
 use std::marker::Model;
 use thiserror::Error;
 
-/// Why a query is no answer of an implicit or a hybrid flow that is accepted. `Debug` shows no token and no
-/// authorization code.
+/// Why a query is no answer of an implicit or a hybrid flow that is accepted. `Debug` shows no token and no code.
 #[derive(Debug, Drop, Error)]
 pub enum FrontError {
     /// The query has more than 1,048,576 bytes.

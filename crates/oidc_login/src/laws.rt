@@ -3,7 +3,6 @@
 
 ghost use Rattle.oidc_login.specs.Types.{site_types};
 ghost use Rattle.oidc_login.specs.Events.{SpentOnce, ValidSignsIn};
-ghost use Rattle.oidc_login.specs.Isolation.{RunsAsAlone, RunsAsOneStore};
 
 use oidc_claims::{AdditionalClaims, GenderClaim};
 use oidc_keys::JsonWebKey;
@@ -33,31 +32,4 @@ pub fn valid_signs_in<
     ensures { let types = site_types AC.read_of GC.read_of
         K.JsonWebKey K.KeyUse.JsonWebKeyUse in
         ValidSignsIn types }
-{}
-
-/// Each login's run is the run of its own events. Whatever begins and callbacks of others come before an accepted begin,
-/// between its callbacks and behind them, repeated, mixed up or hostile: in the run of it and its callbacks alone it is
-/// accepted too, each callback gets the same reply and sends the same requests, and behind each its state is pending in
-/// both runs or in neither. No run here wants for memory.
-pub fn isolation<
-    AC: AdditionalClaims,
-    GC: GenderClaim,
-    K: JsonWebKey<SigningAlgorithm = CoreJwsSigningAlgorithm>,
->()
-    ensures { let types = site_types AC.read_of GC.read_of
-        K.JsonWebKey K.KeyUse.JsonWebKeyUse in
-        RunsAsAlone types }
-{}
-
-/// A site may run many processes, each with a store of its own, behind a balancer that routes by state: where all events
-/// of one state go to one store, each event gets the reply and sends the requests that it would in one store that gets
-/// all events, and behind it its state is pending in both or in neither. A callback that hasn't one state may go to any.
-pub fn shards<
-    AC: AdditionalClaims,
-    GC: GenderClaim,
-    K: JsonWebKey<SigningAlgorithm = CoreJwsSigningAlgorithm>,
->()
-    ensures { let types = site_types AC.read_of GC.read_of
-        K.JsonWebKey K.KeyUse.JsonWebKeyUse in
-        RunsAsOneStore types }
 {}

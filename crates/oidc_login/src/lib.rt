@@ -24,11 +24,10 @@
 //! memory has its cause, and a valid login is signed in, or the answer is want of memory. The contracts of `begin` and
 //! `callback` say so by the definitions in `specs/`: the table of a callback in `specs/Callback.antt`, what each reply
 //! rests on in `specs/Causes.antt`, a valid login in `specs/ValidLogin.antt`, and all together as `Ran` in
-//! `specs/Runs.antt`; whole runs in `specs/Events.antt`, and each login's among others and alone, in one store and in
-//! several, in `specs/Isolation.antt`.
+//! `specs/Runs.antt`; whole runs in `specs/Events.antt`.
 //!
-//! Of `front_channel` each refusal but want of memory has its cause too, and each cause its refusal: its table stands in
-//! `specs/FrontChannel.antt`, what each of its answers rests on in `specs/FrontCauses.antt`. An answer is accepted only with the state and the nonce that are handed
+//! Of `front_channel` the same holds without a transport: its table stands in `specs/FrontChannel.antt`, what each of its
+//! answers rests on in `specs/FrontCauses.antt`. An answer is accepted only with the state and the nonce that are handed
 //! in; an `at_hash` or a `c_hash` that is absent binds nothing.
 //!
 //! `Ran` says all this for some answers. Where the transport keeps a log, they are those that came.

@@ -1,5 +1,5 @@
-//! Tests of oidc_login that no line of `vectors_logins` can say: logins over transports that fail (a closure, one of the
-//! test's own, one in memory), begins with requests of other clients and flows, very many logins that pend at once.
+//! Tests of oidc_login that no line of `vectors_logins` can say: logins over a closure and over a transport of the test's
+//! own, begins with requests of other clients and flows, very many logins that pend at once.
 //!
 //! The transport is the crate's only item outside of its tests, since its trait has laws: its contract is that of the
 //! trait. No crate stands on this one.

@@ -1,5 +1,5 @@
-//! Logins over transports of the test's own and one in memory that fail, and begins with requests of other clients and
-//! flows. The verifier is that of RFC 7636, appendix B.
+//! Logins over transports of the test's own, and begins with requests of other clients and flows. The verifier is that
+//! of RFC 7636, appendix B.
 
 use crate::transports::{Down, Fleeting, TOKEN, echo};
 use jiff::Timestamp;
@@ -13,7 +13,7 @@ use oidc_login::{
     UserInfoDemand,
 };
 use oidc_oauth2::{
-    Adapter, Answer, Body, HttpRequest, HttpResponse, Recorded, RequestTokenError, SyncHttpClient,
+    Adapter, HttpRequest, HttpResponse, Recorded, RequestTokenError, SyncHttpClient,
 };
 use oidc_types::{
     ClientId, ClientSecret, CoreGenderClaim, CoreJwsSigningAlgorithm, CsrfToken, EndpointMaybeSet,
@@ -242,67 +242,6 @@ fn callbacks_over_a_transport_of_ones_own(rt: HostRuntime) {
             logins_over_own(&rt, rt.alloc(), *user_info).as_str(),
             *want
         );
-    }
-}
-
-// ---- over a transport in memory
-
-// A response with tokens, of which the access token is `abc`.
-fn tokens(rt: &impl Abort, alloc: Global) -> HttpResponse {
-    let body = format!(in alloc;
-        "{{\"access_token\":\"abc\",\"token_type\":\"Bearer\",\"id_token\":\"{TOKEN}\"}}"
-    ).expect(rt, "memory");
-    http::Response::new(alloc, Body::new(body.into_bytes()))
-}
-
-// Answers by their letters: `t` for tokens, and another for a fault.
-fn answers(rt: &impl Abort, alloc: Global, letters: &str) -> Vec<Answer> {
-    let mut answers = Vec::new(alloc);
-    for letter in letters.as_bytes() {
-        let answer = match *letter {
-            b't' => Answer::Response(tokens(rt, alloc)),
-            _ => Answer::Fault,
-        };
-        answers.push(answer).expect(rt, "memory");
-    }
-    answers
-}
-
-// A login over a transport that gives these answers, and how many requests were handed over.
-fn login_over_recorded(
-    rt: &impl Abort,
-    alloc: Global,
-    letters: &str,
-    user_info: Option<UserInfoDemand>,
-) -> String {
-    let client = client_of(rt, alloc, "aaa");
-    let mut http = Recorded::new(alloc, answers(rt, alloc, letters));
-    let line = login(rt, alloc, &client, &mut http, user_info);
-    drop(client);
-    format!(in alloc; "{line} {}", http.requests().len()).expect(rt, "memory")
-}
-
-const NO_TOKENS: &str = "true false no tokens: the request failed: no response; true 1";
-
-const NO_USER_INFO: &str = "true false no user info: the request failed: no response; true 2";
-
-// The answers, what is demanded, and the line. A fault, or no answer any more, spends the login, at the first request as at
-// the second.
-static RECORDED: [(&str, Option<UserInfoDemand>, &str); 7] = [
-    ("f", None, NO_TOKENS),
-    ("f", Some(UNSIGNED), NO_TOKENS),
-    ("ft", Some(UNSIGNED), NO_TOKENS),
-    ("", Some(UNSIGNED), NO_TOKENS),
-    ("tf", Some(UNSIGNED), NO_USER_INFO),
-    ("t", Some(UNSIGNED), NO_USER_INFO),
-    ("tf", None, "true false u1 abc true 1"),
-];
-
-#[test]
-fn callbacks_over_a_transport_in_memory(rt: HostRuntime) {
-    for (letters, user_info, want) in &RECORDED {
-        let line = login_over_recorded(&rt, rt.alloc(), letters, *user_info);
-        assert_eq!(rt; line.as_str(), *want, "{letters}");
     }
 }
 

@@ -9,8 +9,6 @@
 mod claims;
 #[cfg(test)]
 mod client;
-#[cfg(test)]
-mod many_members;
 pub mod tenant;
 #[cfg(test)]
 mod tokens;

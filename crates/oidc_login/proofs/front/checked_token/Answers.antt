@@ -1,5 +1,6 @@
+use Rattle.std.proofs.Common.{sym, ◌∙◌}
 use Rattle.oidc_login.specs.Types.{site_types}
-use Rattle.oidc_login.proofs.Fronts.{passed, refused_by}
+use Rattle.oidc_login.proofs.Fronts.{passed, refused_by, same_failure}
 use Rattle.oidc_login.proofs.front.checked_token.Goals as goal
 
 pub returns-in-Ok-claims-clause-gives : goal.returns-in-Ok-claims-clause-gives

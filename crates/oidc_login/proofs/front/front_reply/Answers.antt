@@ -18,8 +18,8 @@ returns-in-Ok-checked_state-clause-reply g c =
     after_state types (front_attempt c.args.client.now c.args.query.now c.args.state.now c.args.nonce.now c.args.now.nanosecond) _ c.in-Ok.ensures short c.answer_in.result
     c.in-Ok-checked_state.ensures c.answer_in.ensures
 
-pub returns-clause-reply : goal.returns-clause-reply
-returns-clause-reply g c =
+pub returns-in-Err-clause-reply : goal.returns-in-Err-clause-reply
+returns-in-Err-clause-reply g c =
     let types = site_types g.AC.AdditionalClaims.read_of g.GC.GenderClaim.read_of g.K.JsonWebKey g.K.KeyUse.JsonWebKeyUse in
     let short : is_over_long c.args.query.now ≡ false = cc in
     state_stops types (front_attempt c.args.client.now c.args.query.now c.args.state.now c.args.nonce.now c.args.now.nanosecond) _ c.in-Ok.ensures short c.in-Err.error
