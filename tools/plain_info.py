@@ -4,6 +4,7 @@
     tools/plain_info.py answers   reads cases of info_claims, info_request, info_answer and info_issue
                                   and answers each: a line each; any other line comes back as it came
     tools/plain_info.py cases     280 generated cases, a line each
+    tools/plain_info.py readings  cases of booleans and moments as texts, under each of the four readings
 
 It is a second reader, verifier and issuer beside oidc_user_info, over plain_tokens.py, plain_records.py and plain_claims.py:
 OpenID Connect Core 1.0 sections 5.1, 5.1.2 and 5.3, RFC 6750 section 2.1. Each member of an object is judged by
@@ -14,7 +15,7 @@ import plain_claims
 import plain_tokens
 from plain_answers import fits_address
 from plain_records import (
-    LONGEST_BODY, NoCase, Refused, answer_of, has_essence, is_text, members_of, ok, read_case, run_reader,
+    LONGEST_BODY, NoCase, Refused, answer_of, has_essence, is_text, members_of, ok, read_case, reading_in, run_reader,
     text_or_texts_fault, url_fault,
 )
 from plain_tokens import check, check_there, encoded, fault_in, value_of
@@ -29,9 +30,9 @@ def claim_fault(before, member):
     return fault_in(INFO, before, member) or plain_claims.fault_of(before, member)
 
 
-def claim_members(text):
+def claim_members(text, reading=plain_claims.STRICT):
     """The members of user info, none of which is faulty, with `sub` among them."""
-    members = members_of(text)
+    members = plain_claims.read_by(members_of(text), reading)
     check(members, claim_fault)
     check_there(members, ["sub"])
     return members
@@ -61,13 +62,13 @@ def subject_of(members):
 # ---- tokens
 
 
-def token_of(text):
+def token_of(text, reading=plain_claims.STRICT):
     parts = text.split(".")
     if len(parts) != 3:
         raise Refused("token")
     header, claims, signature = [plain_tokens.decoded(part) for part in parts]
     header = plain_tokens.header_of(header)
-    return plain_tokens.Token(header, claim_members(claims), parts[0] + "." + parts[1], signature)
+    return plain_tokens.Token(header, claim_members(claims, reading), parts[0] + "." + parts[1], signature)
 
 
 def first_failure(client, token):
@@ -105,7 +106,7 @@ def claims_in(client, body):
     """The members of an answer that is an object, or the words of its refusal."""
     if client["signed"]:
         return None, "claims no_signature"
-    members = claim_members(body)
+    members = claim_members(body, client["reading"])
     is_expected = client["subject"] in (None, subject_of(members))
     return (members, None) if is_expected else (None, "claims invalid_subject")
 
@@ -115,7 +116,7 @@ def claims_in_token(client, body):
         text = body.decode("utf-8")
     except UnicodeDecodeError:
         return None, "utf8"
-    token = token_of(text)
+    token = token_of(text, client["reading"])
     failure = first_failure(client, token)
     return (None, "claims " + failure) if failure else (token.members, None)
 
@@ -137,7 +138,8 @@ def judged(client, status, content_type, body):
 
 
 def info_claims(line):
-    members = claim_members(read_case(line, {"text"})[0]["text"].encode())
+    found, _ = read_case(line, {"text"}, {"reading"})
+    members = claim_members(found["text"].encode(), reading_in(found))
     additional = plain_claims.written_object(additional_of(members))
     return ok([("written", written(members)), ("additional", additional)])
 
@@ -157,15 +159,15 @@ def flag(found, name):
 
 
 def info_answer(line):
-    optional = {"type", "subject", "signed", "any_issuer", "any_audience"}
+    optional = {"type", "subject", "signed", "any_issuer", "any_audience", "reading"}
     found, keys = read_case(line, {"status", "body", "id", "issuer"}, optional, "key")
     answer = answer_of(found)
     if answer is None or url_fault(found["issuer"]):
         raise NoCase
     client = {"id": found["id"], "issuer": found["issuer"], "subject": found.get("subject"),
               "signed": flag(found, "signed"), "issuer_match": not flag(found, "any_issuer"),
-              "audience_match": not flag(found, "any_audience"), "secret": None, "algs": ["RS256"],
-              "keys": [plain_tokens.key_in(key) for key in keys]}
+              "audience_match": not flag(found, "any_audience"), "reading": reading_in(found), "secret": None,
+              "algs": ["RS256"], "keys": [plain_tokens.key_in(key) for key in keys]}
     try:
         members, refusal = judged(client, *answer[1])
     except Refused as refused:
@@ -174,10 +176,11 @@ def info_answer(line):
 
 
 def info_issue(line):
-    found, _ = read_case(line, {"claims", "secret", "alg"})
+    found, _ = read_case(line, {"claims", "secret", "alg"}, {"reading"})
     alg = plain_tokens.algorithm_in(found["alg"])
+    reading = reading_in(found)
     try:
-        claims = written(claim_members(found["claims"].encode()))
+        claims = written(claim_members(found["claims"].encode(), reading))
     except Refused:
         raise NoCase from None
     if not alg.startswith("HS"):
@@ -239,6 +242,17 @@ class Choices(plain_tokens.Choices):
         return line + self.issuer_keys("RSA")
 
 
+def readings():
+    """User info under each of the four readings."""
+    for beside in ['"email_verified":"true"', '"email_verified":"True"', '"phone_number_verified":"false"',
+                   '"updated_at":"2021-12-22T02:10:37Z"', '"updated_at":"2021-12-22t03:10:37.5+01:00"',
+                   '"updated_at":"2021-02-29T00:00:00Z"', '"updated_at":"1640139037"', '"updated_at":1640139037',
+                   '"updated_at":null,"email_verified":null', '"email_verified":"no","updated_at":"no"',
+                   '"exp":"2021-12-22T02:10:37Z","iat":"true","zz":"false"', '"iss":"https://a","aud":"true"']:
+        for reading in plain_claims.READINGS:
+            yield plain_claims.case("info_claims", reading, '{"sub":"u",' + beside + "}")
+
+
 def cases():
     choices = Choices(3)
     made = plain_tokens.distinct
@@ -247,4 +261,4 @@ def cases():
 
 
 if __name__ == "__main__":
-    run_reader(__doc__, OPERATIONS, cases)
+    run_reader(__doc__, OPERATIONS, cases, readings)

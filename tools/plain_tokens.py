@@ -5,6 +5,7 @@
                                     token_response and token_answer from standard input, and answers each: a line
                                     each; any other line comes back as it came
     tools/plain_tokens.py cases     360 generated cases, a line each
+    tools/plain_tokens.py readings  cases of booleans and moments as texts, under each of the four readings
 
 It is a second reader, verifier and issuer beside oidc_tokens, over Python's json, base64, hashlib and hmac:
 RFC 7515 sections 2, 4.1, 5 and 7.1, RFC 7518 section 3.1, RFC 7519 sections 5 and 7, OpenID Connect Core 1.0
@@ -21,7 +22,7 @@ from collections import namedtuple
 
 import plain_claims
 from plain_records import (
-    TOKENS, NoCase, Refused, answer_of, cut_scopes, is_text, members_of, moment_fault, ok, read_case, run_reader,
+    TOKENS, NoCase, Refused, answer_of, cut_scopes, is_text, members_of, moment_fault, ok, read_case, reading_in, run_reader,
     text_fault, text_or_texts_fault, texts_fault, there, token_type_of, tokens_in, tokens_of, url_fault,
 )
 
@@ -119,9 +120,13 @@ def claim_fault(before, member):
     return fault_in(OWN, before, member) or plain_claims.fault_of(before, member)
 
 
-def claim_members(text):
+# The moments among them, which a reading may take as texts.
+MOMENT_FIELDS = ("exp", "iat", "auth_time")
+
+
+def claim_members(text, reading=plain_claims.STRICT):
     """The members of the claims of an ID token, none of which is faulty or missing."""
-    members = members_of(text)
+    members = plain_claims.read_by(members_of(text), reading, MOMENT_FIELDS)
     check(members, claim_fault)
     check_there(members, ["iss", "exp", "iat", "sub"])
     return members
@@ -164,12 +169,12 @@ def decoded(part):
     return read
 
 
-def token_of(text):
+def token_of(text, reading=plain_claims.STRICT):
     parts = text.split(".")
     if len(parts) != 3:
         raise Refused("token")
     header, claims, signature = [decoded(part) for part in parts]
-    return Token(header_of(header), claim_members(claims), parts[0] + "." + parts[1], signature)
+    return Token(header_of(header), claim_members(claims, reading), parts[0] + "." + parts[1], signature)
 
 
 # ---- hashes and signatures
@@ -237,7 +242,8 @@ def first_failure(client, nonce, now, token):
     failure = signature_failure(client, token.header, token.message, token.signature)
     if failure:
         return failure
-    if now >= own["exp"]:
+    # The fraction of a second counts here, though it isn't written.
+    if now > own["exp"] or now == own["exp"] and not getattr(own["exp"], "has_fraction", False):
         return "expired"
     return None if own.get("nonce") == nonce else "invalid_nonce"
 
@@ -277,14 +283,16 @@ def header(line):
 
 
 def id_claims(line):
-    members = claim_members(read_case(line, {"text"})[0]["text"].encode())
+    found, _ = read_case(line, {"text"}, {"reading"})
+    members = claim_members(found["text"].encode(), reading_in(found))
     additional = plain_claims.written_object(additional_of(members))
     return ok([("written", written(members)), ("additional", additional)])
 
 
 def token(line):
-    text = read_case(line, {"text"})[0]["text"]
-    read = token_of(text)
+    found, _ = read_case(line, {"text"}, {"reading"})
+    text = found["text"]
+    read = token_of(text, reading_in(found))
     return ok([("header", decoded(text.split(".")[0]).decode()), ("written", written(read.members)),
                ("message", read.message), ("signature", read.signature.hex())])
 
@@ -319,11 +327,12 @@ def client_in(found, keys):
 
 
 def verify(line):
-    found, keys = read_case(line, {"token", "id", "issuer", "nonce", "now"}, {"secret", "algs"}, "key")
+    found, keys = read_case(line, {"token", "id", "issuer", "nonce", "now"}, {"secret", "algs", "reading"}, "key")
     client = client_in(found, keys)
     now = now_in(found["now"])
+    reading = reading_in(found)
     try:
-        read = token_of(found["token"])
+        read = token_of(found["token"], reading)
     except Refused:
         raise NoCase from None
     failure = first_failure(client, found["nonce"], now, read)
@@ -358,10 +367,11 @@ def signed(claims, secret, alg):
 
 
 def issue(line):
-    found, _ = read_case(line, {"claims", "secret", "alg"}, {"access_token", "code"})
+    found, _ = read_case(line, {"claims", "secret", "alg"}, {"access_token", "code", "reading"})
     alg = algorithm_in(found["alg"])
+    reading = reading_in(found)
     try:
-        members = claim_members(found["claims"].encode())
+        members = claim_members(found["claims"].encode(), reading)
     except Refused:
         raise NoCase from None
     if not alg.startswith("HS"):
@@ -374,38 +384,38 @@ def issue(line):
 # ---- token responses, with an ID token or without
 
 
-def token_fault(value):
-    """A text that is a token. A refusal inside it has the kind and the field that it names."""
-    if is_text(value):
-        token_of(value)
-    return text_fault(value)
-
-
-ID_TOKEN = [("id_token", token_fault, False)]
+def id_token_fields(reading=plain_claims.STRICT):
+    """The field of an ID token, which is read under a reading. A refusal inside it has the kind and the field that it
+    names."""
+    def token_fault(value):
+        if is_text(value):
+            token_of(value, reading)
+        return text_fault(value)
+    return [("id_token", token_fault, False)]
 
 
 def further_in(found):
-    """The extra fields that a case asks for."""
-    if found.get("extra", "id_token") != "id_token":
+    """The extra fields that a case asks for. A reading stands beside these alone."""
+    if found.get("extra", "id_token") != "id_token" or "reading" in found and "extra" not in found:
         raise NoCase
-    return ID_TOKEN if "extra" in found else []
+    return id_token_fields(reading_in(found)) if "extra" in found else []
 
 
 def written_tokens(found):
     found = {**found, "token_type": token_type_of(found["token_type"])}
-    shown = dict(there(found, [field for field, _, _ in TOKENS + ID_TOKEN]))
+    shown = dict(there(found, [field for field, _, _ in TOKENS + id_token_fields()]))
     return json.dumps(shown, separators=(",", ":"), ensure_ascii=False)
 
 
 def token_response(line):
-    case, _ = read_case(line, {"text"}, {"extra"})
+    case, _ = read_case(line, {"text"}, {"extra", "reading"})
     found = tokens_of(members_of(case["text"].encode()), further_in(case))
     span = [("expires_in", str(value)) for _, value in there(found, ["expires_in"])]
     return ok([("written", written_tokens(found))] + span + cut_scopes(found))
 
 
 def token_answer(line):
-    case, _ = read_case(line, {"status", "body"}, {"type", "extra"})
+    case, _ = read_case(line, {"status", "body"}, {"type", "extra", "reading"})
     further = further_in(case)
     answer = answer_of(case)
     if answer is None:
@@ -505,6 +515,37 @@ def distinct(made, count):
     return list(out)
 
 
+# A moment in several spellings, and texts that are none.
+DATE_TIMES = ["1970-01-01T00:33:20Z", "1970-01-01t01:33:20.9+01:00", "1970-01-01T00:33:20", "2021-02-29T00:00:00Z",
+              "9999-12-31T00:00:00Z", "2000", ""]
+
+# Claims of an ID token beside `iss` and `sub`, for which a reading counts.
+DATED = [f'"exp":"{text}","iat":900' for text in DATE_TIMES] \
+    + [f'"exp":2000,"iat":"{text}"' for text in DATE_TIMES] \
+    + [f'"exp":2000,"iat":900,"auth_time":"{text}"' for text in DATE_TIMES] \
+    + [f'"exp":2000,"iat":900,"updated_at":"{text}"' for text in DATE_TIMES] \
+    + ['"exp":2000,"iat":900,"auth_time":null,"updated_at":null,"email_verified":null', '"exp":null,"iat":900',
+       '"exp":"1970-01-01T00:33:20Z","iat":"1970-01-01T00:15:00Z","auth_time":"1970-01-01T00:14:59.5Z",'
+       '"email_verified":"false","updated_at":"1969-12-31T23:59:59.5Z"',
+       '"exp":2000,"iat":900,"email_verified":"true","phone_number_verified":"True"',
+       '"exp":2000,"iat":900,"email_verified":"true","nonce":"true","exp#":"no"',
+       '"exp":"1970-01-01T00:33:20Z","iat":900,"exp":2000', '"exp":true,"iat":900',
+       '"exp":2000,"iat":900,"nbf":"1970-01-01T00:15:00Z","zz":"true"',
+       '"iat":"no","exp":"1970-01-01T00:33:20Z"', '"exp":"1970-01-01T00:33:20Z"']
+
+
+def readings():
+    """Claims and tokens under each of the four readings."""
+    for beside in DATED:
+        payload = '{"iss":"https://a","sub":"u",' + beside + "}"
+        for reading in plain_claims.READINGS:
+            yield plain_claims.case("id_claims", reading, payload)
+    for beside in DATED[7 * 4:]:
+        message = encoded(b'{"alg":"HS256"}') + "." + encoded(('{"iss":"https://a","sub":"u",' + beside + "}").encode())
+        for reading in plain_claims.READINGS:
+            yield plain_claims.case("token", reading, message + "." + encoded(mac("s", "HS256", message)))
+
+
 def cases():
     choices = Choices(2)
     return distinct(lambda: plain_form([("op", "id_claims"), ("text", choices.claims_object())]), OBJECTS) \
@@ -512,4 +553,4 @@ def cases():
 
 
 if __name__ == "__main__":
-    run_reader(__doc__, OPERATIONS, cases)
+    run_reader(__doc__, OPERATIONS, cases, readings)

@@ -120,12 +120,12 @@ module _ {Key : Type 0} (ask : SeenInfoRequest Key) where
       pub record ReadsObject (found : Claims) : Type 0 where
         pub body : List ℕ
         pub allows : AllowsObject body
-        pub read : claims_in r.additional r.gender body ≡ Ok found
+        pub read : claims_in r.additional r.gender ask.demand.reading body ≡ Ok found
 
       pub record ReadsToken (token : InfoToken) : Type 0 where
         pub body : List ℕ
         pub holds : HoldsText body
-        pub read : token_in r body ≡ Ok token
+        pub read : token_in r ask.demand.reading body ≡ Ok token
 
       -- ---- an Ok
 
@@ -150,12 +150,12 @@ module _ {Key : Type 0} (ask : SeenInfoRequest Key) where
       pub record ObjectIsRefused (refusal : Refusal) : Type 0 where
         pub body : List ℕ
         pub allows : AllowsObject body
-        pub refused : claims_in r.additional r.gender body ≡ Err refusal
+        pub refused : claims_in r.additional r.gender ask.demand.reading body ≡ Err refusal
 
       pub record TokenIsRefused (refusal : Refusal) : Type 0 where
         pub body : List ℕ
         pub holds : HoldsText body
-        pub refused : token_in r body ≡ Err refusal
+        pub refused : token_in r ask.demand.reading body ≡ Err refusal
 
       -- a signature is asked for, and the answer is an object
       pub record LacksSignature : Type 0 where
