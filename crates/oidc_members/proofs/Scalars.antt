@@ -20,7 +20,7 @@ use Rattle.fast_float.specs.Text.{scan}
 use Rattle.std.specs.Prelude.{codes}
 use Rattle.oidc_members.specs.Objects.{is_space}
 use Rattle.oidc_members.specs.Sight.{is_plain, ReadsAs}
-use Rattle.oidc_members.proofs.Reading.{value_read}
+use Rattle.oidc_members.proofs.BytesRead.{value_read}
 use Rattle.oidc_members.proofs.Blank.{Around, around, lex_lead, lex_trail, trail_ends, around_utf8, passed_utf8, quote_utf8}
 
 -- ---- from lexemes to the value

@@ -7,4 +7,4 @@ pub use Rattle.oidc_members.proofs.Cutting.{all_places, all_fails, split_cut, sp
 -- when a text is an object, and what its pieces are
 pub use Rattle.oidc_members.proofs.Braces.{braced, pieces_cut}
 -- what a value's bytes read as
-pub use Rattle.oidc_members.proofs.Reading.{value_read}
+pub use Rattle.oidc_members.proofs.BytesRead.{value_read}

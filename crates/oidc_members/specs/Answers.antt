@@ -1,9 +1,10 @@
 -- What a reader answers, where memory may be wanting.
-use Rattle.std.specs.Prelude.{◌≡◌, Result, Ok, Err}
+use Rattle.std.specs.Prelude.{◌≡◌, List, Result, Ok, Err}
 use Rattle.oidc_members.specs.declared.refusal.ParseKind.{ParseKind}
 use Rattle.oidc_members.specs.declared.refusal.Refusal.{Refusal}
 use Rattle.oidc_members.specs.declared.refusal.ParseError.{ParseError}
 use Rattle.oidc_members.specs.declared.refusal.ParseError.TheVariants.{Refused, Memory}
+use Rattle.oidc_members.specs.Seen.{SeenMember, SeenMembers}
 
 -- The answer is the one that is meant, or `Memory`.
 abbrev pub Answers : {A : Type 0} → Result A Refusal → Result A ParseError → Type 0
@@ -21,3 +22,8 @@ abbrev pub OnRefused : {A : Type 0} → ParseKind → Result A ParseError → Ty
 OnRefused kind (Ok value) Fact = Unit {0}
 OnRefused kind (Err (Refused refusal)) Fact = refusal.kind ≡ kind → Fact
 OnRefused kind (Err Memory) Fact = Unit {0}
+
+-- an answer of members as one of their list
+abbrev pub listed : Result SeenMembers ParseError → Result (List SeenMember) ParseError
+listed (Ok members) = Ok members.list
+listed (Err error) = Err error

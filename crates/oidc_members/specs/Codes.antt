@@ -1,11 +1,12 @@
 -- How the logic stores JSON data and members, so that a model may hold them. No clause speaks of it: a code
 -- comes with the proof that values stored alike are the same, which is why that proof stands here.
-use Rattle.std.specs.Prelude.{◌≡◌, ◌⊎◌, ℕ, ℤ, List, false, Float, refl, ◌==◌}
+use Rattle.std.specs.Prelude.{◌≡◌, ◌⊎◌, ℕ, ℤ, Bool, List, false, Float, refl, ◌==◌}
 use Rattle.std.specs.Coded.{Coded, code_by, coded_ℕ, coded_ℤ, coded_bool, coded_list, coded⊎, coded×}
 use Rattle.std.proofs.Common.{ap, inl, inr, arith}
 use base.Stored.{Gv, gnil, gnum, gcons, coded_float}
 use Rattle.serde_json.specs.Data.{Num, unsigned, negative, float, Data, null, boolean, number, string, array, object, Items, no_items, item, Members, no_members, member}
-use Rattle.oidc_members.specs.Seen.{SeenMember, OutSeen}
+use Rattle.oidc_members.specs.declared.reading.Reading.{Reading}
+use Rattle.oidc_members.specs.Seen.{SeenMember, SeenMembers, OutSeen}
 
 -- ---- numbers
 
@@ -102,6 +103,16 @@ abbrev pub seen_member_code : Coded SeenMember
 seen_member_code =
     code_by (List ℕ × (Data × List ℕ)) (coded× text_code (coded× data_code text_code))
     (λ m. (m.name, (m.value, m.text))) (λ p. record { name = p.0; value = p.1.0; text = p.1.1 }) (λ _. refl)
+
+abbrev pub reading_code : Coded Reading
+reading_code =
+    code_by (Bool × Bool) (coded× coded_bool coded_bool)
+    (λ r. (r.string_booleans, r.rfc3339_moments)) (λ p. record { string_booleans = p.0; rfc3339_moments = p.1 }) (λ _. refl)
+
+abbrev pub seen_members_code : Coded SeenMembers
+seen_members_code =
+    code_by (List SeenMember × Reading) (coded× (coded_list seen_member_code) reading_code)
+    (λ o. (o.list, o.reading)) (λ p. record { list = p.0; reading = p.1 }) (λ _. refl)
 
 abbrev pub out_seen_code : Coded OutSeen
 out_seen_code =

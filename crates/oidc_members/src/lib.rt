@@ -7,6 +7,8 @@
 //! and `null` are known at sight; all others it is asked for.
 //!
 //! - `Members` is the list, `Member` one name with its value and the bytes of the value.
+//! - `Reading` says which spellings of booleans and moments the readers of a list take. The list
+//!   carries it; what it means for a value stands in `oidc_readers`.
 //! - `OutMember` and `write_object` go the other way: the compact text of a list of members.
 //! - `ParseError`, `Refusal` and `ParseKind` say why a text was refused, and at which field; each
 //!   reader of this project answers with them. `FieldName` is that field's name.
@@ -30,6 +32,7 @@ mod float;
 mod member;
 mod objects;
 mod read;
+mod reading;
 mod refusal;
 mod scan;
 mod sight;
@@ -39,5 +42,6 @@ mod write;
 pub use crate::field_name::FieldName;
 pub use crate::member::Member;
 pub use crate::objects::Members;
+pub use crate::reading::Reading;
 pub use crate::refusal::{ParseError, ParseKind, Refusal};
 pub use crate::write::{OutMember, write_object};

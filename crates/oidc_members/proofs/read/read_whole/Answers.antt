@@ -1,6 +1,6 @@
 use Rattle.std.proofs.Common.{sym}
 use Rattle.std.proofs.lemmas.Bool.{false≢true}
-use Rattle.oidc_members.proofs.Reading.{value_read, no_value_read}
+use Rattle.oidc_members.proofs.BytesRead.{value_read, no_value_read}
 use Rattle.oidc_members.proofs.read.read_whole.Goals as goal
 
 pub returns-in-Ok : goal.returns-in-Ok
