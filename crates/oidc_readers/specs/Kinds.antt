@@ -1,17 +1,21 @@
--- Kinds of values of a field, and the refusal where a value isn't of its kind.
-use Rattle.std.specs.Prelude.{ℕ, ℤ, List, [], ◌∷◌, Bool, if◌then◌else◌, is_some, Option, Some, None, option_and_then, option_map, Result, Ok, Err}
+-- Kinds of values of a field, and the refusal where a value isn't of its kind. Booleans and moments depend on
+-- the reading.
+use Rattle.std.specs.Prelude.{ℕ, ℤ, List, [], ◌∷◌, Bool, true, false, codes, if◌then◌else◌, is_some, Option, Some, None, option_and_then, option_map, Result, Ok, Err}
 use Rattle.std.specs.Option.{ok_or}
+use Rattle.std.specs.Str.{bytes_eq}
 use Rattle.serde_json.specs.Data.{Data, null, boolean, number, string, array, object, Items, no_items, item}
-use Rattle.serde_json.specs.Find.{as_null, as_bool, as_str, as_number, as_integer, as_u64, as_array}
+use Rattle.serde_json.specs.Find.{as_null, as_str, as_number, as_integer, as_u64, as_array}
 use Rattle.url.specs.Parts.{Parts}
 use Rattle.url.specs.Parser.{parse_url}
 use Rattle.url.specs.declared.error.ParseError.{ParseError}
 use Rattle.oidc_types.specs.{TextAndUrl}
 use Rattle.oidc_members.specs.Seen.{SeenMember}
+use Rattle.oidc_members.specs.declared.reading.Reading.{Reading}
 use Rattle.oidc_members.specs.declared.refusal.Refusal.{Refusal}
 use Rattle.oidc_members.specs.declared.refusal.ParseKind.{ParseKind}
 use Rattle.oidc_members.specs.declared.refusal.ParseKind.TheVariants.{WrongType, Moment, Url}
 use Rattle.oidc_readers.specs.Moments.{moment_at}
+use Rattle.oidc_readers.specs.MomentTexts.{moment_in}
 
 -- what a member reads as, or why its value is refused
 abbrev pub Kind : Type 0 → Type 0
@@ -25,9 +29,24 @@ of_member kind m = record { kind = kind; field = m.name }
 abbrev pub text_kind : Kind (List ℕ)
 text_kind m = ok_or (as_str m.value) (of_member WrongType m)
 
--- true or false
-abbrev pub flag_kind : Kind Bool
-flag_kind m = ok_or (as_bool m.value) (of_member WrongType m)
+-- the texts `true` and `false`
+abbrev pub flag_named : List ℕ → Option Bool
+flag_named text =
+    if bytes_eq text (codes "true") then Some true
+    else if bytes_eq text (codes "false") then Some false
+    else None
+
+abbrev pub flag_in : Reading → Data → Option Bool
+flag_in reading null = None
+flag_in reading (boolean flag) = Some flag
+flag_in reading (number n) = None
+flag_in reading (string text) = if reading.string_booleans then flag_named text else None
+flag_in reading (array items) = None
+flag_in reading (object entries) = None
+
+-- true or false, or the text of one where the reading takes string booleans
+abbrev pub flag_kind : Reading → Kind Bool
+flag_kind reading m = ok_or (flag_in reading m.value) (of_member WrongType m)
 
 -- a whole number from 0 to 2^64 - 1
 abbrev pub whole_kind : Kind ℕ
@@ -37,9 +56,24 @@ abbrev pub seconds_read : SeenMember → Option ℤ → Result ℤ Refusal
 seconds_read m None = Err (of_member WrongType m)
 seconds_read m (Some second) = ok_or (moment_at second) (of_member Moment m)
 
--- a moment: a whole number of seconds, which is in range
-abbrev pub moment_kind : Kind ℤ
-moment_kind m = seconds_read m (option_and_then as_integer (as_number m.value))
+abbrev pub text_read : Reading → SeenMember → List ℕ → Result ℤ Refusal
+text_read reading m text =
+    if reading.rfc3339_moments
+    then ok_or (moment_in text) (of_member Moment m)
+    else Err (of_member WrongType m)
+
+abbrev pub moment_read : Reading → SeenMember → Data → Result ℤ Refusal
+moment_read reading m null = Err (of_member WrongType m)
+moment_read reading m (boolean b) = Err (of_member WrongType m)
+moment_read reading m (number n) = seconds_read m (as_integer n)
+moment_read reading m (string text) = text_read reading m text
+moment_read reading m (array items) = Err (of_member WrongType m)
+moment_read reading m (object entries) = Err (of_member WrongType m)
+
+-- a moment: a whole number of seconds, or a text of RFC 3339 where the reading takes these; either is
+-- in range
+abbrev pub moment_kind : Reading → Kind ℤ
+moment_kind reading m = moment_read reading m m.value
 
 abbrev pub url_parsed : SeenMember → List ℕ → Result Parts ParseError → Result TextAndUrl Refusal
 url_parsed m text (Ok url) = Ok (record { text = text; url = url })

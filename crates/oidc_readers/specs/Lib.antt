@@ -1,7 +1,8 @@
--- In reading order: the pass over a list, the kinds of values, a field, a record, what a slot
+-- In reading order: the pass over a list, moments and the kinds of values, a field, a record, what a slot
 -- holds, what is written. Lower words that these definitions cite follow.
 pub mod Passes
 pub mod Moments
+pub mod MomentTexts
 pub mod Kinds
 pub mod Fields
 pub mod Records

@@ -6,6 +6,7 @@
 //!
 //! - [`FieldValue`] is a kind of values: what a member of it reads as. Texts, secrets, flags, whole
 //!   numbers, [`Moment`]s, URLs, [`Texts`], [`TextOrTexts`], [`Present`] and `Option`s are such kinds.
+//!   What flags and moments are depends on the reading: it may take texts for them.
 //! - [`Once`] is the slot of a field that may stand once.
 //! - [`MemberReader`] is what a reader keeps. Its meanings are `fault`, the refusal of a member after
 //!   those before it, and `state`, what is kept of the members that came. [`Both`] joins two.
@@ -23,6 +24,7 @@
 
 mod kinds;
 pub mod laws;
+mod moment_texts;
 mod moments;
 mod passes;
 mod records;

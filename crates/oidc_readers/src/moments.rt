@@ -33,6 +33,13 @@ impl Moment {
         }
     }
 
+    // The moment of that timestamp.
+    pub(crate) fn of(timestamp: Timestamp) -> Moment
+        ensures { result ≡ timestamp.nanosecond }
+    {
+        Moment { timestamp }
+    }
+
     /// The moment.
     pub fn timestamp(&self) -> Timestamp
         ensures same { result.nanosecond ≡ self.now }

@@ -1,6 +1,6 @@
 //! The slot of a field.
 
-ghost use Rattle.std.specs.Prelude.{◌≡◌, ◌∷◌, ◌++◌, List, [], unwrap_or};
+ghost use Rattle.std.specs.Prelude.{◌≡◌, ◌∷◌, ◌++◌, List, [], None, false, unwrap_or};
 ghost use Rattle.std.specs.Option.{ok_or, option_flatten};
 ghost use Rattle.oidc_readers.specs.Answers.{Answers};
 ghost use Rattle.oidc_readers.specs.Seen.{SeenMember};
@@ -10,7 +10,7 @@ ghost use Rattle.oidc_readers.specs.Slots.{slot_among, slot, slot_value};
 ghost use Rattle.oidc_readers.specs.Records.{missing};
 
 use crate::kinds::{FieldValue, refused};
-use oidc_members::{Member, ParseError, ParseKind};
+use oidc_members::{Member, ParseError, ParseKind, Reading};
 use std::alloc::Global;
 
 /// A field that may stand once: whether its member came, and its value.
@@ -25,7 +25,7 @@ pub struct Once<T> {
 impl<T: FieldValue> Once<T> {
     /// The slot before any member came.
     pub fn new() -> Self
-        ensures empty { result ≡ slot_among T.read_of [] }
+        ensures empty { result ≡ record { seen = false; value = None } }
     {
         Once {
             seen: false,
@@ -33,22 +33,39 @@ impl<T: FieldValue> Once<T> {
         }
     }
 
-    /// Takes the member where it has that name.
-    #[tactic(auto, unfolding(crate::specs::Fields::judged, crate::specs::Slots::slot))]
+    /// Takes the member where it has that name, under the strict reading. The fields of an answer of a
+    /// token server and of a header are read so, whatever the reading of their members is.
     pub fn take(&mut self, alloc: Global, name: &str, member: &Member) -> Result<(), ParseError>
-        ensures { let f = field name.now T.read_of in
+        ensures { let f = field name.now (T.read_of Reading.STRICT) in
+            (before : List SeenMember) → self.old ≡ slot f before
+            → Took (judged f before member.now) result
+            (self.new ≡ slot f (before ++ member.now ∷ [])) }
+    {
+        self.take_under(alloc, name, member, Reading::STRICT)
+    }
+
+    /// Takes the member where it has that name, under a reading.
+    #[tactic(auto, unfolding(crate::specs::Fields::judged, crate::specs::Slots::slot))]
+    pub fn take_under(
+        &mut self,
+        alloc: Global,
+        name: &str,
+        member: &Member,
+        reading: Reading,
+    ) -> Result<(), ParseError>
+        ensures { let f = field name.now (T.read_of reading) in
             (before : List SeenMember) → self.old ≡ slot f before
             → Took (judged f before member.now) result
             (self.new ≡ slot f (before ++ member.now ∷ [])) }
     {
         if member.name() == name {
-            self.take_own(alloc, member)
+            self.take_own(alloc, member, reading)
         } else {
             Ok(())
         }
     }
 
-    /// Takes the member where it has one of these two names.
+    /// Takes the member where it has one of these two names, under the strict reading.
     #[tactic(auto, unfolding(crate::specs::Fields::judged, crate::specs::Slots::slot))]
     pub fn take_either(
         &mut self,
@@ -57,29 +74,35 @@ impl<T: FieldValue> Once<T> {
         alias: &str,
         member: &Member,
     ) -> Result<(), ParseError>
-        ensures { let f = field_or name.now alias.now T.read_of in
+        ensures { let f = field_or name.now alias.now (T.read_of Reading.STRICT) in
             (before : List SeenMember) → self.old ≡ slot f before
             → Took (judged f before member.now) result
             (self.new ≡ slot f (before ++ member.now ∷ [])) }
     {
         if member.name() == name || member.name() == alias {
-            self.take_own(alloc, member)
+            self.take_own(alloc, member, Reading::STRICT)
         } else {
             Ok(())
         }
     }
 
     /// Takes a member that is known to be the field's own, after those of the field that came.
-    pub fn take_own(&mut self, alloc: Global, member: &Member) -> Result<(), ParseError>
-        ensures { (came : List SeenMember) → self.old ≡ slot_among T.read_of came
-            → Took (judged_among T.read_of came member.now) result
-            (self.new ≡ slot_among T.read_of (came ++ member.now ∷ [])) }
+    pub fn take_own(
+        &mut self,
+        alloc: Global,
+        member: &Member,
+        reading: Reading,
+    ) -> Result<(), ParseError>
+        ensures { let kind = T.read_of reading in
+            (came : List SeenMember) → self.old ≡ slot_among kind came
+            → Took (judged_among kind came member.now) result
+            (self.new ≡ slot_among kind (came ++ member.now ∷ [])) }
     {
         if self.seen {
             return Err(refused(alloc, ParseKind::Duplicate, member.name()));
         }
         self.seen = true;
-        self.value = Some(T::read(alloc, member)?);
+        self.value = Some(T::read(alloc, member, reading)?);
         Ok(())
     }
 
