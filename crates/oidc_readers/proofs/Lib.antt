@@ -1,5 +1,6 @@
 mod First
 mod JsonValues
+mod MomentExamples
 mod NoFloat
 mod Parts
 mod ReadBack
