@@ -10,6 +10,7 @@ use Rattle.std.proofs.lemmas.Slice.Eq.{bytes_eq-Decides}
 use Rattle.serde_json.specs.Data.{Data, boolean, string}
 use Rattle.oidc_types.specs.{Variants}
 use Rattle.oidc_members.specs.Seen.{SeenMember, OutSeen}
+use Rattle.oidc_members.specs.declared.reading.Reading.{Reading}
 use Rattle.oidc_members.specs.declared.refusal.Refusal.{Refusal}
 use Rattle.oidc_readers.specs.Fields.{first_value}
 use Rattle.oidc_readers.specs.Kinds.{text_kind}
@@ -108,11 +109,11 @@ placed_ok : {A : Type 0} (answer : Result A Refusal) (place : ℕ) (x : A) → a
 placed_ok (Ok y) place x h = cc
 placed_ok (Err refusal) place x h = absurd cc
 
-module _ {GC : Type 0} (gender_read : SeenMember → Result GC Refusal) where
+module _ {GC : Type 0} (gender_read : SeenMember → Result GC Refusal) (reading : Reading) where
   claim_same : (ms : List SeenMember) (claim : Claim) → own claim (filter is_standard ms) ≡ own claim ms
   claim_same ms claim = narrowed (is_of claim) is_standard (λ m h. claim_within all_claims claim m (all_known claim) h) ms
 
-  with_subject_same : (subject : List ℕ) (ms : List SeenMember) → with_subject gender_read subject (filter is_standard ms) ≡ with_subject gender_read subject ms
+  with_subject_same : (subject : List ℕ) (ms : List SeenMember) → with_subject gender_read reading subject (filter is_standard ms) ≡ with_subject gender_read reading subject ms
   unfolding with_subject
   with_subject_same subject ms = rw (
     claim_same ms Name,
@@ -137,33 +138,33 @@ module _ {GC : Type 0} (gender_read : SeenMember → Result GC Refusal) where
     claim_same ms UpdatedAt,
   ) refl
 
-  complete_same : (subject : Option (List ℕ)) (ms : List SeenMember) → complete gender_read subject (filter is_standard ms) ≡ complete gender_read subject ms
+  complete_same : (subject : Option (List ℕ)) (ms : List SeenMember) → complete gender_read reading subject (filter is_standard ms) ≡ complete gender_read reading subject ms
   complete_same None ms = refl
   complete_same (Some subject) ms = ap Ok (with_subject_same subject ms)
 
-  pub standard_same : (ms : List SeenMember) → faultless_claims gender_read (filter is_standard ms) ≡ faultless_claims gender_read ms
+  pub standard_same : (ms : List SeenMember) → faultless_claims gender_read reading (filter is_standard ms) ≡ faultless_claims gender_read reading ms
   standard_same ms =
-      ap (λ members. complete gender_read (first_value text_kind members) (filter is_standard ms)) (claim_same ms Subject) ∙ complete_same (subject_of ms) ms
+      ap (λ members. complete gender_read reading (first_value text_kind members) (filter is_standard ms)) (claim_same ms Subject) ∙ complete_same (subject_of ms) ms
 
   -- ---- the rule of the standard claims
 
-  silent_by : (o : Option Claim) (before : List SeenMember) (m : SeenMember) → is_some o ≡ false → fault_by gender_read o before m ≡ None
+  silent_by : (o : Option Claim) (before : List SeenMember) (m : SeenMember) → is_some o ≡ false → fault_by gender_read reading o before m ≡ None
   silent_by None before m h = refl
   silent_by (Some c) before m h = absurd (true≢false h)
 
-  pub fault_outside : (before : List SeenMember) (m : SeenMember) → is_standard m ≡ false → fault_at gender_read before m ≡ None
+  pub fault_outside : (before : List SeenMember) (m : SeenMember) → is_standard m ≡ false → fault_at gender_read reading before m ≡ None
   fault_outside before m h = silent_by (claim_of (base_of m.name)) before m (is_claim m ∙ h)
 
-  narrowed_by_claim : (o : Option Claim) (before : List SeenMember) (m : SeenMember) → fault_by gender_read o before m ≡ fault_by gender_read o (filter is_standard before) m
+  narrowed_by_claim : (o : Option Claim) (before : List SeenMember) (m : SeenMember) → fault_by gender_read reading o before m ≡ fault_by gender_read reading o (filter is_standard before) m
   narrowed_by_claim None before m = refl
-  narrowed_by_claim (Some c) before m = ap (λ came. fault_of_kind gender_read (kind_of c) came m) (sym (claim_same before c))
+  narrowed_by_claim (Some c) before m = ap (λ came. fault_of_kind gender_read reading (kind_of c) came m) (sym (claim_same before c))
 
-  pub fault_narrowed : (before : List SeenMember) (m : SeenMember) → fault_at gender_read before m ≡ fault_at gender_read (filter is_standard before) m
+  pub fault_narrowed : (before : List SeenMember) (m : SeenMember) → fault_at gender_read reading before m ≡ fault_at gender_read reading (filter is_standard before) m
   fault_narrowed before m = narrowed_by_claim (claim_of (base_of m.name)) before m
 
-  pub claims_by : (fault : Option (ℕ × Refusal)) (ms : List SeenMember) (s : SeenClaims GC) → unless_refused gender_read fault ms ≡ Ok s → (fault ≡ None) × (faultless_claims gender_read ms ≡ Ok s)
+  pub claims_by : (fault : Option (ℕ × Refusal)) (ms : List SeenMember) (s : SeenClaims GC) → unless_refused gender_read reading fault ms ≡ Ok s → (fault ≡ None) × (faultless_claims gender_read reading ms ≡ Ok s)
   claims_by (Some fault) ms s h = absurd cc
-  claims_by None ms s h = (refl, placed_ok (faultless_claims gender_read ms) (length ms) s h)
+  claims_by None ms s h = (refl, placed_ok (faultless_claims gender_read reading ms) (length ms) s h)
 
 -- ---- the names of what is written
 

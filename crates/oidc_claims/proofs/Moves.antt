@@ -4,6 +4,7 @@ use Rattle.std.specs.Option.{option_map_or}
 use Rattle.std.specs.Str.{bytes_eq}
 use Rattle.std.proofs.lemmas.List.Elements.{filter-append}
 use Rattle.oidc_members.specs.Seen.{SeenMember}
+use Rattle.oidc_members.specs.declared.reading.Reading.{Reading}
 use Rattle.oidc_members.specs.declared.refusal.Refusal.{Refusal}
 use Rattle.oidc_members.specs.declared.refusal.ParseError.{ParseError}
 use Rattle.oidc_members.specs.declared.refusal.ParseError.TheVariants.{Refused, Memory}
@@ -65,40 +66,40 @@ is_of_named d m = by_name name_of all_claims claim_each (base_of m.name) d
 push_own : (d : Claim) (before : List SeenMember) (m : SeenMember) → own d (before ++ m ∷ []) ≡ cond (is_of d m) (own d before ++ m ∷ []) (own d before)
 push_own d before m = filter-append (is_of d) before (m ∷ []) ∙ by_test (is_of d m) (own d before) m
 
-module _ {GC : Type 0} (gender_read : Kind GC) where
+module _ {GC : Type 0} (gender_read : Kind GC) (reading : Reading) where
   -- a member of a claim changes the slot of that claim alone
   pub moved : (c : Claim) (before : List SeenMember) (m : SeenMember) → claim_of (base_of m.name) ≡ Some c
-      → claim_slots gender_read (λ d. cond (bytes_eq (name_of d) (name_of c)) (own d before ++ m ∷ []) (own d before)) ≡ reader_of gender_read (before ++ m ∷ [])
+      → claim_slots gender_read reading (λ d. cond (bytes_eq (name_of d) (name_of c)) (own d before ++ m ∷ []) (own d before)) ≡ reader_of gender_read reading (before ++ m ∷ [])
   unfolding reader_of
   moved c before m is =
       let each : (d : Claim) → cond (bytes_eq (name_of d) (name_of c)) (own d before ++ m ∷ []) (own d before) ≡ own d (before ++ m ∷ []) =
       λ d. sym (push_own d before m ∙ ap (λ b. cond b (own d before ++ m ∷ []) (own d before)) (is_of_named d m ∙ ap (λ o. option_map_or (λ e. bytes_eq (name_of d) (name_of e)) o false) is))
-      in λ i. claim_slots gender_read (λ d. each d i)
+      in λ i. claim_slots gender_read reading (λ d. each d i)
 
   -- one of no claim changes none
-  pub stayed : (before : List SeenMember) (m : SeenMember) → claim_of (base_of m.name) ≡ None → reader_of gender_read before ≡ reader_of gender_read (before ++ m ∷ [])
+  pub stayed : (before : List SeenMember) (m : SeenMember) → claim_of (base_of m.name) ≡ None → reader_of gender_read reading before ≡ reader_of gender_read reading (before ++ m ∷ [])
   unfolding reader_of
   stayed before m is =
       let each : (d : Claim) → own d before ≡ own d (before ++ m ∷ []) =
       λ d. sym (push_own d before m ∙ ap (λ b. cond b (own d before ++ m ∷ []) (own d before)) (is_of_named d m ∙ ap (λ o. option_map_or (λ e. bytes_eq (name_of d) (name_of e)) o false) is))
-      in λ i. claim_slots gender_read (λ d. each d i)
+      in λ i. claim_slots gender_read reading (λ d. each d i)
 
   pub taken : (c : Claim) (before : List SeenMember) (m : SeenMember) (r : Result (Unit {0}) ParseError) {P Q : Type 0}
-      → claim_of (base_of m.name) ≡ Some c → (P → Q) → Took (fault_of_kind gender_read (kind_of c) (own c before) m) r P → Took (fault_at gender_read before m) r Q
+      → claim_of (base_of m.name) ≡ Some c → (P → Q) → Took (fault_of_kind gender_read reading (kind_of c) (own c before) m) r P → Took (fault_at gender_read reading before m) r Q
   taken c before m r is f t =
-      answered (fault_of_kind gender_read (kind_of c) (own c before) m) (fault_at gender_read before m) r (ap (λ o. fault_by gender_read o before m) is) f t
+      answered (fault_of_kind gender_read reading (kind_of c) (own c before) m) (fault_at gender_read reading before m) r (ap (λ o. fault_by gender_read reading o before m) is) f t
 
-  pub untaken : (before : List SeenMember) (m : SeenMember) → claim_of (base_of m.name) ≡ None → fault_at gender_read before m ≡ None
-  untaken before m is = ap (λ o. fault_by gender_read o before m) is
+  pub untaken : (before : List SeenMember) (m : SeenMember) → claim_of (base_of m.name) ≡ None → fault_at gender_read reading before m ≡ None
+  untaken before m is = ap (λ o. fault_by gender_read reading o before m) is
 
   -- the claims that the reader of the members gives in the end
-  pub ended : (members : List SeenMember) (reader : ClaimsReader GC) (subject : List ℕ) → reader ≡ reader_of gender_read members
-      → finished_claims reader subject ≡ with_subject gender_read subject members
+  pub ended : (members : List SeenMember) (reader : ClaimsReader GC) (subject : List ℕ) → reader ≡ reader_of gender_read reading members
+      → finished_claims reader subject ≡ with_subject gender_read reading subject members
   unfolding reader_of finished_claims with_subject
   ended members reader subject is = ap (λ r. finished_claims r subject) is
 
   -- the refusal where `sub` is missing
   pub lacking : (members : List SeenMember) (subject : Option (List ℕ)) (error : ParseError) → subject ≡ None → Refuses missing_subject error
-      → Answers (complete gender_read subject members) (Err error)
-  lacking members subject (Refused refusal) none is = ap (λ o. complete gender_read o members) none ∙ ap Err is
+      → Answers (complete gender_read reading subject members) (Err error)
+  lacking members subject (Refused refusal) none is = ap (λ o. complete gender_read reading o members) none ∙ ap Err is
   lacking members subject Memory none is = tt

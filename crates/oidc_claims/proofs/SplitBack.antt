@@ -6,6 +6,7 @@ use Rattle.serde_json.specs.Written.{compact_text}
 use Rattle.oidc_members.specs.Seen.{SeenMember, OutSeen}
 use Rattle.oidc_members.specs.Objects.{members_of}
 use Rattle.oidc_members.specs.Write.{data_of, object_text}
+use Rattle.oidc_members.specs.declared.reading.Reading.{Reading}
 use Rattle.oidc_members.specs.declared.refusal.Refusal.{Refusal}
 use Rattle.oidc_readers.specs.WrittenBack.{MayBeWritten, IsUtf8Member, MembersAreWhole, MembersHaveTexts}
 use Rattle.oidc_readers.proofs.Theorems.{written_split_back}
@@ -71,13 +72,13 @@ module _
   address_back (Some a) rest h =
       written_split_back (address_members a) (all_of (address_members a) (inner (address_members a) (address_whole a) h.0.1 (address_shallow a)))
 
-  pub split_reads_back : (s : SeenClaims GC) → IsInRange s → All IsUtf8Member (written gender_data s)
-      → option_map (claims_of gender_read) (members_of (object_text (written gender_data s))) ≡ Some (Ok s)
-  split_reads_back s range utf8 =
+  pub split_reads_back : (s : SeenClaims GC) → IsInRange s → All IsUtf8Member (written gender_data s) → (reading : Reading)
+      → option_map (claims_of gender_read reading) (members_of (object_text (written gender_data s))) ≡ Some (Ok s)
+  split_reads_back s range utf8 reading =
       let texts = texts_of (written gender_data s) utf8 in
       let may = all_of (written gender_data s) (may_be_written (written gender_data s) (written_stands gender_data gender_there s range) texts) in
-      ap (option_map (claims_of gender_read)) (written_split_back (written gender_data s) may)
-      ∙ ap Some (reads_back gender_read gender_data gender_back gender_there (λ m. compact_text m.value) s range (address_back s.address _ (behind (claim_members gender_data s) 19 all_claims texts)))
+      ap (option_map (claims_of gender_read reading)) (written_split_back (written gender_data s) may)
+      ∙ ap Some (reads_back gender_read reading gender_data gender_back gender_there (λ m. compact_text m.value) s range (address_back s.address _ (behind (claim_members gender_data s) 19 all_claims texts)))
 
   -- the same of a list that is what the claims are written as
   pub gives_claims : (s : SeenClaims GC) (members : List OutSeen) → members ≡ written gender_data s → All IsUtf8Member members → IsInRange s → GivesClaims gender_read members s

@@ -14,6 +14,7 @@ use Rattle.oidc_types.specs.{Variants, tag_cmp}
 use Rattle.oidc_types.proofs.Theorems.{tags_total}
 use Rattle.oidc_types.proofs.Theorems.{from_entries-append, append-next, from_entries-entries}
 use Rattle.oidc_members.specs.Seen.{SeenMember, OutSeen}
+use Rattle.oidc_members.specs.declared.reading.Reading.{Reading}
 use Rattle.oidc_members.specs.declared.refusal.Refusal.{Refusal}
 use Rattle.oidc_members.specs.declared.refusal.ParseKind.TheVariants.{Duplicate}
 use Rattle.oidc_readers.specs.Kinds.{Kind, of_member, text_kind}
@@ -36,11 +37,11 @@ key m = claim_of (base_of m.name)
 abbrev pub same : Claim → Claim → Bool
 same a b = bytes_eq (name_of a) (name_of b)
 
-abbrev pub judge : {GC : Type 0} → Kind GC → Claim → List SeenMember → SeenMember → Option Refusal
-judge gender_read c = fault_of_kind gender_read (kind_of c)
+abbrev pub judge : {GC : Type 0} → Kind GC → Reading → Claim → List SeenMember → SeenMember → Option Refusal
+judge gender_read reading c = fault_of_kind gender_read reading (kind_of c)
 
-abbrev pub IsClaimPart : {GC : Type 0} → Kind GC → Claim → List SeenMember → List SeenMember → Type 0
-IsClaimPart gender_read = IsPart key same (judge gender_read) (fault_at gender_read)
+abbrev pub IsClaimPart : {GC : Type 0} → Kind GC → Reading → Claim → List SeenMember → List SeenMember → Type 0
+IsClaimPart gender_read reading = IsPart key same (judge gender_read reading) (fault_at gender_read reading)
 
 -- the members of a claim, by the key
 pub keyed : (c : Claim) (ms : List SeenMember) → own c ms ≡ filter (λ m. option_map_or (λ other. same c other) (key m) false) ms
@@ -83,13 +84,13 @@ pub record Named (c : Claim) : Type 0 where
   pub is_base : (tag : Option (List ℕ)) → claim_of (base_of (with_tag (name_of c) tag)) ≡ Some c
   pub is_tag : (tag : Option (List ℕ)) → IsTag tag → tag_of (with_tag (name_of c) tag) ≡ tag
 
-module _ {GC : Type 0} (gender_read : Kind GC) (text_of : OutSeen → List ℕ) (c : Claim) (named : Named c) where
+module _ {GC : Type 0} (gender_read : Kind GC) (reading : Reading) (text_of : OutSeen → List ℕ) (c : Claim) (named : Named c) where
   abbrev member : Option (List ℕ) × List ℕ → SeenMember
   member e = read_with text_of (variant_member c e)
 
-  fits : (e : Option (List ℕ) × List ℕ) (before : List SeenMember) → list_any (same_tag (member e)) before ≡ false → judge gender_read c before (member e) ≡ None
+  fits : (e : Option (List ℕ) × List ℕ) (before : List SeenMember) → list_any (same_tag (member e)) before ≡ false → judge gender_read reading c before (member e) ≡ None
   fits e before new =
-      ap (λ k. fault_of_kind gender_read k before (member e)) named.is_text
+      ap (λ k. fault_of_kind gender_read reading k before (member e)) named.is_text
       ∙ ap (λ b. cond b (Some (of_member Duplicate (member e))) None) new
 
   same_tags : (done : List (Option (List ℕ) × List ℕ)) (e : Option (List ℕ) × List ℕ) → AreTagged done → IsTag e.0
@@ -105,12 +106,12 @@ module _ {GC : Type 0} (gender_read : Kind GC) (text_of : OutSeen → List ℕ) 
   tags_push [] e t h = (h, tt)
   tags_push (d ∷ done) e t h = (t.0, tags_push done e t.1 h)
 
-  is_part : (done es : List (Option (List ℕ) × List ℕ)) → AreTagged done → AreTagged es → T (is_sorted tag_cmp (done ++ es)) → IsClaimPart gender_read c (map member done) (map member es)
+  is_part : (done es : List (Option (List ℕ) × List ℕ)) → AreTagged done → AreTagged es → T (is_sorted tag_cmp (done ++ es)) → IsClaimPart gender_read reading c (map member done) (map member es)
   is_part done [] td te s = tt
   is_part done (e ∷ es) td te s = (
     named.is_base e.0,
     fits e (map member done) (same_tags done e td te.0 ∙ unseen done es e s),
-    subst (λ l. IsClaimPart gender_read c l (map member es)) (map_push done e)
+    subst (λ l. IsClaimPart gender_read reading c l (map member es)) (map_push done e)
         (is_part (done ++ e ∷ []) es (tags_push done e td te.0) te.1 (subst (λ l. T (is_sorted tag_cmp l)) (sym (append_assoc done (e ∷ []) es)) s)),
   )
 
@@ -122,10 +123,10 @@ module _ {GC : Type 0} (gender_read : Kind GC) (text_of : OutSeen → List ℕ) 
       (ap (λ tag. finite.insert (finite.from_entries done) tag e.1) (named.is_tag e.0 t.0) ∙ sym (from_entries-append all done es (e ∷ es) e is refl))
       ∙ fold_back all (done ++ e ∷ []) es (append-next done es (e ∷ es) (finite.entries all) e is refl) t.1
 
-  pub variants_are_part : (o : Option (Variants (List ℕ))) → HasVariants o → IsClaimPart gender_read c [] (map (read_with text_of) (variant_members c o))
+  pub variants_are_part : (o : Option (Variants (List ℕ))) → HasVariants o → IsClaimPart gender_read reading c [] (map (read_with text_of) (variant_members c o))
   variants_are_part None h = tt
   variants_are_part (Some all) h =
-      subst (λ l. IsClaimPart gender_read c [] l) (mapped (finite.entries all)) (is_part [] (finite.entries all) tt h.1 (finite.entries_sorted all))
+      subst (λ l. IsClaimPart gender_read reading c [] l) (mapped (finite.entries all)) (is_part [] (finite.entries all) tt h.1 (finite.entries_sorted all))
     where
       mapped : (es : List (Option (List ℕ) × List ℕ)) → map member es ≡ map (read_with text_of) (map (variant_member c) es)
       mapped [] = refl

@@ -9,6 +9,7 @@ use Rattle.std.specs.Str.{bytes_eq}
 use Rattle.std.specs.Ordering.{is_eq}
 use Rattle.oidc_types.specs.{Variants, tag_cmp}
 use Rattle.oidc_members.specs.Seen.{SeenMember}
+use Rattle.oidc_members.specs.declared.reading.Reading.{Reading}
 use Rattle.oidc_members.specs.declared.refusal.Refusal.{Refusal}
 use Rattle.oidc_members.specs.declared.refusal.ParseKind.TheVariants.{Duplicate, UnexpectedTag}
 use Rattle.oidc_readers.specs.Passes.{first_by}
@@ -47,14 +48,14 @@ abbrev pub localized_fault : {V : Type 0} → Kind V → Rule
 localized_fault kind before m =
     if list_any (same_tag m) before then Some (of_member Duplicate m) else result_err (kind m)
 
-module _ {GC : Type 0} (gender_read : Kind GC) where
-  -- By the claim's kind of value. A null stands for an absent one, but not for `sub`.
+module _ {GC : Type 0} (gender_read : Kind GC) (reading : Reading) where
+  -- By the claim's kind of value, which the reading may widen. A null stands for an absent one, but not for `sub`.
   abbrev pub fault_of_kind : ClaimKind → Rule
   fault_of_kind kind.RequiredText = once_fault text_kind
   fault_of_kind kind.Text = once_fault (or_null text_kind)
   fault_of_kind kind.LocalizedText = localized_fault (or_null text_kind)
-  fault_of_kind kind.Flag = once_fault (or_null flag_kind)
-  fault_of_kind kind.Moment = once_fault (or_null moment_kind)
+  fault_of_kind kind.Flag = once_fault (or_null (flag_kind reading))
+  fault_of_kind kind.Moment = once_fault (or_null (moment_kind reading))
   fault_of_kind kind.Address = once_fault (or_null address_kind)
   fault_of_kind kind.Gender = once_fault (or_null gender_read)
 

@@ -2,6 +2,7 @@
 use Rattle.std.specs.Prelude.{ℕ, List}
 use Rattle.std.specs.Option.{option_flatten}
 use Rattle.oidc_members.specs.Seen.{SeenMember}
+use Rattle.oidc_members.specs.declared.reading.Reading.{Reading}
 use Rattle.oidc_readers.specs.Kinds.{Kind, text_kind, flag_kind, moment_kind, or_null}
 use Rattle.oidc_readers.specs.Slots.{slot, slot_among}
 use Rattle.oidc_claims.specs.declared.claim.Claim.{Claim}
@@ -24,7 +25,7 @@ address_reader_of members = record {
   country = slot (part_field part.Country) members;
 }
 
-module _ {GC : Type 0} (gender_read : Kind GC) where
+module _ {GC : Type 0} (gender_read : Kind GC) (reading : Reading) where
   -- the slots of the claims, of the members of each
   abbrev pub claim_slots : (Claim → List SeenMember) → ClaimsReader GC
   claim_slots f = record {
@@ -39,16 +40,16 @@ module _ {GC : Type 0} (gender_read : Kind GC) where
     picture = languages_slot text_kind (f Picture);
     website = languages_slot text_kind (f Website);
     email = slot_among (or_null text_kind) (f Email);
-    email_verified = slot_among (or_null flag_kind) (f EmailVerified);
+    email_verified = slot_among (or_null (flag_kind reading)) (f EmailVerified);
     gender = slot_among (or_null gender_read) (f Gender);
     birthday = slot_among (or_null text_kind) (f Birthday);
     birthdate = slot_among (or_null text_kind) (f Birthdate);
     zoneinfo = slot_among (or_null text_kind) (f Zoneinfo);
     locale = slot_among (or_null text_kind) (f Locale);
     phone_number = slot_among (or_null text_kind) (f PhoneNumber);
-    phone_number_verified = slot_among (or_null flag_kind) (f PhoneNumberVerified);
+    phone_number_verified = slot_among (or_null (flag_kind reading)) (f PhoneNumberVerified);
     address = slot_among (or_null address_kind) (f Address);
-    updated_at = slot_among (or_null moment_kind) (f UpdatedAt);
+    updated_at = slot_among (or_null (moment_kind reading)) (f UpdatedAt);
   }
 
   unfoldable pub reader_of : List SeenMember → ClaimsReader GC

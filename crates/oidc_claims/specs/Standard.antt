@@ -1,6 +1,7 @@
 -- The standard claims of a list of members (OpenID Connect Core 1.0 section 5.1).
 use Rattle.std.specs.Prelude.{ℕ, List, length, Option, None, Some, Result, Ok, Err, codes}
 use Rattle.oidc_members.specs.Seen.{SeenMember}
+use Rattle.oidc_members.specs.declared.reading.Reading.{Reading}
 use Rattle.oidc_members.specs.declared.refusal.Refusal.{Refusal}
 use Rattle.oidc_readers.specs.Kinds.{Kind, text_kind, flag_kind, moment_kind}
 use Rattle.oidc_readers.specs.Fields.{first_value}
@@ -22,7 +23,7 @@ abbrev pub at_place : {A : Type 0} → ℕ → Result A Refusal → Result A (�
 at_place place (Ok x) = Ok x
 at_place place (Err refusal) = Err (place, refusal)
 
-module _ {GC : Type 0} (gender_read : Kind GC) where
+module _ {GC : Type 0} (gender_read : Kind GC) (reading : Reading) where
   -- each claim is the value of its member, or the map of the values of its members
   unfoldable pub with_subject : List ℕ → List SeenMember → SeenClaims GC
   with_subject subject members = record {
@@ -37,16 +38,16 @@ module _ {GC : Type 0} (gender_read : Kind GC) where
     picture = unless_empty (variants text_kind (own Picture members));
     website = unless_empty (variants text_kind (own Website members));
     email = plain text_kind (own Email members);
-    email_verified = plain flag_kind (own EmailVerified members);
+    email_verified = plain (flag_kind reading) (own EmailVerified members);
     gender = plain gender_read (own Gender members);
     birthday = plain text_kind (own Birthday members);
     birthdate = plain text_kind (own Birthdate members);
     zoneinfo = plain text_kind (own Zoneinfo members);
     locale = plain text_kind (own Locale members);
     phone_number = plain text_kind (own PhoneNumber members);
-    phone_number_verified = plain flag_kind (own PhoneNumberVerified members);
+    phone_number_verified = plain (flag_kind reading) (own PhoneNumberVerified members);
     address = plain address_kind (own Address members);
-    updated_at = plain moment_kind (own UpdatedAt members);
+    updated_at = plain (moment_kind reading) (own UpdatedAt members);
   }
 
   -- the claims of members none of which is faulty; `sub` has to be there
@@ -65,4 +66,4 @@ module _ {GC : Type 0} (gender_read : Kind GC) where
   -- the first faulty place with its refusal; then a missing `sub`, at the place behind the last
   -- member; else the claims
   abbrev pub claims_of : List SeenMember → Result (SeenClaims GC) (ℕ × Refusal)
-  claims_of members = unless_refused (first_fault gender_read members) members
+  claims_of members = unless_refused (first_fault gender_read reading members) members

@@ -8,6 +8,7 @@ use Rattle.oidc_types.specs.{Variants}
 use Rattle.oidc_members.specs.Seen.{SeenMember, OutSeen}
 use Rattle.oidc_members.specs.Objects.{members_of}
 use Rattle.oidc_members.specs.Write.{data_of, object_text}
+use Rattle.oidc_members.specs.declared.reading.Reading.{Reading}
 use Rattle.oidc_members.specs.declared.refusal.Refusal.{Refusal}
 use Rattle.oidc_readers.specs.Moments.{moment_at, seconds_data}
 use Rattle.oidc_readers.specs.Writing.{text_member}
@@ -125,11 +126,12 @@ pub record IsInRange {GC : Type 0} (claims : SeenClaims GC) : Type 0 where
   pub website : HasVariants claims.website
   pub updated_at : IsWholeSecond claims.updated_at
 
--- The object's text of those members is read as these claims.
+-- The object's text of those members is read as these claims, under every reading.
 abbrev pub GivesClaims : {GC : Type 0} → (SeenMember → Result GC Refusal)
     → List OutSeen → SeenClaims GC → Type 0
 GivesClaims gender_read members claims =
-    option_map (claims_of gender_read) (members_of (object_text members)) ≡ Some (Ok claims)
+    (reading : Reading)
+    → option_map (claims_of gender_read reading) (members_of (object_text members)) ≡ Some (Ok claims)
 
 -- ---- for private clauses
 

@@ -6,7 +6,7 @@ ghost use Rattle.oidc_claims.specs.Address.{part_name, address_rule, address_of,
 ghost use Rattle.oidc_claims.specs.Reader.{address_reader_of};
 
 use crate::claims::address::AddressClaim;
-use oidc_members::{Member, Members, ParseError, ParseKind};
+use oidc_members::{Member, Members, ParseError, ParseKind, Reading};
 use oidc_readers::{FieldValue, MemberReader, Once, read_fields, refused};
 use oidc_types::{
     AddressCountry, AddressLocality, AddressPostalCode, AddressRegion, FormattedAddress,
@@ -85,11 +85,16 @@ impl AddressReader {
 }
 
 impl MemberReader for AddressReader {
-    ghost fault = { address_rule };
+    ghost fault = { λ _. address_rule };
 
-    ghost state = { address_reader_of };
+    ghost state = { λ _. address_reader_of };
 
-    fn take(&mut self, alloc: Global, member: &Member) -> Result<(), ParseError> {
+    fn take(
+        &mut self,
+        alloc: Global,
+        member: &Member,
+        _reading: Reading,
+    ) -> Result<(), ParseError> {
         self.formatted
             .take(alloc, AddressPart::Formatted.name(), member)
             .and(
@@ -114,16 +119,16 @@ impl MemberReader for AddressReader {
 
 // The address that an object's members are.
 fn address_in(alloc: Global, members: &Members) -> Result<AddressClaim, ParseError>
-    ensures { Answers (address_in_members members.now) result }
+    ensures { Answers (address_in_members members.now.list) result }
 {
     Ok(read_fields(alloc, AddressReader::new(), members)?.into_address())
 }
 
 /// An object of optional texts.
 impl FieldValue for AddressClaim {
-    ghost read_of = { address_kind };
+    ghost read_of = { λ _. address_kind };
 
-    fn read(alloc: Global, member: &Member) -> Result<AddressClaim, ParseError> {
+    fn read(alloc: Global, member: &Member, _reading: Reading) -> Result<AddressClaim, ParseError> {
         if !member.value().is_object() {
             return Err(refused(alloc, ParseKind::WrongType, member.name()));
         }

@@ -2,7 +2,7 @@
 ghost use Rattle.std.specs.Prelude.{◌≡◌};
 
 use crate::gender::GenderClaim;
-use oidc_members::{Member, ParseError};
+use oidc_members::{Member, ParseError, Reading};
 use oidc_readers::FieldValue;
 use std::alloc::Global;
 use std::marker::Model;
@@ -32,9 +32,9 @@ pub(crate) fn gender_of<GC: GenderClaim>(gender: Option<GenderOf<GC>>) -> Option
 }
 
 impl<GC: GenderClaim> FieldValue for GenderOf<GC> {
-    ghost read_of = { GC.read_of };
+    ghost read_of = { λ _. GC.read_of };
 
-    fn read(alloc: Global, member: &Member) -> Result<GenderOf<GC>, ParseError> {
+    fn read(alloc: Global, member: &Member, _reading: Reading) -> Result<GenderOf<GC>, ParseError> {
         match GC::read(alloc, member) {
             Ok(gender) => Ok(GenderOf { gender }),
             Err(error) => Err(error),

@@ -1,5 +1,6 @@
 // The reader of the standard claims: one slot a claim.
 ghost use Rattle.std.specs.Prelude.{◌≡◌, ℕ, List, [], length, Some, None, Ok, Err};
+ghost use Rattle.oidc_members.specs.declared.reading.Reading.{Reading};
 ghost use Rattle.oidc_members.specs.declared.refusal.Refusal.{Refusal};
 ghost use Rattle.oidc_members.specs.Answers.{Answers};
 ghost use Rattle.oidc_members.specs.Seen.{SeenMember};
@@ -14,7 +15,7 @@ use crate::claims::gender_value::{GenderOf, gender_of};
 use crate::claims::slots::{Languages, take_once};
 use crate::claims::{AddressClaim, StandardClaims};
 use crate::gender::GenderClaim;
-use oidc_members::{Member, Members, ParseError, ParseKind};
+use oidc_members::{Member, Members, ParseError, ParseKind, Reading};
 use oidc_readers::{MemberReader, Moment, Once, PlacedError, read_members, refused, timestamp_of};
 use oidc_types::{
     EndUserBirthday, EndUserEmail, EndUserFamilyName, EndUserGivenName, EndUserMiddleName,
@@ -55,7 +56,7 @@ impl<GC: GenderClaim> ClaimsReader<GC> {
     /// The reader before any member came.
     #[tactic(auto, unfolding(crate::specs::Reader::reader_of))]
     pub fn new(alloc: Global) -> Self
-        ensures empty { result ≡ reader_of GC.read_of [] }
+        ensures empty { (reading : Reading) → result ≡ reader_of GC.read_of reading [] }
     {
         ClaimsReader {
             subject: Once::new(),
@@ -82,11 +83,12 @@ impl<GC: GenderClaim> ClaimsReader<GC> {
         }
     }
 
-    /// The claims of the members that came, none of them faulty. Without `sub` the answer is
-    /// `Missing` of `sub`.
+    /// The claims of the members that came, none of them faulty, under the reading under which they
+    /// were taken. Without `sub` the answer is `Missing` of `sub`.
     pub fn finish(mut self, alloc: Global) -> Result<StandardClaims<GC>, ParseError>
-        ensures claims { (members : List SeenMember) → self ≡ reader_of GC.read_of members
-            → Answers (faultless_claims GC.read_of members) result }
+        ensures claims { (reading : Reading) (members : List SeenMember)
+            → self ≡ reader_of GC.read_of reading members
+            → Answers (faultless_claims GC.read_of reading members) result }
     {
         match self.subject.value.take() {
             Some(subject) => Ok(self.claims_with(subject)),
@@ -133,68 +135,80 @@ impl<GC: GenderClaim> MemberReader for ClaimsReader<GC> {
 
     ghost state = { reader_of GC.read_of };
 
-    fn take(&mut self, alloc: Global, member: &Member) -> Result<(), ParseError> {
+    fn take(&mut self, alloc: Global, member: &Member, reading: Reading) -> Result<(), ParseError> {
         match Claim::of_member(member) {
             None => Ok(()),
-            Some(Claim::Subject) => take_once(&mut self.subject, alloc, member),
-            Some(Claim::Name) => self.name.take(alloc, member),
-            Some(Claim::GivenName) => self.given_name.take(alloc, member),
-            Some(Claim::FamilyName) => self.family_name.take(alloc, member),
-            Some(Claim::MiddleName) => self.middle_name.take(alloc, member),
-            Some(Claim::Nickname) => self.nickname.take(alloc, member),
+            Some(Claim::Subject) => take_once(&mut self.subject, alloc, member, reading),
+            Some(Claim::Name) => self.name.take(alloc, member, reading),
+            Some(Claim::GivenName) => self.given_name.take(alloc, member, reading),
+            Some(Claim::FamilyName) => self.family_name.take(alloc, member, reading),
+            Some(Claim::MiddleName) => self.middle_name.take(alloc, member, reading),
+            Some(Claim::Nickname) => self.nickname.take(alloc, member, reading),
             Some(Claim::PreferredUsername) => take_once(
                 &mut self.preferred_username,
                 alloc,
                 member,
+                reading,
             ),
-            Some(Claim::Profile) => self.profile.take(alloc, member),
-            Some(Claim::Picture) => self.picture.take(alloc, member),
-            Some(Claim::Website) => self.website.take(alloc, member),
-            Some(Claim::Email) => take_once(&mut self.email, alloc, member),
-            Some(Claim::EmailVerified) => take_once(&mut self.email_verified, alloc, member),
-            Some(Claim::Gender) => take_once(&mut self.gender, alloc, member),
-            Some(Claim::Birthday) => take_once(&mut self.birthday, alloc, member),
-            Some(Claim::Birthdate) => take_once(&mut self.birthdate, alloc, member),
-            Some(Claim::Zoneinfo) => take_once(&mut self.zoneinfo, alloc, member),
-            Some(Claim::Locale) => take_once(&mut self.locale, alloc, member),
-            Some(Claim::PhoneNumber) => take_once(&mut self.phone_number, alloc, member),
+            Some(Claim::Profile) => self.profile.take(alloc, member, reading),
+            Some(Claim::Picture) => self.picture.take(alloc, member, reading),
+            Some(Claim::Website) => self.website.take(alloc, member, reading),
+            Some(Claim::Email) => take_once(&mut self.email, alloc, member, reading),
+            Some(Claim::EmailVerified) => take_once(
+                &mut self.email_verified,
+                alloc,
+                member,
+                reading,
+            ),
+            Some(Claim::Gender) => take_once(&mut self.gender, alloc, member, reading),
+            Some(Claim::Birthday) => take_once(&mut self.birthday, alloc, member, reading),
+            Some(Claim::Birthdate) => take_once(&mut self.birthdate, alloc, member, reading),
+            Some(Claim::Zoneinfo) => take_once(&mut self.zoneinfo, alloc, member, reading),
+            Some(Claim::Locale) => take_once(&mut self.locale, alloc, member, reading),
+            Some(Claim::PhoneNumber) => take_once(&mut self.phone_number, alloc, member, reading),
             Some(Claim::PhoneNumberVerified) => take_once(
                 &mut self.phone_number_verified,
                 alloc,
                 member,
+                reading,
             ),
-            Some(Claim::Address) => take_once(&mut self.address, alloc, member),
-            Some(Claim::UpdatedAt) => take_once(&mut self.updated_at, alloc, member),
+            Some(Claim::Address) => take_once(&mut self.address, alloc, member, reading),
+            Some(Claim::UpdatedAt) => take_once(&mut self.updated_at, alloc, member, reading),
         }
     }
 }
 
-/// Reads the standard claims. Members that are no standard claim are left aside. The body makes one
-/// pass over the members, of which no clause speaks.
+/// Reads the standard claims under the reading of their members. Members that are no standard claim
+/// are left aside. The body makes one pass over the members, of which no clause speaks.
 ///
 /// It refuses the first faulty member with its place, the kind and the field, and a list without a
-/// faulty one and without `sub` as `Missing` of `sub`, at the place behind the last member. A member
-/// is faulty that repeats its claim, in the same language where the claim may have several
+/// faulty one and without `sub` as `Missing` of `sub`, at the place behind the last member. A
+/// member is faulty that repeats its claim, in the same language where the claim may have several
 /// (`Duplicate`), that has a language tag where its claim may have none (`UnexpectedTag`), or whose
-/// value isn't of its claim's kind (`WrongType`; `Moment` for a whole number out of range; the kind
-/// and the field that stand inside for `address` and `gender`). A null of an optional claim counts
-/// for repeats and is else absent (OpenID Connect Core 1.0 sections 5.1 and 5.2).
+/// value isn't of its claim's kind (`WrongType`; `Moment` for a whole number out of range and for a
+/// text that is no moment where the reading takes texts; the kind and the field that stand inside
+/// for `address` and `gender`). A null of an optional claim counts for repeats and is else absent
+/// (OpenID Connect Core 1.0 sections 5.1 and 5.2).
 pub fn read_standard<GC: GenderClaim>(
     alloc: Global,
     members: &Members,
 ) -> Result<StandardClaims<GC>, PlacedError>
-    ensures answer { PlacedAnswers (claims_of GC.read_of members.now) result }
+    ensures answer { let read = claims_of GC.read_of members.now.reading in
+        PlacedAnswers (read members.now.list) result }
 
     // Where there is memory: the first faulty member refuses the list, then a missing `sub`, and
     // else each claim is read of its own members.
     ensures faulty { (place : ℕ) (refusal : Refusal)
-        → first_fault GC.read_of members.now ≡ Some (place, refusal)
+        → first_fault GC.read_of members.now.reading members.now.list ≡ Some (place, refusal)
         → PlacedAnswers {A = SeenClaims GC} (Err (place, refusal)) result }
-    ensures missing { first_fault GC.read_of members.now ≡ None → subject_of members.now ≡ None
-        → PlacedAnswers {A = SeenClaims GC} (Err (length members.now, missing_subject)) result }
-    ensures claims { (subject : List ℕ) → first_fault GC.read_of members.now ≡ None
-        → subject_of members.now ≡ Some subject
-        → PlacedAnswers (Ok (with_subject GC.read_of subject members.now)) result }
+    ensures missing { first_fault GC.read_of members.now.reading members.now.list ≡ None
+        → subject_of members.now.list ≡ None
+        → PlacedAnswers {A = SeenClaims GC}
+        (Err (length members.now.list, missing_subject)) result }
+    ensures claims { (subject : List ℕ)
+        → first_fault GC.read_of members.now.reading members.now.list ≡ None
+        → subject_of members.now.list ≡ Some subject → PlacedAnswers
+        (Ok (with_subject GC.read_of members.now.reading subject members.now.list)) result }
 {
     standard_of(alloc, members)
 }
@@ -204,9 +218,14 @@ fn standard_of<GC: GenderClaim>(
     alloc: Global,
     members: &Members,
 ) -> Result<StandardClaims<GC>, PlacedError>
-    ensures { PlacedAnswers (claims_of GC.read_of members.now) result }
+    ensures { PlacedAnswers (claims_of GC.read_of members.now.reading members.now.list) result }
 {
-    match read_members(alloc, ClaimsReader::new(alloc), members.as_slice()) {
+    match read_members(
+        alloc,
+        ClaimsReader::new(alloc),
+        members.as_slice(),
+        members.reading(),
+    ) {
         Err(error) => Err(error),
         Ok(reader) => match reader.finish(alloc) {
             Err(error) => Err(PlacedError::at(members.len(), error)),

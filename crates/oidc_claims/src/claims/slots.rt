@@ -12,7 +12,7 @@ ghost use Rattle.oidc_claims.specs.Claims.{once_fault, localized_fault, variants
 ghost use Rattle.oidc_claims.specs.Slots.{languages_slot};
 
 use crate::name::tag_of_name;
-use oidc_members::{Member, ParseError, ParseKind};
+use oidc_members::{Member, ParseError, ParseKind, Reading};
 use oidc_readers::{FieldValue, Once, refused};
 use oidc_types::{LanguageTag, LocalizedClaim};
 use std::alloc::{AllocError, Global};
@@ -22,15 +22,17 @@ pub(crate) fn take_once<T: FieldValue>(
     slot: &mut Once<T>,
     alloc: Global,
     member: &Member,
+    reading: Reading,
 ) -> Result<(), ParseError>
-    ensures { (before : List SeenMember) → slot.old ≡ slot_among T.read_of before
-        → Took (once_fault T.read_of before member.now) result
-        (slot.new ≡ slot_among T.read_of (before ++ member.now ∷ [])) }
+    ensures { let kind = T.read_of reading in
+        (before : List SeenMember) → slot.old ≡ slot_among kind before
+        → Took (once_fault kind before member.now) result
+        (slot.new ≡ slot_among kind (before ++ member.now ∷ [])) }
 {
     if !slot.seen && tag_of_name(member.name()).is_some() {
         return Err(refused(alloc, ParseKind::UnexpectedTag, member.name()));
     }
-    slot.take_own(alloc, member)
+    slot.take_own(alloc, member, reading)
 }
 
 /// A claim in several languages: the tags that came, nulls included, and the values.
@@ -91,10 +93,16 @@ impl<T: FieldValue> Languages<T> {
 
     /// Takes a member of the claim, after those that came.
     #[tactic(auto, using(crate::proofs::Tags::seen_any, crate::proofs::Tags::tags_push))]
-    pub(crate) fn take(&mut self, alloc: Global, member: &Member) -> Result<(), ParseError>
-        ensures { (before : List SeenMember) → self.old ≡ languages_slot T.read_of before
-            → Took (localized_fault (or_null T.read_of) before member.now) result
-            (self.new ≡ languages_slot T.read_of (before ++ member.now ∷ [])) }
+    pub(crate) fn take(
+        &mut self,
+        alloc: Global,
+        member: &Member,
+        reading: Reading,
+    ) -> Result<(), ParseError>
+        ensures { let kind = T.read_of reading in
+            (before : List SeenMember) → self.old ≡ languages_slot kind before
+            → Took (localized_fault (or_null kind) before member.now) result
+            (self.new ≡ languages_slot kind (before ++ member.now ∷ [])) }
     {
         let tag = match owned_tag(alloc, tag_of_name(member.name())) {
             Err(_) => return Err(ParseError::Memory),
@@ -105,7 +113,7 @@ impl<T: FieldValue> Languages<T> {
             Ok(true) => return Err(refused(alloc, ParseKind::Duplicate, member.name())),
             Ok(false) => {}
         }
-        add_value(&mut self.values, alloc, member)?;
+        add_value(&mut self.values, alloc, member, reading)?;
         Ok(())
     }
 }
@@ -116,12 +124,14 @@ fn add_value<T: FieldValue>(
     values: &mut LocalizedClaim<T>,
     alloc: Global,
     member: &Member,
+    reading: Reading,
 ) -> Result<(), ParseError>
-    ensures { (before : List SeenMember) → values.old ≡ variants T.read_of before
-        → Took (result_err (or_null T.read_of member.now)) result
-        (values.new ≡ variants T.read_of (before ++ member.now ∷ [])) }
+    ensures { let kind = T.read_of reading in
+        (before : List SeenMember) → values.old ≡ variants kind before
+        → Took (result_err (or_null kind member.now)) result
+        (values.new ≡ variants kind (before ++ member.now ∷ [])) }
 {
-    match <Option<T> as FieldValue>::read(alloc, member) {
+    match <Option<T> as FieldValue>::read(alloc, member, reading) {
         Err(error) => Err(error),
         Ok(None) => Ok(()),
         Ok(Some(value)) => match owned_tag(alloc, tag_of_name(member.name())) {
