@@ -8,7 +8,7 @@ ghost use Rattle.oidc_readers.specs.WrittenBack.{IsUtf8Member};
 ghost use Rattle.oidc_jwt.specs.Header as spec;
 ghost use Rattle.oidc_jwt.specs.HeaderFields.{header_fields};
 
-use oidc_members::{FieldName, Member, Members, OutMember, ParseError, ParseKind};
+use oidc_members::{FieldName, Member, Members, OutMember, ParseError, ParseKind, Reading};
 use oidc_readers::{
     FieldValue, MemberReader, Once, Present, put_optional_text, put_text, read_fields, refused,
 };
@@ -60,9 +60,13 @@ fn algorithm_named<JE: ClosedVocabulary, JS: ClosedVocabulary>(
 }
 
 impl<JE: ClosedVocabulary, JS: ClosedVocabulary> FieldValue for JsonWebTokenAlgorithm<JE, JS> {
-    ghost read_of = { spec.algorithm_kind JE.from_str JS.from_str };
+    ghost read_of = { λ _. spec.algorithm_kind JE.from_str JS.from_str };
 
-    fn read(alloc: Global, member: &Member) -> Result<JsonWebTokenAlgorithm<JE, JS>, ParseError> {
+    fn read(
+        alloc: Global,
+        member: &Member,
+        _reading: Reading,
+    ) -> Result<JsonWebTokenAlgorithm<JE, JS>, ParseError> {
         let Some(text) = member.value().as_str() else {
             return Err(refused(alloc, ParseKind::WrongType, member.name()));
         };
@@ -99,11 +103,16 @@ impl<JE: ClosedVocabulary, JS: ClosedVocabulary> HeaderFields<JE, JS> {
 }
 
 impl<JE: ClosedVocabulary, JS: ClosedVocabulary> MemberReader for HeaderFields<JE, JS> {
-    ghost fault = { spec.header_rule JE.from_str JS.from_str };
+    ghost fault = { λ _. spec.header_rule JE.from_str JS.from_str };
 
-    ghost state = { header_fields JE.from_str JS.from_str };
+    ghost state = { λ _. header_fields JE.from_str JS.from_str };
 
-    fn take(&mut self, alloc: Global, member: &Member) -> Result<(), ParseError> {
+    fn take(
+        &mut self,
+        alloc: Global,
+        member: &Member,
+        _reading: Reading,
+    ) -> Result<(), ParseError> {
         self.alg
             .take(alloc, "alg", member)
             .and(self.typ.take(alloc, "typ", member))
@@ -114,12 +123,13 @@ impl<JE: ClosedVocabulary, JS: ClosedVocabulary> MemberReader for HeaderFields<J
 }
 
 impl<JE: ClosedVocabulary, JS: ClosedVocabulary> TokenHeader<JE, JS> {
-    /// Reads a header. The first faulty member refuses it, then a missing `alg`. A member of the table
-    /// is faulty that repeats, or that isn't of its kind: texts, of which `alg` is that of an algorithm
-    /// (`Algorithm`), and any value for `crit`. Other members are left aside.
+    /// Reads a header. The first faulty member refuses it, then a missing `alg`. A member of the
+    /// table is faulty that repeats, or that isn't of its kind: texts, of which `alg` is that of an
+    /// algorithm (`Algorithm`), and any value for `crit`. Other members are left aside. The
+    /// members' reading doesn't matter, since no field is a boolean or a moment.
     #[tactic(auto, unfolding(crate::specs::Header::header_of, oidc_readers::specs::Slots::slot))]
     pub fn read(alloc: Global, members: &Members) -> Result<Self, ParseError>
-        ensures answer { Answers (spec.header_of JE.from_str JS.from_str members.now) result }
+        ensures answer { Answers (spec.header_of JE.from_str JS.from_str members.now.list) result }
     {
         let fields = read_fields(alloc, HeaderFields::<JE, JS>::new(), members)?;
         let alg = fields.alg.required(alloc, "alg")?;

@@ -4,6 +4,7 @@ ghost use Rattle.std.specs.Prelude.{◌≡◌, ◌++◌, List, ℕ, codes, Ok, E
 ghost use Rattle.std.specs.Option.{option_copied};
 ghost use Rattle.oidc_members.specs.Answers.{Answers};
 ghost use Rattle.oidc_members.specs.Write.{any_float, object_text};
+ghost use Rattle.oidc_members.specs.declared.reading.Reading.{Reading};
 ghost use Rattle.oidc_jwt.specs.Encoded.{Encodes, IsHeaded, IsMessage, IsReady};
 ghost use Rattle.oidc_jwt.specs.Header.{written_header};
 ghost use Rattle.oidc_jwt.specs.Tokens.{token_of};
@@ -16,7 +17,7 @@ use crate::parts::{decoded, header_in, parts_of, payload_in};
 use crate::payload::Payload;
 use base64::engine::general_purpose::URL_SAFE_NO_PAD;
 use oidc_keys::{JsonWebKey, PrivateSigningKey};
-use oidc_members::{OutMember, ParseError, write_object};
+use oidc_members::{OutMember, ParseError, Reading, write_object};
 use oidc_types::{Body, ClosedVocabulary, JsonWebKeyId, JwsSigningAlgorithm, SigningError};
 use std::alloc::{AllocError, Global};
 use std::marker::Model;
@@ -142,10 +143,19 @@ impl<JE: ClosedVocabulary, JS: ClosedVocabulary, P: Payload> JsonWebToken<JE, JS
     /// first is a header and the second the payload's object.
     ///
     /// It is refused as `Token` where it hasn't such parts, then as its header is refused, then as its
-    /// payload is.
-    #[tactic(auto, unfolding(crate::specs::Tokens::token_of))]
+    /// payload is under the strict reading.
     pub fn read(alloc: Global, text: &str) -> Result<Self, ParseError>
-        ensures answer { Answers (token_of JE.from_str JS.from_str P.read_of text.now) result }
+        ensures answer { let payload_read = P.read_of Reading.STRICT in
+            Answers (token_of JE.from_str JS.from_str payload_read text.now) result }
+    {
+        JsonWebToken::read_with(alloc, text, Reading::STRICT)
+    }
+
+    /// The same, with the payload read under that reading.
+    #[tactic(auto, unfolding(crate::specs::Tokens::token_of))]
+    pub fn read_with(alloc: Global, text: &str, reading: Reading) -> Result<Self, ParseError>
+        ensures answer { let payload_read = P.read_of reading in
+            Answers (token_of JE.from_str JS.from_str payload_read text.now) result }
     {
         let parts = parts_of(alloc, text)?;
         let first = decoded(alloc, parts.header)?;
@@ -153,7 +163,7 @@ impl<JE: ClosedVocabulary, JS: ClosedVocabulary, P: Payload> JsonWebToken<JE, JS
         let signature = decoded(alloc, parts.signature)?;
         let text = String::from_str(alloc, text)?;
         let header = header_in(alloc, first.as_slice())?;
-        let payload = payload_in(alloc, second.as_slice())?;
+        let payload = payload_in(alloc, second.as_slice(), reading)?;
         Ok(JsonWebToken {
             text,
             header,
@@ -204,10 +214,11 @@ impl<JE: ClosedVocabulary, JS: JwsSigningAlgorithm, P: Payload> JsonWebToken<JE,
     /// Issues a token: its header has the algorithm and, where the verification key has one, the key's
     /// id, and the signer signs the first two parts with the dot between them.
     ///
-    /// Where the payload's values hold no float, the whole token or refusal is the one that `issued` says.
-    /// Whatever they hold, it is refused as the signer refuses a message with the token's header, or as
-    /// `Memory`. Its text is read back as this token where the algorithm is read back from its own text,
-    /// which isn't `none`, and the payload's members are read back as the payload.
+    /// Where the payload's values hold no float, the whole token or refusal is the one that
+    /// `issued` says. Whatever they hold, it is refused as the signer refuses a message with the
+    /// token's header, or as `Memory`. Its text is read back as this token, under each reading
+    /// under which the payload's members are read back as the payload, where the algorithm is read
+    /// back from its own text, which isn't `none`.
     pub fn new<S: PrivateSigningKey>(
         alloc: Global,
         payload: P,
@@ -236,10 +247,10 @@ impl<JE: ClosedVocabulary, JS: JwsSigningAlgorithm, P: Payload> JsonWebToken<JE,
             IfErr result (IsRefusedBy header (S.signs key.now alg.now)) }
 
         // What is issued is read back, where its algorithm and its payload are.
-        ensures reads_back { IsNamed JS.as_ref JS.from_str alg.now
-            → ComesBack P.read_of P.write_of payload
+        ensures reads_back { (reading : Reading) → IsNamed JS.as_ref JS.from_str alg.now
+            → ComesBack (P.read_of reading) P.write_of payload
             → IfOk result (λ token.
-            token_of JE.from_str JS.from_str P.read_of token.text ≡ Ok token) }
+            token_of JE.from_str JS.from_str (P.read_of reading) token.text ≡ Ok token) }
     {
         let unsigned = Unsigned::of(alloc, &payload, key, alg.as_ref())?;
         let signature = key.sign(alloc, alg, unsigned.message.as_bytes())?;

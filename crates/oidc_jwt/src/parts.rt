@@ -11,7 +11,7 @@ use crate::header::TokenHeader;
 use crate::payload::Payload;
 use base64::DecodeAllocError;
 use base64::engine::general_purpose::URL_SAFE_NO_PAD;
-use oidc_members::{Members, ParseError, ParseKind, Refusal};
+use oidc_members::{Members, ParseError, ParseKind, Reading, Refusal};
 use oidc_types::{Body, ClosedVocabulary};
 use std::alloc::Global;
 use std::marker::Model;
@@ -122,10 +122,14 @@ pub(crate) fn header_in<JE: ClosedVocabulary, JS: ClosedVocabulary>(
     TokenHeader::read(alloc, &members)
 }
 
-// The payload that some bytes are.
-pub(crate) fn payload_in<P: Payload>(alloc: Global, bytes: &[u8]) -> Result<P, ParseError>
-    ensures { Answers (spec.object_read P.read_of bytes.now) result }
+// The payload that some bytes are, under a reading.
+pub(crate) fn payload_in<P: Payload>(
+    alloc: Global,
+    bytes: &[u8],
+    reading: Reading,
+) -> Result<P, ParseError>
+    ensures { Answers (spec.object_read (P.read_of reading) bytes.now) result }
 {
-    let members = Members::split(alloc, bytes)?;
+    let members = Members::split(alloc, bytes)?.with_reading(reading);
     P::read(alloc, &members)
 }

@@ -44,8 +44,8 @@ returns g c =
       signed = ap signs (ap (λ t. t.message) made) ∙ said;
       text = whole ∙ ap (λ m. compact m signature) (sym (ap (λ t. t.message) made));
       refused = tt;
-      reads_back = λ named back.
-          token_again g.JE.ClosedVocabulary.from_str g.JS.ClosedVocabulary.from_str g.P.Payload.read_of payload_out alg_text alg id payload named back ready.header_texts ready.payload_texts text message
+      reads_back = λ reading named back.
+          token_again g.JE.ClosedVocabulary.from_str g.JS.ClosedVocabulary.from_str (g.P.Payload.read_of reading) payload_out alg_text alg id payload named back ready.header_texts ready.payload_texts text message
           last.0 signature (ready.of_members (standing_free (payload_out payload) back.values)) encodes is
           ∙ (λ i. Ok (record { text = whole i; header = signed_with alg id; payload = payload; message = message; signature = signature }))
           ∙ ap Ok (sym made);

@@ -2,7 +2,7 @@ use Rattle.std.proofs.Common.{◌+◌, Ok, length, sym, ap, ◌∙◌}
 use Rattle.oidc_jwt.specs.Header.{header_of}
 use Rattle.oidc_jwt.specs.Tokens.{Parts, object_read}
 use Rattle.oidc_jwt.proofs.PartsOf.{message_bounded, token_back}
-use Rattle.oidc_jwt.proofs.jwt.JsonWebToken.read.Goals as goal
+use Rattle.oidc_jwt.proofs.jwt.JsonWebToken.read_with.Goals as goal
 
 pub invariant_of-result : goal.invariant_of-result
 invariant_of-result g c = rw (c.in_ok-text.ensures.ok, c.message_len.ensures) (message_bounded c.args.text.now c.in_ok-parts.parts c.in_ok-parts.ensures)
@@ -11,7 +11,7 @@ pub returns : goal.returns
 returns g c =
     let encryption_named = g.JE.ClosedVocabulary.from_str in
     let signing_named = g.JS.ClosedVocabulary.from_str in
-    let reads = g.P.Payload.read_of in
+    let reads = g.P.Payload.read_of c.args.reading in
     let parts : Parts = record { header = c.parts.inside.header.now; payload = c.parts.inside.payload.now; signature = c.parts.inside.signature.now } in
     record {
       answer = token_back encryption_named signing_named reads c.args.text.now _ _ parts c.in_ok-first.first c.in_ok-second.second _ _ _
