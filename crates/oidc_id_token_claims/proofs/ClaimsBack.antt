@@ -13,6 +13,7 @@ use Rattle.serde_json.specs.View.{items_of}
 use Rattle.oidc_members.specs.Seen.{SeenMember, OutSeen}
 use Rattle.oidc_members.specs.Objects.{members_of}
 use Rattle.oidc_members.specs.Write.{object_text}
+use Rattle.oidc_members.specs.declared.reading.Reading.{Reading}
 use Rattle.oidc_members.specs.declared.refusal.Refusal.{Refusal}
 use Rattle.oidc_readers.specs.Moments.{seconds_data}
 use Rattle.oidc_readers.specs.Passes.{first_by}
@@ -188,15 +189,15 @@ module _
       (All-append (λ (m : OutSeen). MayStand m.value) first_part second_part (own_stand c.own range.expiration range.issue_time range.auth_time)
       (each_stands second_part (written_stands gender_data gender_there c.standard_claims range.standard_claims))) range.values
 
-  own_there : own_of all ≡ Ok c.own
-  own_there =
-      sym (own_same all) ∙ ap own_of (own_kept ∙ ap (map as_read) (written_as c.own))
-      ∙ own_back c.own range.issuer range.expiration range.issue_time range.auth_time
+  own_there : (reading : Reading) → own_of reading all ≡ Ok c.own
+  own_there reading =
+      sym (own_same reading all) ∙ ap (own_of reading) (own_kept ∙ ap (map as_read) (written_as c.own))
+      ∙ own_back reading c.own range.issuer range.expiration range.issue_time range.auth_time
 
-  clean_own : first_by own_rule [] all ≡ None
-  clean_own =
-      passes_apart own_rule (is_field id_token_fields) rule_outside rule_narrowed all []
-      (ap (first_by own_rule []) (own_kept ∙ ap (map as_read) (written_as c.own)) ∙ own_clean c.own range.issuer range.expiration range.issue_time range.auth_time)
+  clean_own : (reading : Reading) → first_by (own_rule reading) [] all ≡ None
+  clean_own reading =
+      passes_apart (own_rule reading) (is_field id_token_fields) (rule_outside reading) (rule_narrowed reading) all []
+      (ap (first_by (own_rule reading) []) (own_kept ∙ ap (map as_read) (written_as c.own)) ∙ own_clean reading c.own range.issuer range.expiration range.issue_time range.auth_time)
 
   additional_there : additional_read (additional_members all) ≡ Ok c.additional_claims
   additional_there = ap additional_read (additional_kept id_token_fields refl first_part second_part third_part (fields_named c.own) seconds thirds) ∙ additional_back c.additional_claims (map as_read third_part) (outs_back third_part)
@@ -205,21 +206,21 @@ module _
     standard_texts : All IsUtf8Member second_part
     standard_texts = behind IsUtf8Member first_part second_part (before IsUtf8Member (first_part ++ second_part) third_part texts)
 
-    read_standard : (first_by (fault_at gender_read) [] all ≡ None) × (faultless_claims gender_read all ≡ Ok c.standard_claims)
-    read_standard =
+    read_standard : (reading : Reading) → (first_by (fault_at gender_read reading) [] all ≡ None) × (faultless_claims gender_read reading all ≡ Ok c.standard_claims)
+    read_standard reading =
         let kept = standard_kept id_token_fields refl first_part second_part third_part (fields_named c.own) seconds thirds in (
-          standard_clean gender_read gender_data gender_back gender_there c.standard_claims range.standard_claims standard_texts all kept,
-          standard_there gender_read gender_data gender_back gender_there c.standard_claims range.standard_claims standard_texts all kept,
+          standard_clean gender_read reading gender_data gender_back gender_there c.standard_claims range.standard_claims standard_texts all kept,
+          standard_there gender_read reading gender_data gender_back gender_there c.standard_claims range.standard_claims standard_texts all kept,
         )
 
-    pub read_again : id_token_claims_of additional_read gender_read all ≡ Ok c
+    pub read_again : (reading : Reading) → id_token_claims_of additional_read gender_read reading all ≡ Ok c
     unfolding id_token_claims_of parts_in
-    read_again = rw (no_fault (id_token_rule gender_read) all (passes_both own_rule (fault_at gender_read) all [] clean_own read_standard.0), own_there, read_standard.1, additional_there) refl
+    read_again reading = rw (no_fault (id_token_rule gender_read reading) all (passes_both (own_rule reading) (fault_at gender_read reading) all [] (clean_own reading) (read_standard reading).0), own_there reading, (read_standard reading).1, additional_there) refl
 
     pub gives_claims : GivesTokenClaims additional_read gender_read (id_token_members additional_out gender_data c) c
-    gives_claims =
-        ap (option_map (id_token_claims_of additional_read gender_read)) (written_split_back (id_token_members additional_out gender_data c) (may_be_written (id_token_members additional_out gender_data c) values_stand texts))
-        ∙ ap Some read_again
+    gives_claims reading =
+        ap (option_map (id_token_claims_of additional_read gender_read reading)) (written_split_back (id_token_members additional_out gender_data c) (may_be_written (id_token_members additional_out gender_data c) values_stand texts))
+        ∙ ap Some (read_again reading)
 
-  pub comes_back : ComesBack (id_token_claims_of additional_read gender_read) (id_token_members additional_out gender_data) c
-  comes_back = record { values = values_stand; same = read_again }
+  pub comes_back : (reading : Reading) → ComesBack (id_token_claims_of additional_read gender_read reading) (id_token_members additional_out gender_data) c
+  comes_back reading = record { values = values_stand; same = λ texts. read_again texts reading }

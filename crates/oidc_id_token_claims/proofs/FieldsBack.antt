@@ -8,10 +8,11 @@ use Rattle.serde_json.specs.Data.{Data, string}
 use Rattle.serde_json.specs.Find.{as_number, as_integer, of_integer}
 use Rattle.serde_json.specs.View.{items_of}
 use Rattle.oidc_members.specs.Seen.{SeenMember, OutSeen}
+use Rattle.oidc_members.specs.declared.reading.Reading.{Reading}
 use Rattle.oidc_members.specs.declared.refusal.Refusal.{Refusal}
 use Rattle.oidc_members.specs.declared.refusal.ParseKind.TheVariants.{Moment, WrongType}
 use Rattle.oidc_types.specs.{TextAndUrl}
-use Rattle.oidc_readers.specs.Kinds.{of_member, url_parsed, url_kind, seconds_read, moment_kind, text_kind, texts_in, texts_kind, text_or_texts_kind, there, or_null}
+use Rattle.oidc_readers.specs.Kinds.{of_member, url_parsed, url_kind, seconds_read, moment_read, moment_kind, text_kind, texts_in, texts_kind, text_or_texts_kind, there, or_null}
 use Rattle.oidc_readers.specs.Fields.{Field, own, value_in, judged, first_value}
 use Rattle.oidc_readers.specs.Records.{◌>>=◌, missing, required, optional}
 use Rattle.oidc_readers.specs.Moments.{seconds_of, seconds_data}
@@ -79,9 +80,9 @@ integer_back : (z : ℤ) → as_integer (of_integer z) ≡ Some z
 integer_back (pos n) = refl
 integer_back (negsuc n) = refl
 
-moment_back : (m : SeenMember) (nanosecond : ℤ) → m.value ≡ seconds_data nanosecond → IsWholeSecond (Some nanosecond) → moment_kind m ≡ Ok nanosecond
-moment_back m nanosecond is h =
-    ap (λ v. seconds_read m (option_and_then as_integer (as_number v))) is
+moment_back : (reading : Reading) (m : SeenMember) (nanosecond : ℤ) → m.value ≡ seconds_data nanosecond → IsWholeSecond (Some nanosecond) → moment_kind reading m ≡ Ok nanosecond
+moment_back reading m nanosecond is h =
+    ap (moment_read reading m) is
     ∙ ap (seconds_read m) (integer_back (seconds_of nanosecond))
     ∙ ap (λ o. ok_or o (of_member Moment m)) (whole_second nanosecond h.0 h.1)
 
@@ -134,10 +135,10 @@ optional_texts name None = refl
 optional_texts name (Some texts) =
     ap (λ o. option_flatten (result_ok (there (ok_or o (of_member WrongType (as_read (record { name = name; value = texts_data texts }))))))) (texts_back texts)
 
-optional_moment : (name : List ℕ) (o : Option ℤ) → IsWholeSecond o → option_flatten (first_value (or_null moment_kind) (map as_read (out_at name (option_map seconds_data o)))) ≡ o
-optional_moment name None h = refl
-optional_moment name (Some moment) h =
-    ap (λ r. option_flatten (result_ok (there r))) (moment_back (as_read (record { name = name; value = seconds_data moment })) moment refl h)
+optional_moment : (reading : Reading) (name : List ℕ) (o : Option ℤ) → IsWholeSecond o → option_flatten (first_value (or_null (moment_kind reading)) (map as_read (out_at name (option_map seconds_data o)))) ≡ o
+optional_moment reading name None h = refl
+optional_moment reading name (Some moment) h =
+    ap (λ r. option_flatten (result_ok (there r))) (moment_back reading (as_read (record { name = name; value = seconds_data moment })) moment refl h)
 
 -- ---- the fields of all members
 
@@ -150,6 +151,7 @@ three_steps : (a : Result TextAndUrl Refusal) (b d : Result ℤ Refusal) (issuer
 three_steps a b d issuer expiration issue_time p q r = rw (p, q, r) refl
 
 module _
+    (reading : Reading)
     (c : SeenOwnClaims)
     (url : parse_url None c.issuer.text ≡ Ok c.issuer.url)
     (expiration : IsWholeSecond (Some c.expiration))
@@ -161,24 +163,24 @@ module _
   url_back : url_kind (read_at (codes "iss") (string c.issuer.text)) ≡ Ok c.issuer
   url_back = ap (url_parsed (read_at (codes "iss") (string c.issuer.text)) c.issuer.text) url
 
-  exp_back : moment_kind (read_at (codes "exp") (seconds_data c.expiration)) ≡ Ok c.expiration
-  exp_back = moment_back (read_at (codes "exp") (seconds_data c.expiration)) c.expiration refl expiration
+  exp_back : moment_kind reading (read_at (codes "exp") (seconds_data c.expiration)) ≡ Ok c.expiration
+  exp_back = moment_back reading (read_at (codes "exp") (seconds_data c.expiration)) c.expiration refl expiration
 
-  iat_back : moment_kind (read_at (codes "iat") (seconds_data c.issue_time)) ≡ Ok c.issue_time
-  iat_back = moment_back (read_at (codes "iat") (seconds_data c.issue_time)) c.issue_time refl issue_time
+  iat_back : moment_kind reading (read_at (codes "iat") (seconds_data c.issue_time)) ≡ Ok c.issue_time
+  iat_back = moment_back reading (read_at (codes "iat") (seconds_data c.issue_time)) c.issue_time refl issue_time
 
   iss_there : required iss (seen (entries c)) ≡ Ok c.issuer
   iss_there = ap (λ ms. ok_or (first_value url_kind ms) (missing (codes "iss"))) (iss_alone c) ∙ ap (λ r. ok_or (result_ok r) (missing (codes "iss"))) url_back
 
-  exp_there : required exp (seen (entries c)) ≡ Ok c.expiration
-  exp_there = ap (λ ms. ok_or (first_value moment_kind ms) (missing (codes "exp"))) (exp_alone c) ∙ ap (λ r. ok_or (result_ok r) (missing (codes "exp"))) exp_back
+  exp_there : required (exp reading) (seen (entries c)) ≡ Ok c.expiration
+  exp_there = ap (λ ms. ok_or (first_value (moment_kind reading) ms) (missing (codes "exp"))) (exp_alone c) ∙ ap (λ r. ok_or (result_ok r) (missing (codes "exp"))) exp_back
 
-  iat_there : required iat (seen (entries c)) ≡ Ok c.issue_time
-  iat_there = ap (λ ms. ok_or (first_value moment_kind ms) (missing (codes "iat"))) (iat_alone c) ∙ ap (λ r. ok_or (result_ok r) (missing (codes "iat"))) iat_back
+  iat_there : required (iat reading) (seen (entries c)) ≡ Ok c.issue_time
+  iat_there = ap (λ ms. ok_or (first_value (moment_kind reading) ms) (missing (codes "iat"))) (iat_alone c) ∙ ap (λ r. ok_or (result_ok r) (missing (codes "iat"))) iat_back
 
-  pub needed_back : needed_of (seen (entries c)) ≡ Ok (record { issuer = c.issuer; expiration = c.expiration; issue_time = c.issue_time })
+  pub needed_back : needed_of reading (seen (entries c)) ≡ Ok (record { issuer = c.issuer; expiration = c.expiration; issue_time = c.issue_time })
   unfolding needed_of
-  needed_back = three_steps (required iss (seen (entries c))) (required exp (seen (entries c))) (required iat (seen (entries c))) c.issuer c.expiration c.issue_time iss_there exp_there iat_there
+  needed_back = three_steps (required iss (seen (entries c))) (required (exp reading) (seen (entries c))) (required (iat reading) (seen (entries c))) c.issuer c.expiration c.issue_time iss_there exp_there iat_there
 
   aud_there : unwrap_or (value_in aud (seen (entries c))) [] ≡ c.audiences
   aud_there =
@@ -190,13 +192,13 @@ module _
   text_there f name o alone kind =
       ap (λ ms. option_flatten (first_value f.kind ms)) alone ∙ ap (λ k. option_flatten (first_value k (map as_read (out_at name (option_map string o))))) kind ∙ optional_text name o
 
-  auth_time_there : optional auth_time (seen (entries c)) ≡ c.auth_time
-  auth_time_there = ap (λ ms. option_flatten (first_value (or_null moment_kind) ms)) (auth_time_alone c) ∙ optional_moment (codes "auth_time") c.auth_time authenticated
+  auth_time_there : optional (auth_time reading) (seen (entries c)) ≡ c.auth_time
+  auth_time_there = ap (λ ms. option_flatten (first_value (or_null (moment_kind reading)) ms)) (auth_time_alone c) ∙ optional_moment reading (codes "auth_time") c.auth_time authenticated
 
   amr_there : optional amr (seen (entries c)) ≡ c.auth_method_refs
   amr_there = ap (λ ms. option_flatten (first_value (or_null texts_kind) ms)) (amr_alone c) ∙ optional_texts (codes "amr") c.auth_method_refs
 
-  pub own_back : own_of (seen (entries c)) ≡ Ok c
+  pub own_back : own_of reading (seen (entries c)) ≡ Ok c
   unfolding own_of
   own_back =
       ap (λ n. n >>= λ there. Ok (record {
@@ -204,7 +206,7 @@ module _
         audiences = unwrap_or (value_in aud (seen (entries c))) [];
         expiration = there.expiration;
         issue_time = there.issue_time;
-        auth_time = optional auth_time (seen (entries c));
+        auth_time = optional (auth_time reading) (seen (entries c));
         nonce = optional nonce (seen (entries c));
         auth_context_ref = optional acr (seen (entries c));
         auth_method_refs = optional amr (seen (entries c));
@@ -228,57 +230,57 @@ module _
 
   -- ---- none of them is faulty
 
-  good_text : (name : List ℕ) → ((text : List ℕ) → Good name (Some (string text))) → (o : Option (List ℕ)) → Good name (option_map string o)
+  good_text : (name : List ℕ) → ((text : List ℕ) → Good reading name (Some (string text))) → (o : Option (List ℕ)) → Good reading name (option_map string o)
   good_text name good None = tt
   good_text name good (Some text) = good text
 
-  good_iss : Good (codes "iss") (Some (string c.issuer.text))
+  good_iss : Good reading (codes "iss") (Some (string c.issuer.text))
   unfolding judged
   good_iss = rw url_back refl
 
-  good_aud : Good (codes "aud") (Some (texts_data c.audiences))
+  good_aud : Good reading (codes "aud") (Some (texts_data c.audiences))
   unfolding judged
   good_aud = rw (texts_back c.audiences) refl
 
-  good_exp : Good (codes "exp") (Some (seconds_data c.expiration))
+  good_exp : Good reading (codes "exp") (Some (seconds_data c.expiration))
   unfolding judged
   good_exp = rw exp_back refl
 
-  good_iat : Good (codes "iat") (Some (seconds_data c.issue_time))
+  good_iat : Good reading (codes "iat") (Some (seconds_data c.issue_time))
   unfolding judged
   good_iat = rw iat_back refl
 
-  good_auth_time : (o : Option ℤ) → IsWholeSecond o → Good (codes "auth_time") (option_map seconds_data o)
+  good_auth_time : (o : Option ℤ) → IsWholeSecond o → Good reading (codes "auth_time") (option_map seconds_data o)
   unfolding judged
   good_auth_time None h = tt
-  good_auth_time (Some moment) h = rw (moment_back (read_at (codes "auth_time") (seconds_data moment)) moment refl h) refl
+  good_auth_time (Some moment) h = rw (moment_back reading (read_at (codes "auth_time") (seconds_data moment)) moment refl h) refl
 
-  good_amr : (o : Option (List (List ℕ))) → Good (codes "amr") (option_map texts_data o)
+  good_amr : (o : Option (List (List ℕ))) → Good reading (codes "amr") (option_map texts_data o)
   unfolding judged
   good_amr None = tt
   good_amr (Some texts) = rw (texts_back texts) refl
 
-  good_nonce : (text : List ℕ) → Good (codes "nonce") (Some (string text))
+  good_nonce : (text : List ℕ) → Good reading (codes "nonce") (Some (string text))
   unfolding judged
   good_nonce text = refl
 
-  good_acr : (text : List ℕ) → Good (codes "acr") (Some (string text))
+  good_acr : (text : List ℕ) → Good reading (codes "acr") (Some (string text))
   unfolding judged
   good_acr text = refl
 
-  good_azp : (text : List ℕ) → Good (codes "azp") (Some (string text))
+  good_azp : (text : List ℕ) → Good reading (codes "azp") (Some (string text))
   unfolding judged
   good_azp text = refl
 
-  good_at_hash : (text : List ℕ) → Good (codes "at_hash") (Some (string text))
+  good_at_hash : (text : List ℕ) → Good reading (codes "at_hash") (Some (string text))
   unfolding judged
   good_at_hash text = refl
 
-  good_c_hash : (text : List ℕ) → Good (codes "c_hash") (Some (string text))
+  good_c_hash : (text : List ℕ) → Good reading (codes "c_hash") (Some (string text))
   unfolding judged
   good_c_hash text = refl
 
-  all_good : AllGood (entries c)
+  all_good : AllGood reading (entries c)
   all_good = (
     good_iss,
     (
@@ -305,5 +307,5 @@ module _
     ),
   )
 
-  pub own_clean : first_by own_rule [] (seen (entries c)) ≡ None
-  own_clean = clean (entries c) [] refl refl all_good
+  pub own_clean : first_by (own_rule reading) [] (seen (entries c)) ≡ None
+  own_clean = clean reading (entries c) [] refl refl all_good

@@ -6,6 +6,7 @@ use Rattle.std.specs.Str.{bytes_eq}
 use Rattle.std.proofs.lemmas.Bool.{and_parts, or_cases, false≢true, true≢false}
 use Rattle.std.proofs.lemmas.Slice.Eq.{bytes_eq-Decides}
 use Rattle.oidc_members.specs.Seen.{SeenMember}
+use Rattle.oidc_members.specs.declared.reading.Reading.{Reading}
 use Rattle.oidc_members.specs.declared.refusal.Refusal.{Refusal}
 use Rattle.oidc_readers.specs.Records.{◌>>=◌, faultless}
 use Rattle.oidc_claims.specs.Seen.{SeenClaims}
@@ -57,11 +58,11 @@ within_fields fields name known m h = ap (is_field_name fields) ((bytes_eq-Decid
 pub field_same : (fields : List (List ℕ)) (ms : List SeenMember) (name : List ℕ) → is_field_name fields name ≡ true → filter (λ m. bytes_eq m.name name) (filter (is_field fields) ms) ≡ filter (λ m. bytes_eq m.name name) ms
 field_same fields ms name known = narrowed (λ m. bytes_eq m.name name) (is_field fields) (within_fields fields name known) ms
 
-module _ (ms : List SeenMember) where
+module _ (reading : Reading) (ms : List SeenMember) where
   own_field_same : (name : List ℕ) → is_field_name id_token_fields name ≡ true → filter (λ m. bytes_eq m.name name) (filter (is_field id_token_fields) ms) ≡ filter (λ m. bytes_eq m.name name) ms
   own_field_same = field_same id_token_fields ms
 
-  pub own_same : own_of (filter (is_field id_token_fields) ms) ≡ own_of ms
+  pub own_same : own_of reading (filter (is_field id_token_fields) ms) ≡ own_of reading ms
   unfolding own_of needed_of
   own_same = rw (
     own_field_same (codes "iss") refl,
@@ -82,7 +83,7 @@ module _ (ms : List SeenMember) where
 same_ok : {A : Type 0} (x y : A) → ◌≡◌ {A = Result A Refusal} (Ok x) (Ok y) → x ≡ y
 same_ok x y h = cc
 
-module _ {AC GC : Type 0} (additional_read : List SeenMember → Result AC Refusal) (gender_read : SeenMember → Result GC Refusal) where
+module _ {AC GC : Type 0} (additional_read : List SeenMember → Result AC Refusal) (gender_read : SeenMember → Result GC Refusal) (reading : Reading) where
   additional_of : (own : SeenOwnClaims) (standard : SeenClaims GC) (answer : Result AC Refusal) (claims : SeenIdTokenClaims AC GC)
       → (answer >>= λ additional. Ok (record { own = own; standard_claims = standard; additional_claims = additional })) ≡ Ok claims
       → (own ≡ claims.own) × (standard ≡ claims.standard_claims) × (answer ≡ Ok claims.additional_claims)
@@ -94,9 +95,9 @@ module _ {AC GC : Type 0} (additional_read : List SeenMember → Result AC Refus
 
   abbrev Parts : List SeenMember → SeenIdTokenClaims AC GC → Type 0
   Parts members claims =
-      (own_of members ≡ Ok claims.own) × (faultless_claims gender_read members ≡ Ok claims.standard_claims) × (additional_read (additional_members members) ≡ Ok claims.additional_claims)
+      (own_of reading members ≡ Ok claims.own) × (faultless_claims gender_read reading members ≡ Ok claims.standard_claims) × (additional_read (additional_members members) ≡ Ok claims.additional_claims)
 
-  standard_of : (members : List SeenMember) (own : SeenOwnClaims) → own_of members ≡ Ok own → (answer : Result (SeenClaims GC) Refusal) → faultless_claims gender_read members ≡ answer → (claims : SeenIdTokenClaims AC GC)
+  standard_of : (members : List SeenMember) (own : SeenOwnClaims) → own_of reading members ≡ Ok own → (answer : Result (SeenClaims GC) Refusal) → faultless_claims gender_read reading members ≡ answer → (claims : SeenIdTokenClaims AC GC)
       → (answer >>= λ standard. additional_read (additional_members members) >>= λ additional. Ok (record { own = own; standard_claims = standard; additional_claims = additional })) ≡ Ok claims
       → Parts members claims
   standard_of members own is (Ok standard) there claims h =
@@ -104,27 +105,27 @@ module _ {AC GC : Type 0} (additional_read : List SeenMember → Result AC Refus
       (is ∙ ap Ok rest.0, there ∙ ap Ok rest.1, rest.2)
   standard_of members own is (Err refusal) there claims h = absurd cc
 
-  own_there : (members : List SeenMember) (answer : Result SeenOwnClaims Refusal) → own_of members ≡ answer → (claims : SeenIdTokenClaims AC GC)
-      → (answer >>= λ own. faultless_claims gender_read members >>= λ standard. additional_read (additional_members members) >>= λ additional. Ok (record { own = own; standard_claims = standard; additional_claims = additional })) ≡ Ok claims
+  own_there : (members : List SeenMember) (answer : Result SeenOwnClaims Refusal) → own_of reading members ≡ answer → (claims : SeenIdTokenClaims AC GC)
+      → (answer >>= λ own. faultless_claims gender_read reading members >>= λ standard. additional_read (additional_members members) >>= λ additional. Ok (record { own = own; standard_claims = standard; additional_claims = additional })) ≡ Ok claims
       → Parts members claims
-  own_there members (Ok own) is claims h = standard_of members own is (faultless_claims gender_read members) refl claims h
+  own_there members (Ok own) is claims h = standard_of members own is (faultless_claims gender_read reading members) refl claims h
   own_there members (Err refusal) is claims h = absurd cc
 
-  passed : (members : List SeenMember) (answer : Result (Unit {0}) Refusal) (claims : SeenIdTokenClaims AC GC) → (answer >>= λ u. parts_in additional_read gender_read members) ≡ Ok claims → Parts members claims
+  passed : (members : List SeenMember) (answer : Result (Unit {0}) Refusal) (claims : SeenIdTokenClaims AC GC) → (answer >>= λ u. parts_in additional_read gender_read reading members) ≡ Ok claims → Parts members claims
   unfolding parts_in
-  passed members (Ok u) claims h = own_there members (own_of members) refl claims h
+  passed members (Ok u) claims h = own_there members (own_of reading members) refl claims h
   passed members (Err refusal) claims h = absurd cc
 
-  pub accepted_parts : (members : List SeenMember) (claims : SeenIdTokenClaims AC GC) → id_token_claims_of additional_read gender_read members ≡ Ok claims → Parts members claims
+  pub accepted_parts : (members : List SeenMember) (claims : SeenIdTokenClaims AC GC) → id_token_claims_of additional_read gender_read reading members ≡ Ok claims → Parts members claims
   unfolding id_token_claims_of
-  accepted_parts members claims h = passed members (faultless (id_token_rule gender_read) members) claims h
+  accepted_parts members claims h = passed members (faultless (id_token_rule gender_read reading) members) claims h
 
-  pub accepted_homes : AcceptedHaveOneHome additional_read gender_read
-  accepted_homes members claims h =
-      let parts = accepted_parts members claims h in
-      record {
-        homes = λ k d within. one_home id_token_fields refl (slice_index_or members k d);
-        own = own_same members ∙ parts.0;
-        standard = standard_same gender_read members ∙ parts.1;
-        additional = parts.2;
-      }
+pub accepted_homes : {AC GC : Type 0} (additional_read : List SeenMember → Result AC Refusal) (gender_read : SeenMember → Result GC Refusal) → AcceptedHaveOneHome additional_read gender_read
+accepted_homes additional_read gender_read reading members claims h =
+    let parts = accepted_parts additional_read gender_read reading members claims h in
+    record {
+      homes = λ k d within. one_home id_token_fields refl (slice_index_or members k d);
+      own = own_same reading members ∙ parts.0;
+      standard = standard_same gender_read reading members ∙ parts.1;
+      additional = parts.2;
+    }

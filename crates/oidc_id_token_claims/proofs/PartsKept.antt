@@ -9,6 +9,7 @@ use Rattle.serde_json.specs.Data.{Data, string}
 use Rattle.oidc_members.specs.Seen.{SeenMember, OutSeen}
 use Rattle.oidc_members.specs.Objects.{members_of}
 use Rattle.oidc_members.specs.Write.{object_text}
+use Rattle.oidc_members.specs.declared.reading.Reading.{Reading}
 use Rattle.oidc_members.specs.declared.refusal.Refusal.{Refusal}
 use Rattle.oidc_readers.specs.Passes.{first_by}
 use Rattle.oidc_readers.specs.WrittenBack.{MayStand, IsUtf8Member, as_read}
@@ -173,6 +174,7 @@ module _ (fields : List (List ℕ)) (apart : list_all (λ field. not (standard_n
 module _
     {GC : Type 0}
     (gender_read : SeenMember → Result GC Refusal)
+    (reading : Reading)
     (gender_data : GC → Data)
     (gender_back : GenderReadsBack gender_read gender_data)
     (gender_there : GenderIsValue gender_data)
@@ -187,14 +189,14 @@ module _
   split : members_of (object_text out) ≡ Some (map as_read out)
   split = written_split_back out (may_be_written out (each_stands out (written_stands gender_data gender_there claims range)) texts)
 
-  read : claims_of gender_read (map as_read out) ≡ Ok claims
-  read = same_some _ _ (sym (ap (option_map (claims_of gender_read)) split) ∙ split_reads_back gender_read gender_data gender_back gender_there claims range texts)
+  read : claims_of gender_read reading (map as_read out) ≡ Ok claims
+  read = same_some _ _ (sym (ap (option_map (claims_of gender_read reading)) split) ∙ split_reads_back gender_read gender_data gender_back gender_there claims range texts reading)
 
-  parts : (first_fault gender_read (map as_read out) ≡ None) × (faultless_claims gender_read (map as_read out) ≡ Ok claims)
-  parts = claims_by gender_read (first_fault gender_read (map as_read out)) (map as_read out) claims read
+  parts : (first_fault gender_read reading (map as_read out) ≡ None) × (faultless_claims gender_read reading (map as_read out) ≡ Ok claims)
+  parts = claims_by gender_read reading (first_fault gender_read reading (map as_read out)) (map as_read out) claims read
 
-  pub standard_clean : first_by (fault_at gender_read) [] all ≡ None
-  standard_clean = passes_apart (fault_at gender_read) is_standard (fault_outside gender_read) (fault_narrowed gender_read) all [] (ap (first_by (fault_at gender_read) []) kept ∙ parts.0)
+  pub standard_clean : first_by (fault_at gender_read reading) [] all ≡ None
+  standard_clean = passes_apart (fault_at gender_read reading) is_standard (fault_outside gender_read reading) (fault_narrowed gender_read reading) all [] (ap (first_by (fault_at gender_read reading) []) kept ∙ parts.0)
 
-  pub standard_there : faultless_claims gender_read all ≡ Ok claims
-  standard_there = sym (standard_same gender_read all) ∙ ap (faultless_claims gender_read) kept ∙ parts.1
+  pub standard_there : faultless_claims gender_read reading all ≡ Ok claims
+  standard_there = sym (standard_same gender_read reading all) ∙ ap (faultless_claims gender_read reading) kept ∙ parts.1

@@ -4,6 +4,7 @@ use Rattle.std.specs.Prelude.{◌≡◌, ℕ, List, [], ◌∷◌, filter, Bool,
 use Rattle.std.specs.List.{All, list_any}
 use Rattle.std.specs.Str.{bytes_eq}
 use Rattle.oidc_members.specs.Seen.{SeenMember}
+use Rattle.oidc_members.specs.declared.reading.Reading.{Reading}
 use Rattle.oidc_members.specs.declared.refusal.Refusal.{Refusal}
 use Rattle.oidc_claims.specs.Claims.{is_of}
 use Rattle.oidc_claims.specs.Home.{home_of, is_additional_home, id_token_fields}
@@ -32,16 +33,17 @@ HasOneHome fields m = count_by (λ home. home m) (is_field fields ∷ is_standar
 
 module _ {AC GC : Type 0} (additional_read : List SeenMember → Result AC Refusal)
     (gender_read : SeenMember → Result GC Refusal) where
-  -- Of accepted members, each has one home, and each part of the claims is what the members of its own
-  -- home say.
-  pub record HaveOneHome (members : List SeenMember) (claims : SeenIdTokenClaims AC GC) : Type 0 where
+  -- Of members that are accepted under a reading, each has one home, and each part of the claims is what the
+  -- members of its own home say.
+  pub record HaveOneHome (reading : Reading) (members : List SeenMember)
+      (claims : SeenIdTokenClaims AC GC) : Type 0 where
     pub homes : All (HasOneHome id_token_fields) members
-    pub own : own_of (filter (is_field id_token_fields) members) ≡ Ok claims.own
-    pub standard : faultless_claims gender_read (filter is_standard members) ≡ Ok claims.standard_claims
+    pub own : own_of reading (filter (is_field id_token_fields) members) ≡ Ok claims.own
+    pub standard : faultless_claims gender_read reading (filter is_standard members) ≡ Ok claims.standard_claims
     pub additional : additional_read (filter (is_additional id_token_fields) members) ≡ Ok claims.additional_claims
 
   abbrev pub AcceptedHaveOneHome : Type 0
   AcceptedHaveOneHome =
-      (members : List SeenMember) (claims : SeenIdTokenClaims AC GC)
-      → id_token_claims_of additional_read gender_read members ≡ Ok claims
-      → HaveOneHome members claims
+      (reading : Reading) (members : List SeenMember) (claims : SeenIdTokenClaims AC GC)
+      → id_token_claims_of additional_read gender_read reading members ≡ Ok claims
+      → HaveOneHome reading members claims

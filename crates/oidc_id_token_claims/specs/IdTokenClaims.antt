@@ -4,6 +4,7 @@ use Rattle.std.specs.List.{list_any}
 use Rattle.std.specs.Str.{bytes_eq}
 use Rattle.serde_json.specs.Data.{Data}
 use Rattle.oidc_members.specs.Seen.{SeenMember, OutSeen}
+use Rattle.oidc_members.specs.declared.reading.Reading.{Reading}
 use Rattle.oidc_members.specs.declared.refusal.Refusal.{Refusal}
 use Rattle.oidc_readers.specs.Records.{◌>>=◌, Rule, either_rule, faultless}
 use Rattle.oidc_claims.specs.Seen.{SeenClaims}
@@ -35,24 +36,24 @@ abbrev pub additional_members : List SeenMember → List SeenMember
 additional_members members = filter (λ m. is_additional_claim m.name) members
 
 -- why a member is faulty, after all those before it: by its own field's row, or as a standard claim
-abbrev pub id_token_rule : {GC : Type 0} → (SeenMember → Result GC Refusal) → Rule
-id_token_rule gender_read = either_rule own_rule (fault_at gender_read)
+abbrev pub id_token_rule : {GC : Type 0} → (SeenMember → Result GC Refusal) → Reading → Rule
+id_token_rule gender_read reading = either_rule (own_rule reading) (fault_at gender_read reading)
 
 module _ {AC GC : Type 0} (additional_read : List SeenMember → Result AC Refusal)
-    (gender_read : SeenMember → Result GC Refusal) where
+    (gender_read : SeenMember → Result GC Refusal) (reading : Reading) where
   -- What members say, none of which is faulty. A missing `iss`, `exp`, `iat` or `sub` refuses them, in
   -- this order, and then the additional claims may.
   unfoldable pub parts_in : List SeenMember → Result (SeenIdTokenClaims AC GC) Refusal
   parts_in members = do
-    own ← own_of members
-    standard ← faultless_claims gender_read members
+    own ← own_of reading members
+    standard ← faultless_claims gender_read reading members
     additional ← additional_read (additional_members members)
     Ok (record { own = own; standard_claims = standard; additional_claims = additional })
 
   -- The first faulty member refuses the list.
   unfoldable pub id_token_claims_of : List SeenMember → Result (SeenIdTokenClaims AC GC) Refusal
   id_token_claims_of members = do
-    u ← faultless (id_token_rule gender_read) members
+    u ← faultless (id_token_rule gender_read reading) members
     parts_in members
 
 -- the own fields, the standard claims, then the additional claims

@@ -6,6 +6,7 @@ use Rattle.serde_json.specs.Data.{Data}
 use Rattle.oidc_members.specs.Seen.{SeenMember, OutSeen}
 use Rattle.oidc_members.specs.Objects.{members_of}
 use Rattle.oidc_members.specs.Write.{object_text}
+use Rattle.oidc_members.specs.declared.reading.Reading.{Reading}
 use Rattle.oidc_members.specs.declared.refusal.Refusal.{Refusal}
 use Rattle.oidc_readers.specs.WrittenBack.{MayStand, IsUtf8Member}
 use Rattle.oidc_claims.specs.Write.{IsWholeSecond, IsInRange}
@@ -24,11 +25,13 @@ pub record IsTokenInRange {AC GC : Type 0} (additional_out : AC → List OutSeen
   pub values : All (λ m. MayStand m.value) (additional_out claims.additional_claims)
   pub names : All (λ m. IsFalse (is_own_field m.name)) (additional_out claims.additional_claims)
 
--- The object's text of those members is read as these claims.
+-- The object's text of those members is read as these claims, under every reading.
 abbrev pub GivesTokenClaims : {AC GC : Type 0} → (List SeenMember → Result AC Refusal)
     → (SeenMember → Result GC Refusal) → List OutSeen → SeenIdTokenClaims AC GC → Type 0
 GivesTokenClaims additional_read gender_read members claims =
-    option_map (id_token_claims_of additional_read gender_read) (members_of (object_text members)) ≡ Some (Ok claims)
+    (reading : Reading)
+    → option_map (id_token_claims_of additional_read gender_read reading) (members_of (object_text members))
+    ≡ Some (Ok claims)
 
 -- Claims in range whose written texts are UTF-8 are read back.
 abbrev pub WrittenReadBack : {AC GC : Type 0} → (List SeenMember → Result AC Refusal) → (AC → List OutSeen)

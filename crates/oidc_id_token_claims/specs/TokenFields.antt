@@ -4,6 +4,7 @@ use Rattle.std.specs.Prelude.{ℕ, ℤ, List, [], ◌∷◌, ◌++◌, Option, u
 use Rattle.serde_json.specs.Data.{string}
 use Rattle.oidc_types.specs.{TextAndUrl}
 use Rattle.oidc_members.specs.Seen.{SeenMember, OutSeen}
+use Rattle.oidc_members.specs.declared.reading.Reading.{Reading}
 use Rattle.oidc_members.specs.declared.refusal.Refusal.{Refusal}
 use Rattle.oidc_readers.specs.Kinds.{text_kind, url_kind, moment_kind, texts_kind, text_or_texts_kind, or_null}
 use Rattle.oidc_readers.specs.Fields.{Field, field, judged, value_in}
@@ -33,14 +34,15 @@ iss = field (codes "iss") url_kind
 abbrev pub aud : Field (List (List ℕ))
 aud = field (codes "aud") text_or_texts_kind
 
-abbrev pub exp : Field ℤ
-exp = field (codes "exp") moment_kind
+-- Moments depend on the reading.
+abbrev pub exp : Reading → Field ℤ
+exp reading = field (codes "exp") (moment_kind reading)
 
-abbrev pub iat : Field ℤ
-iat = field (codes "iat") moment_kind
+abbrev pub iat : Reading → Field ℤ
+iat reading = field (codes "iat") (moment_kind reading)
 
-abbrev pub auth_time : Field (Option ℤ)
-auth_time = field (codes "auth_time") (or_null moment_kind)
+abbrev pub auth_time : Reading → Field (Option ℤ)
+auth_time reading = field (codes "auth_time") (or_null (moment_kind reading))
 
 abbrev pub nonce : Field (Option (List ℕ))
 nonce = field (codes "nonce") (or_null text_kind)
@@ -60,10 +62,11 @@ at_hash = field (codes "at_hash") (or_null text_kind)
 abbrev pub c_hash : Field (Option (List ℕ))
 c_hash = field (codes "c_hash") (or_null text_kind)
 
-abbrev pub own_rule : Rule
-own_rule =
+abbrev pub own_rule : Reading → Rule
+own_rule reading =
     by_table
-    (judged iss ∷ judged aud ∷ judged exp ∷ judged iat ∷ judged auth_time ∷ judged nonce
+    (judged iss ∷ judged aud ∷ judged (exp reading) ∷ judged (iat reading)
+    ∷ judged (auth_time reading) ∷ judged nonce
     ∷ judged acr ∷ judged amr ∷ judged azp ∷ judged at_hash ∷ judged c_hash ∷ [])
 
 -- ---- what members say, none of which is faulty
@@ -74,23 +77,23 @@ pub record Needed : Type 0 where
   pub expiration : ℤ
   pub issue_time : ℤ
 
-unfoldable pub needed_of : List SeenMember → Result Needed Refusal
-needed_of members = do
+unfoldable pub needed_of : Reading → List SeenMember → Result Needed Refusal
+needed_of reading members = do
   issuer ← required iss members
-  expiration ← required exp members
-  issue_time ← required iat members
+  expiration ← required (exp reading) members
+  issue_time ← required (iat reading) members
   Ok (record { issuer = issuer; expiration = expiration; issue_time = issue_time })
 
 -- Without `aud` there is no audience.
-unfoldable pub own_of : List SeenMember → Result SeenOwnClaims Refusal
-own_of members = do
-  there ← needed_of members
+unfoldable pub own_of : Reading → List SeenMember → Result SeenOwnClaims Refusal
+own_of reading members = do
+  there ← needed_of reading members
   Ok (record {
     issuer = there.issuer;
     audiences = unwrap_or (value_in aud members) [];
     expiration = there.expiration;
     issue_time = there.issue_time;
-    auth_time = optional auth_time members;
+    auth_time = optional (auth_time reading) members;
     nonce = optional nonce members;
     auth_context_ref = optional acr members;
     auth_method_refs = optional amr members;
@@ -106,9 +109,9 @@ abbrev pub own_members : SeenOwnClaims → List OutSeen
 own_members c =
     one_member iss.name (string c.issuer.text)
     ++ one_member aud.name (texts_data c.audiences)
-    ++ one_member exp.name (seconds_data c.expiration)
-    ++ one_member iat.name (seconds_data c.issue_time)
-    ++ moment_member auth_time.name c.auth_time
+    ++ one_member (codes "exp") (seconds_data c.expiration)
+    ++ one_member (codes "iat") (seconds_data c.issue_time)
+    ++ moment_member (codes "auth_time") c.auth_time
     ++ text_member nonce.name c.nonce
     ++ text_member acr.name c.auth_context_ref
     ++ texts_member amr.name c.auth_method_refs

@@ -314,9 +314,11 @@ impl<AC: AdditionalClaims, GC: GenderClaim> IdTokenClaims<AC, GC> {
         standard: ClaimsReader<GC>,
         members: &Members,
     ) -> Result<Self, ParseError>
-        requires own { own ≡ own_fields members.now }
-        requires standard { standard ≡ reader_of GC.read_of members.now }
-        ensures { Answers (spec.parts_in AC.read_of GC.read_of members.now) result }
+        requires own { own ≡ own_fields members.now.reading members.now.list }
+        requires standard { standard
+            ≡ reader_of GC.read_of members.now.reading members.now.list }
+        ensures { let parts = spec.parts_in AC.read_of GC.read_of members.now.reading in
+            Answers (parts members.now.list) result }
     {
         match own.finish(alloc, members) {
             Err(error) => {
@@ -369,13 +371,14 @@ impl<AC: AdditionalClaims, GC: GenderClaim> Payload for IdTokenClaims<AC, GC> {
 
     ghost write_of = { spec.id_token_members AC.write_of GC.write_of };
 
-    /// Reads the claims in one pass over the members. It refuses the first faulty member, be it a field
-    /// of the token or a standard claim; then the first that is missing of `iss`, `exp`, `iat` and `sub`;
-    /// then as the additional claims do.
+    /// Reads the claims in one pass over the members, under their reading. It refuses the first
+    /// faulty member, be it a field of the token or a standard claim; then the first that is
+    /// missing of `iss`, `exp`, `iat` and `sub`; then as the additional claims do.
     ///
-    /// A field of the token is faulty that repeats (`Duplicate`) or isn't of its kind (`WrongType`; `Url`
-    /// for a text that is no URL; `Moment` for a whole number out of range). A standard claim is faulty
-    /// as in `read_standard`.
+    /// A field of the token is faulty that repeats (`Duplicate`) or isn't of its kind (`WrongType`;
+    /// `Url` for a text that is no URL; `Moment` for a whole number out of range, and for a text
+    /// that is no moment where the reading takes texts). A standard claim is faulty as in
+    /// `read_standard`.
     #[tactic(auto, unfolding(crate::specs::IdTokenClaims::id_token_claims_of))]
     fn read(alloc: Global, members: &Members) -> Result<Self, ParseError> {
         let readers = Both {
@@ -390,10 +393,10 @@ impl<AC: AdditionalClaims, GC: GenderClaim> Payload for IdTokenClaims<AC, GC> {
     /// then the additional ones. Absent claims are left out, `aud` is an array, and moments are whole
     /// seconds, rounded down.
     ///
-    /// Claims are read back from the object's text of what is written, where they are in range:
-    /// the issuer's URL is that of its text, moments are at whole seconds, the standard claims are in
-    /// the range of `write_standard`, and the additional claims give values that an object may have
-    /// and no name of an own field.
+    /// Claims are read back from the object's text of what is written, under every reading, where
+    /// they are in range: the issuer's URL is that of its text, moments are at whole seconds, the
+    /// standard claims are in the range of `write_standard`, and the additional claims give values
+    /// that an object may have and no name of an own field.
     fn write(&self, alloc: Global) -> Result<Vec<OutMember>, AllocError>
         ensures members { let written = spec.id_token_members AC.write_of GC.write_of self.now in
             IfOk result (λ out. out.items ≡ written) }

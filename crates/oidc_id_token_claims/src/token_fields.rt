@@ -2,13 +2,14 @@
 
 ghost use Rattle.std.specs.Prelude.{◌≡◌, [], option_map};
 ghost use Rattle.oidc_members.specs.Answers.{Answers};
+ghost use Rattle.oidc_members.specs.declared.reading.Reading.{Reading};
 ghost use Rattle.oidc_readers.specs.Slots.{slot};
 ghost use Rattle.oidc_id_token_claims.specs.TokenFields as spec;
 ghost use Rattle.oidc_id_token_claims.specs.TokenFields.{own_of, needed_of};
 ghost use Rattle.oidc_id_token_claims.specs.FieldSlots.{own_fields};
 
 use jiff::Timestamp;
-use oidc_members::{Member, Members, ParseError};
+use oidc_members::{Member, Members, ParseError, Reading};
 use oidc_readers::{MemberReader, Moment, Once, TextOrTexts, Texts, timestamp_of};
 use oidc_types::{
     AccessTokenHash, Audience, AudienceMarker, AuthenticationContextClass,
@@ -100,7 +101,7 @@ impl Model for Needed {
 impl OwnFields {
     #[tactic(auto, unfolding(oidc_readers::specs::Slots::slot))]
     pub(crate) fn new() -> Self
-        ensures { result ≡ own_fields [] }
+        ensures { (reading : Reading) → result ≡ own_fields reading [] }
     {
         OwnFields {
             iss: Once::new(),
@@ -120,8 +121,8 @@ impl OwnFields {
     // The fields in the end.
     #[tactic(auto, unfolding(crate::specs::TokenFields::own_of, oidc_readers::specs::Slots::slot))]
     pub(crate) fn finish(self, alloc: Global, members: &Members) -> Result<OwnClaims, ParseError>
-        requires { self ≡ own_fields members.now }
-        ensures { Answers (own_of members.now) result }
+        requires { self ≡ own_fields members.now.reading members.now.list }
+        ensures { Answers (own_of members.now.reading members.now.list) result }
     {
         let there = needed_in(alloc, self.iss, self.exp, self.iat, members)?;
         Ok(OwnClaims {
@@ -148,10 +149,10 @@ fn needed_in(
     iat: Once<Moment>,
     _members: &Members,
 ) -> Result<Needed, ParseError>
-    requires iss { iss ≡ slot spec.iss _members.now }
-    requires exp { exp ≡ slot spec.exp _members.now }
-    requires iat { iat ≡ slot spec.iat _members.now }
-    ensures { Answers (needed_of _members.now) result }
+    requires iss { iss ≡ slot spec.iss _members.now.list }
+    requires exp { exp ≡ slot (spec.exp _members.now.reading) _members.now.list }
+    requires iat { iat ≡ slot (spec.iat _members.now.reading) _members.now.list }
+    ensures { Answers (needed_of _members.now.reading _members.now.list) result }
 {
     let issuer = iss.required(alloc, "iss")?;
     let expiration = exp.required(alloc, "exp")?;
@@ -179,18 +180,21 @@ impl MemberReader for OwnFields {
 
     ghost state = { own_fields };
 
-    fn take(&mut self, alloc: Global, member: &Member) -> Result<(), ParseError> {
+    fn take(&mut self, alloc: Global, member: &Member, reading: Reading) -> Result<(), ParseError> {
         self.iss
-            .take(alloc, "iss", member)
-            .and(self.aud.take(alloc, "aud", member))
-            .and(self.exp.take(alloc, "exp", member))
-            .and(self.iat.take(alloc, "iat", member))
-            .and(self.auth_time.take(alloc, "auth_time", member))
-            .and(self.nonce.take(alloc, "nonce", member))
-            .and(self.acr.take(alloc, "acr", member))
-            .and(self.amr.take(alloc, "amr", member))
-            .and(self.azp.take(alloc, "azp", member))
-            .and(self.at_hash.take(alloc, "at_hash", member))
-            .and(self.c_hash.take(alloc, "c_hash", member))
+            .take_under(alloc, "iss", member, reading)
+            .and(self.aud.take_under(alloc, "aud", member, reading))
+            .and(self.exp.take_under(alloc, "exp", member, reading))
+            .and(self.iat.take_under(alloc, "iat", member, reading))
+            .and(
+                self.auth_time
+                    .take_under(alloc, "auth_time", member, reading),
+            )
+            .and(self.nonce.take_under(alloc, "nonce", member, reading))
+            .and(self.acr.take_under(alloc, "acr", member, reading))
+            .and(self.amr.take_under(alloc, "amr", member, reading))
+            .and(self.azp.take_under(alloc, "azp", member, reading))
+            .and(self.at_hash.take_under(alloc, "at_hash", member, reading))
+            .and(self.c_hash.take_under(alloc, "c_hash", member, reading))
     }
 }
