@@ -1,6 +1,6 @@
 -- What a response to a token request is worth (RFC 6749 sections 5.1 and 5.2).
 use Rattle.std.specs.Prelude.{◌≡◌, ◌==◌, nat_lt, not, ℕ, List, length, Bool, true, false, Result, Ok, Err, if◌then◌else◌, codes}
-use Rattle.oidc_members.specs.Seen.{SeenMember}
+use Rattle.oidc_members.specs.Seen.{SeenMember, SeenMembers}
 use Rattle.oidc_members.specs.Objects.{split_of}
 use Rattle.oidc_members.specs.declared.refusal.Refusal.{Refusal}
 pub use Rattle.oidc_oauth2.specs.Replies.{◌>>=◌, ◌>>◌, ◌when◌, ◌or_as◌}
@@ -65,6 +65,11 @@ read_in body read = read or_as (λ refusal. Parse refusal body)
 -- the members of the object that a body is, and the body
 abbrev pub members_in : {TE : Type 0} → List ℕ → Result (List SeenMember × List ℕ) (TokenRefusal TE)
 members_in body = read_in body (split_of body) >>= (λ members. Ok (members, body))
+
+-- an answer of members and a body, as one of their list and the body
+abbrev pub listed : {E : Type 0} → Result (SeenMembers × List ℕ) E → Result (List SeenMember × List ℕ) E
+listed (Ok object) = Ok (object.0.list, object.1)
+listed (Err e) = Err e
 
 -- the object that a response of status 200 is
 unfoldable pub object_in : {TE : Type 0} → SeenResponse → Result (List SeenMember × List ℕ) (TokenRefusal TE)

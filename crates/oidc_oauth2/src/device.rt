@@ -11,7 +11,7 @@ ghost use Rattle.oidc_oauth2.specs.TokenResponse.{seconds as span};
 ghost use Rattle.oidc_oauth2.specs.DeviceResponse as spec;
 
 use crate::extra_fields::{EmptyExtraDeviceAuthorizationFields, ExtraDeviceAuthorizationFields};
-use oidc_members::{Member, Members, ParseError};
+use oidc_members::{Member, Members, ParseError, Reading};
 use oidc_readers::{MemberReader, Once, read_fields};
 use oidc_types::{DeviceCode, EndUserVerificationUrl, UserCode, VerificationUriComplete};
 use std::alloc::Global;
@@ -104,11 +104,16 @@ impl DeviceFields {
 }
 
 impl MemberReader for DeviceFields {
-    ghost fault = { spec.device_rule };
+    ghost fault = { λ _. spec.device_rule };
 
-    ghost state = { device_fields };
+    ghost state = { λ _. device_fields };
 
-    fn take(&mut self, alloc: Global, member: &Member) -> Result<(), ParseError> {
+    fn take(
+        &mut self,
+        alloc: Global,
+        member: &Member,
+        _reading: Reading,
+    ) -> Result<(), ParseError> {
         let uri = self
             .verification_uri
             .take_either(alloc, "verification_uri", "verification_url", member);
@@ -164,7 +169,7 @@ impl<EF: ExtraDeviceAuthorizationFields> DeviceAuthorizationResponse<EF> {
     /// read as `verification_uri`; where both are there, the later one is a duplicate.
     #[tactic(auto, unfolding(crate::specs::DeviceResponse::device_of, crate::specs::Slots::slot))]
     pub fn read(alloc: Global, members: &Members) -> Result<Self, ParseError>
-        ensures response { Answers (spec.device_of EF.read_of members.now) result }
+        ensures response { Answers (spec.device_of EF.read_of members.now.list) result }
     {
         let fields = read_fields(alloc, DeviceFields::new(), members)?;
         let codes = codes_in(

@@ -10,7 +10,7 @@ ghost use Rattle.oidc_oauth2.specs.ErrorFields.{error_fields};
 ghost use Rattle.oidc_oauth2.specs.ErrorResponse as spec;
 
 use crate::error_types::{DeviceCodeErrorResponseType, RevocationErrorResponseType};
-use oidc_members::{FieldName, Member, Members, ParseError};
+use oidc_members::{FieldName, Member, Members, ParseError, Reading};
 use oidc_readers::{MemberReader, Once, read_fields};
 use oidc_types::{ErrorResponseType, ExtensionText};
 use std::alloc::Global;
@@ -24,7 +24,7 @@ pub trait ErrorResponse: Drop {
 
     /// Reads a response of its members.
     fn read(alloc: Global, members: &Members) -> Result<Self, ParseError>
-        ensures response { Answers (read_of members.now) result };
+        ensures response { Answers (read_of members.now.list) result };
 }
 
 /// An error response with this type of errors. `Debug` does not show it.
@@ -88,11 +88,16 @@ impl ErrorFields {
 }
 
 impl MemberReader for ErrorFields {
-    ghost fault = { spec.error_rule };
+    ghost fault = { λ _. spec.error_rule };
 
-    ghost state = { error_fields };
+    ghost state = { λ _. error_fields };
 
-    fn take(&mut self, alloc: Global, member: &Member) -> Result<(), ParseError> {
+    fn take(
+        &mut self,
+        alloc: Global,
+        member: &Member,
+        _reading: Reading,
+    ) -> Result<(), ParseError> {
         self.error
             .take(alloc, "error", member)
             .and(

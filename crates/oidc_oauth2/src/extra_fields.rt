@@ -3,6 +3,7 @@
 ghost use Rattle.std.specs.Prelude.{◌≡◌, List, Result, IfOk};
 ghost use Rattle.oidc_members.specs.Answers.{Answers};
 ghost use Rattle.oidc_members.specs.Seen.{SeenMember, OutSeen};
+ghost use Rattle.oidc_members.specs.declared.reading.Reading.{Reading};
 ghost use Rattle.oidc_members.specs.declared.refusal.Refusal.{Refusal};
 
 use oidc_members::{Members, OutMember, ParseError};
@@ -10,15 +11,15 @@ use std::alloc::{AllocError, Global};
 
 /// Fields of a token response beside those of the standard.
 pub trait ExtraTokenFields: Drop {
-    /// What a list of members reads as, or why it is refused.
-    ghost read_of: { List SeenMember → Result Self Refusal };
+    /// What a list of members reads as under a reading, or why it is refused.
+    ghost read_of: { Reading → List SeenMember → Result Self Refusal };
 
     /// The members that are written.
     ghost write_of: { Self → List OutSeen };
 
     /// Reads the fields of all the members of the response. A refusal may have the kind `Additional`.
     fn read(alloc: Global, members: &Members) -> Result<Self, ParseError>
-        ensures fields { Answers (read_of members.now) result };
+        ensures fields { Answers (read_of members.now.reading members.now.list) result };
 
     /// The members that stand for these fields, behind those of the standard. `AllocError` is want of
     /// memory, the one error.
@@ -33,7 +34,7 @@ pub struct EmptyExtraTokenFields;
 impl ExtraTokenFields for EmptyExtraTokenFields {
     ghost use Rattle.std.specs.Prelude.{[], Result};
 
-    ghost read_of = { λ _. Result.Ok (record {}) };
+    ghost read_of = { λ _ _. Result.Ok (record {}) };
 
     ghost write_of = { λ _. [] };
 
@@ -53,7 +54,7 @@ pub trait ExtraDeviceAuthorizationFields: Drop {
 
     /// Reads the fields of all the members of the response. A refusal may have the kind `Additional`.
     fn read(alloc: Global, members: &Members) -> Result<Self, ParseError>
-        ensures fields { Answers (read_of members.now) result };
+        ensures fields { Answers (read_of members.now.list) result };
 }
 
 /// No fields beside those of the standard.

@@ -4,6 +4,7 @@ ghost use Rattle.std.specs.Prelude.{◌≡◌, List, Bool, Result, [], IfOk, map
 ghost use Rattle.std.specs.Option.{option_copied};
 ghost use Rattle.oidc_members.specs.Answers.{Answers};
 ghost use Rattle.oidc_members.specs.Seen.{SeenMember};
+ghost use Rattle.oidc_members.specs.declared.reading.Reading.{Reading};
 ghost use Rattle.oidc_members.specs.declared.refusal.Refusal.{Refusal};
 ghost use Rattle.oidc_oauth2.specs.IntrospectionFields.{introspection_fields};
 ghost use Rattle.oidc_oauth2.specs.Introspection as spec;
@@ -13,7 +14,7 @@ use crate::extra_fields::{EmptyExtraTokenFields, ExtraTokenFields};
 use crate::scopes::optional_scopes;
 use crate::token_type::{CoreTokenType, TokenType};
 use jiff::Timestamp;
-use oidc_members::{FieldName, Member, Members, ParseError};
+use oidc_members::{FieldName, Member, Members, ParseError, Reading};
 use oidc_readers::{MemberReader, Moment, Once, TextOrTexts, read_fields, timestamp_of};
 use oidc_types::{Audience, AudienceMarker, ClientId, Scope};
 use std::alloc::{AllocError, Global};
@@ -21,15 +22,15 @@ use std::marker::Model;
 
 /// A response that says whether a token is active.
 pub trait TokenIntrospectionResponse: Drop {
-    /// What a list of members reads as, or why it is refused.
-    ghost read_of: { List SeenMember → Result Self Refusal };
+    /// What a list of members reads as under a reading, or why it is refused.
+    ghost read_of: { Reading → List SeenMember → Result Self Refusal };
 
     /// Whether the token is active.
     ghost active: { Self → Bool };
 
     /// Reads a response of its members.
     fn read(alloc: Global, members: &Members) -> Result<Self, ParseError>
-        ensures response { Answers (read_of members.now) result };
+        ensures response { Answers (read_of members.now.reading members.now.list) result };
 
     /// Whether the token is active.
     fn active(&self) -> bool
@@ -126,11 +127,16 @@ impl IntrospectionFields {
 }
 
 impl MemberReader for IntrospectionFields {
-    ghost fault = { spec.introspection_rule };
+    ghost fault = { λ _. spec.introspection_rule };
 
-    ghost state = { introspection_fields };
+    ghost state = { λ _. introspection_fields };
 
-    fn take(&mut self, alloc: Global, member: &Member) -> Result<(), ParseError> {
+    fn take(
+        &mut self,
+        alloc: Global,
+        member: &Member,
+        _reading: Reading,
+    ) -> Result<(), ParseError> {
         self.active
             .take(alloc, "active", member)
             .and(self.scope.take(alloc, "scope", member))
@@ -183,7 +189,7 @@ fn type_in<TT: TokenType>(alloc: Global, text: Option<FieldName>) -> Result<Opti
 
 impl<EF: ExtraTokenFields, TT: TokenType> TokenIntrospectionResponse
     for StandardTokenIntrospectionResponse<EF, TT> {
-    ghost read_of = { spec.introspection_of TT.read_of EF.read_of };
+    ghost read_of = { λ reading. spec.introspection_of TT.read_of (EF.read_of reading) };
 
     ghost active = { λ i. i.active };
 

@@ -6,6 +6,7 @@ ghost use Rattle.std.specs.Option.{option_copied};
 ghost use Rattle.std.specs.String.{string_bytes};
 ghost use Rattle.url.specs.Parts.{serialize};
 ghost use Rattle.http_header.specs.FieldValue.{plain_value};
+ghost use Rattle.oidc_members.specs.declared.reading.TheConstants.Reading.{STRICT};
 ghost use Rattle.oidc_oauth2.specs.ClientAuth.{seen_client};
 ghost use Rattle.oidc_oauth2.specs.Replies.{Gives};
 ghost use Rattle.oidc_oauth2.specs.TokenAnswers.{is_fault, token_errors};
@@ -292,8 +293,8 @@ fn judge_answer<RE, TE: ErrorResponse, TR: OAuth2TokenResponse>(
     alloc: Global,
     answer: Result<HttpResponse, RE>,
 ) -> Result<TR, RequestTokenError<RE, TE>>
-    ensures gives { let reply = code_reply TE.read_of TR.read_of (answer_of answer) in
-        Gives token_errors result reply }
+    ensures gives { let reply = code_reply TE.read_of (TR.read_of STRICT) in
+        Gives token_errors result (reply (answer_of answer)) }
     ensures fault { IfErr result (λ e. is_fault e ≡ true → answer_of answer ≡ None) }
 {
     match answer {
@@ -311,7 +312,7 @@ impl<'a, TE: ErrorResponse, TR: OAuth2TokenResponse> CodeTokenRequest<'a, TE, TR
     ) -> Result<TR, RequestTokenError<C::Error, TE>>
         requires { C.ready http.old }
         ensures again { C.ready http.new }
-        ensures follows { let run = code_run TE.read_of TR.read_of self.entry in
+        ensures follows { let run = code_run TE.read_of (TR.read_of STRICT) self.entry in
             let before = known (C.log http.old) (C.script http.old) in
             let after = known (C.log http.new) (C.script http.new) in
             Follows token_errors run before after result }
@@ -340,7 +341,7 @@ impl<'a, TE: ErrorResponse, TR: OAuth2TokenResponse> CodeTokenRequest<'a, TE, TR
         ensures again { C.ready http.new }
         ensures ran { let before = known (C.log http.old) (C.script http.old) in
             let after = known (C.log http.new) (C.script http.new) in
-            RanTokenRequest TE.read_of TR.read_of self.entry before after result }
+            RanTokenRequest TE.read_of (TR.read_of STRICT) self.entry before after result }
         ensures never_falls { C.faults http.old ≤ C.faults http.new }
         ensures blamed { let before = C.faults http.old in
             IsRequestBlamed token_errors before (C.faults http.new) result }

@@ -6,6 +6,7 @@ ghost use Rattle.std.specs.Duration.{as_nanos};
 ghost use Rattle.oidc_members.specs.Answers.{Answers};
 ghost use Rattle.oidc_members.specs.Seen.{SeenMember};
 ghost use Rattle.oidc_members.specs.Write.{any_float, object_text};
+ghost use Rattle.oidc_members.specs.declared.reading.Reading.{Reading};
 ghost use Rattle.oidc_members.specs.declared.refusal.Refusal.{Refusal};
 ghost use Rattle.oidc_oauth2.specs.TokenFields.{token_fields};
 ghost use Rattle.oidc_oauth2.specs.TokenResponse as spec;
@@ -13,7 +14,7 @@ ghost use Rattle.oidc_oauth2.specs.TokenResponse as spec;
 use crate::extra_fields::ExtraTokenFields;
 use crate::scopes::{optional_joined, optional_scopes};
 use crate::token_type::TokenType;
-use oidc_members::{FieldName, Member, Members, OutMember, ParseError, write_object};
+use oidc_members::{FieldName, Member, Members, OutMember, ParseError, Reading, write_object};
 use oidc_readers::{
     MemberReader, Once, put_optional_text, put_optional_whole, put_text, read_fields,
 };
@@ -30,8 +31,8 @@ pub trait OAuth2TokenResponse: Drop {
     /// The fields beside those of the standard.
     type ExtraFields: ExtraTokenFields;
 
-    /// What a list of members reads as, or why it is refused.
-    ghost read_of: { List SeenMember → Result Self Refusal };
+    /// What a list of members reads as under a reading, or why it is refused.
+    ghost read_of: { Reading → List SeenMember → Result Self Refusal };
 
     /// The access token.
     ghost access_token: { Self → List ℕ };
@@ -53,7 +54,7 @@ pub trait OAuth2TokenResponse: Drop {
 
     /// Reads a response of its members.
     fn read(alloc: Global, members: &Members) -> Result<Self, ParseError>
-        ensures response { Answers (read_of members.now) result };
+        ensures response { Answers (read_of members.now.reading members.now.list) result };
 
     /// The access token.
     fn access_token(&self) -> &AccessToken
@@ -137,11 +138,16 @@ impl TokenFields {
 }
 
 impl MemberReader for TokenFields {
-    ghost fault = { spec.token_rule };
+    ghost fault = { λ _. spec.token_rule };
 
-    ghost state = { token_fields };
+    ghost state = { λ _. token_fields };
 
-    fn take(&mut self, alloc: Global, member: &Member) -> Result<(), ParseError> {
+    fn take(
+        &mut self,
+        alloc: Global,
+        member: &Member,
+        _reading: Reading,
+    ) -> Result<(), ParseError> {
         self.access_token
             .take(alloc, "access_token", member)
             .and(self.token_type.take(alloc, "token_type", member))
@@ -287,7 +293,7 @@ impl<EF: ExtraTokenFields, TT: TokenType> OAuth2TokenResponse for StandardTokenR
 
     type ExtraFields = EF;
 
-    ghost read_of = { spec.tokens_among TT.read_of EF.read_of };
+    ghost read_of = { λ reading. spec.tokens_among TT.read_of (EF.read_of reading) };
 
     ghost access_token = { λ t. t.access_token };
 

@@ -1,6 +1,7 @@
 //! What a response to a token request is worth (RFC 6749 sections 5.1 and 5.2).
 
-ghost use Rattle.std.specs.Prelude.{◌≡◌, ◌==◌, Err, IfErr, Result};
+ghost use Rattle.std.specs.Prelude.{◌≡◌, ◌==◌, Err, IfErr, IfOk, Result};
+ghost use Rattle.oidc_members.specs.declared.reading.TheConstants.Reading.{STRICT};
 ghost use Rattle.oidc_members.specs.declared.refusal.Refusal.{Refusal};
 ghost use Rattle.oidc_members.specs.Answers.{Answers};
 ghost use Rattle.oidc_oauth2.specs.Messages.{seen_response};
@@ -137,7 +138,8 @@ fn members_in<RE, TE>(
     alloc: Global,
     body: Body,
 ) -> Result<(Members, Body), RequestTokenError<RE, TE>>
-    ensures { Gives token_errors result (spec.members_in body) }
+    ensures object { Gives token_errors (spec.listed result) (spec.members_in body) }
+    ensures strict { IfOk result (λ object. object.0.reading ≡ STRICT) }
 {
     match Members::split(alloc, body.as_slice()) {
         Ok(members) => Ok((members, body)),
@@ -152,7 +154,9 @@ fn object_in<RE, TE>(
     alloc: Global,
     response: HttpResponse,
 ) -> Result<(Members, Body), RequestTokenError<RE, TE>>
-    ensures { Gives token_errors result (spec.object_in (seen_response response)) }
+    ensures object { Gives token_errors (spec.listed result)
+        (spec.object_in (seen_response response)) }
+    ensures strict { IfOk result (λ object. object.0.reading ≡ STRICT) }
 {
     let may_be_json = may_be_json(&response);
     let body = response.into_body();
@@ -166,13 +170,14 @@ fn object_in<RE, TE>(
 }
 
 /// The members of the object that a response holds, and its body; else why it is refused: by the rows that all answers
-/// share, or since a response of status 200 is no object.
+/// share, or since a response of status 200 is no object. The members are read strictly.
 pub fn object_answer<RE, TE: ErrorResponse>(
     alloc: Global,
     response: HttpResponse,
 ) -> Result<(Members, Body), RequestTokenError<RE, TE>>
-    ensures object { Gives token_errors result
+    ensures object { Gives token_errors (spec.listed result)
         (spec.object_answer TE.read_of (seen_response response)) }
+    ensures strict { IfOk result (λ object. object.0.reading ≡ STRICT) }
 {
     match success_in(alloc, response) {
         Ok(response) => object_in(alloc, response),
@@ -200,8 +205,8 @@ fn judge<RE, TE: ErrorResponse, TR: OAuth2TokenResponse>(
     alloc: Global,
     response: HttpResponse,
 ) -> Result<TR, RequestTokenError<RE, TE>>
-    ensures { let reply = spec.token_answer TE.read_of TR.read_of (seen_response response) in
-        Gives token_errors result reply }
+    ensures { let worth = spec.token_answer TE.read_of (TR.read_of STRICT) in
+        Gives token_errors result (worth (seen_response response)) }
 {
     let (members, body) = object_answer(alloc, response)?;
     record_or_refusal(TR::read(alloc, &members), body)
@@ -215,12 +220,14 @@ pub fn token_answer<RE, TE: ErrorResponse, TR: OAuth2TokenResponse>(
     alloc: Global,
     response: HttpResponse,
 ) -> Result<TR, RequestTokenError<RE, TE>>
-    ensures answer { let reply = spec.token_answer TE.read_of TR.read_of (seen_response response) in
-        Gives token_errors result reply }
+    ensures answer { let worth = spec.token_answer TE.read_of (TR.read_of STRICT) in
+        Gives token_errors result (worth (seen_response response)) }
     // Each refusal has its cause, want of memory aside, and each cause its refusal.
-    ensures cause { IfErr result (Because TE.read_of TR.read_of (seen_response response)) }
-    ensures refused { let Caused = AnswerCause TE.read_of TR.read_of (seen_response response) in
-        (e : spec.TokenRefusal TE) → Caused e → Gives token_errors result (Err e) }
+    ensures cause { let seen = seen_response response in
+        IfErr result (Because TE.read_of (TR.read_of STRICT) seen) }
+    ensures refused { let Caused = AnswerCause TE.read_of (TR.read_of STRICT) in
+        (e : spec.TokenRefusal TE) → Caused (seen_response response) e
+        → Gives token_errors result (Err e) }
 {
     judge(alloc, response)
 }

@@ -3,6 +3,7 @@
 ghost use Rattle.std.specs.Prelude.{◌≡◌, ◌≤◌, ◌++◌, ◌∷◌, [], IfOk};
 ghost use Rattle.std.specs.String.{string_bytes};
 ghost use Rattle.url.specs.Parts.{serialize};
+ghost use Rattle.oidc_members.specs.declared.reading.TheConstants.Reading.{STRICT};
 ghost use Rattle.oidc_oauth2.specs.ClientAuth.{seen_client};
 ghost use Rattle.oidc_oauth2.specs.Requests.{Prepares};
 ghost use Rattle.oidc_oauth2.specs.TokenAnswers.{token_errors};
@@ -202,7 +203,7 @@ impl<'a, TR: OAuth2TokenResponse, EF> DeviceAccessTokenRequest<'a, TR, EF> {
         ensures again { C.ready http.new }
         ensures ran { let before = known (C.log http.old) (C.script http.old) in
             let after = known (C.log http.new) (C.script http.new) in
-            RanForStep self.now before after TR.read_of result }
+            RanForStep self.now before after (TR.read_of STRICT) result }
         ensures never_falls { C.faults http.old ≤ C.faults http.new }
         ensures blamed { let before = C.faults http.old in
             IsRequestBlamed token_errors before (C.faults http.new) result }

@@ -4,6 +4,7 @@ ghost use Rattle.std.specs.Prelude.{◌≡◌, ◌≤◌, ◌++◌, ◌∷◌, [
 ghost use Rattle.std.specs.Option.{option_copied};
 ghost use Rattle.std.specs.String.{string_bytes};
 ghost use Rattle.url.specs.Parts.{serialize};
+ghost use Rattle.oidc_members.specs.declared.reading.TheConstants.Reading.{STRICT};
 ghost use Rattle.oidc_oauth2.specs.ClientAuth.{seen_client};
 ghost use Rattle.oidc_oauth2.specs.Requests.{Prepares};
 ghost use Rattle.oidc_oauth2.specs.TokenAnswers.{token_errors};
@@ -121,7 +122,7 @@ impl<'a, TE: ErrorResponse, TIR: TokenIntrospectionResponse> IntrospectionReques
         ensures ran { let ask = of_introspection self.entry in
             let before = known (C.log http.old) (C.script http.old) in
             let after = known (C.log http.new) (C.script http.new) in
-            RanForRecord ask before after TE.read_of TIR.read_of result }
+            RanForRecord ask before after TE.read_of (TIR.read_of STRICT) result }
         ensures never_falls { C.faults http.old ≤ C.faults http.new }
         ensures blamed { let before = C.faults http.old in
             IsRequestBlamed token_errors before (C.faults http.new) result }

@@ -1,6 +1,7 @@
 // A request that was made, if one was, over any transport, and what its response is worth.
 
 ghost use Rattle.std.specs.Prelude.{◌≡◌, ◌≤◌, Option, Result};
+ghost use Rattle.oidc_members.specs.declared.reading.TheConstants.Reading.{STRICT};
 ghost use Rattle.oidc_oauth2.specs.Messages.{SeenRequest, seen_response};
 ghost use Rattle.oidc_oauth2.specs.Replies.{Gives};
 ghost use Rattle.oidc_oauth2.specs.Requests.{Prepares};
@@ -59,7 +60,7 @@ pub(crate) fn tokens_over<C: SyncHttpClient, TE: ErrorResponse, TR: OAuth2TokenR
     ensures ran { let before = known (C.log http.old) (C.script http.old) in
         let after = known (C.log http.new) (C.script http.new) in
         (ask : SeenFormRequest) → Prepares made (form_request ask)
-        → run.RanForRecord ask before after TE.read_of TR.read_of result }
+        → run.RanForRecord ask before after TE.read_of (TR.read_of STRICT) result }
     ensures never_falls { C.faults http.old ≤ C.faults http.new }
     ensures blamed { let before = C.faults http.old in
         IsRequestBlamed token_errors before (C.faults http.new) result }
@@ -105,7 +106,7 @@ fn introspection_in<RE, TE: ErrorResponse, TIR: TokenIntrospectionResponse>(
     alloc: Global,
     response: HttpResponse,
 ) -> Result<TIR, RequestTokenError<RE, TE>>
-    ensures { let reply = worth TE.read_of TIR.read_of (seen_response response) in
+    ensures { let reply = worth TE.read_of (TIR.read_of STRICT) (seen_response response) in
         Gives token_errors result reply }
 {
     let (members, body) = object_answer(alloc, response)?;
@@ -127,7 +128,7 @@ pub(crate) fn introspection_over<
     ensures ran { let before = known (C.log http.old) (C.script http.old) in
         let after = known (C.log http.new) (C.script http.new) in
         (ask : SeenFormRequest) → Prepares made (form_request ask)
-        → run.RanForRecord ask before after TE.read_of TIR.read_of result }
+        → run.RanForRecord ask before after TE.read_of (TIR.read_of STRICT) result }
     ensures never_falls { C.faults http.old ≤ C.faults http.new }
     ensures blamed { let before = C.faults http.old in
         IsRequestBlamed token_errors before (C.faults http.new) result }
@@ -204,7 +205,7 @@ fn step_in<RE, TR: OAuth2TokenResponse>(
     alloc: Global,
     response: HttpResponse,
 ) -> Result<PollStep<TR>, RequestTokenError<RE, DeviceCodeErrorResponse>>
-    ensures { let reply = poll_answer TR.read_of (seen_response response) in
+    ensures { let reply = poll_answer (TR.read_of STRICT) (seen_response response) in
         Gives token_errors result reply }
 {
     let answer = token_answer(alloc, response);
@@ -222,7 +223,7 @@ pub(crate) fn step_over<C: SyncHttpClient, TR: OAuth2TokenResponse>(
     ensures ran { let before = known (C.log http.old) (C.script http.old) in
         let after = known (C.log http.new) (C.script http.new) in
         (ask : SeenFormRequest) → Prepares made (form_request ask)
-        → run.RanForStep ask before after TR.read_of result }
+        → run.RanForStep ask before after (TR.read_of STRICT) result }
     ensures never_falls { C.faults http.old ≤ C.faults http.new }
     ensures blamed { let before = C.faults http.old in
         IsRequestBlamed token_errors before (C.faults http.new) result }

@@ -3,6 +3,7 @@
 ghost use Rattle.std.specs.Prelude.{◌≡◌, ◌≤◌, ◌++◌, ◌∷◌, [], IfOk};
 ghost use Rattle.std.specs.String.{string_bytes};
 ghost use Rattle.url.specs.Parts.{serialize};
+ghost use Rattle.oidc_members.specs.declared.reading.TheConstants.Reading.{STRICT};
 ghost use Rattle.oidc_oauth2.specs.ClientAuth.{seen_client};
 ghost use Rattle.oidc_oauth2.specs.Requests.{Prepares};
 ghost use Rattle.oidc_oauth2.specs.TokenAnswers.{token_errors};
@@ -116,7 +117,7 @@ impl<'a, TE: ErrorResponse, TR: OAuth2TokenResponse> RefreshTokenRequest<'a, TE,
         ensures again { C.ready http.new }
         ensures ran { let before = known (C.log http.old) (C.script http.old) in
             let after = known (C.log http.new) (C.script http.new) in
-            RanForRecord self.entry before after TE.read_of TR.read_of result }
+            RanForRecord self.entry before after TE.read_of (TR.read_of STRICT) result }
         ensures never_falls { C.faults http.old ≤ C.faults http.new }
         ensures blamed { let before = C.faults http.old in
             IsRequestBlamed token_errors before (C.faults http.new) result }
@@ -226,7 +227,7 @@ impl<'a, TE: ErrorResponse, TR: OAuth2TokenResponse> PasswordTokenRequest<'a, TE
         ensures again { C.ready http.new }
         ensures ran { let before = known (C.log http.old) (C.script http.old) in
             let after = known (C.log http.new) (C.script http.new) in
-            RanForRecord self.entry before after TE.read_of TR.read_of result }
+            RanForRecord self.entry before after TE.read_of (TR.read_of STRICT) result }
         ensures never_falls { C.faults http.old ≤ C.faults http.new }
         ensures blamed { let before = C.faults http.old in
             IsRequestBlamed token_errors before (C.faults http.new) result }
@@ -323,7 +324,7 @@ impl<'a, TE: ErrorResponse, TR: OAuth2TokenResponse> ClientCredentialsTokenReque
         ensures again { C.ready http.new }
         ensures ran { let before = known (C.log http.old) (C.script http.old) in
             let after = known (C.log http.new) (C.script http.new) in
-            RanForRecord self.entry before after TE.read_of TR.read_of result }
+            RanForRecord self.entry before after TE.read_of (TR.read_of STRICT) result }
         ensures never_falls { C.faults http.old ≤ C.faults http.new }
         ensures blamed { let before = C.faults http.old in
             IsRequestBlamed token_errors before (C.faults http.new) result }
