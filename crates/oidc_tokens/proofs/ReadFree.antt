@@ -10,6 +10,7 @@ use Rattle.serde_json.specs.Written.{has_float}
 use Rattle.oidc_members.specs.Seen.{SeenMember}
 use Rattle.oidc_members.specs.Objects.{without_floats, loose_members_of, members_of, members_or_refusal, split_of}
 use Rattle.oidc_members.specs.Write.{any_float}
+use Rattle.oidc_members.specs.declared.reading.Reading.{Reading}
 use Rattle.oidc_members.specs.declared.refusal.Refusal.{Refusal}
 use Rattle.oidc_readers.specs.Kinds.{text_kind, there, or_null}
 use Rattle.oidc_readers.specs.Fields.{judged, own, first_value}
@@ -40,14 +41,14 @@ kept_free test (m ∷ ms) h =
 
 -- ---- a token
 
-module _ {JE JS GC : Type 0} (encryption_named : List ℕ → Option JE) (signing_named : List ℕ → Option JS) (gender_read : SeenMember → Result GC Refusal) where
+module _ {JE JS GC : Type 0} (encryption_named : List ℕ → Option JE) (signing_named : List ℕ → Option JS) (gender_read : SeenMember → Result GC Refusal) (reading : Reading) where
   abbrev pub reads : List ℕ → Result (SeenToken JE JS (SeenIdTokenClaims Others GC)) Refusal
-  reads = token_of encryption_named signing_named (id_token_claims_of read_others gender_read)
+  reads = token_of encryption_named signing_named (id_token_claims_of read_others gender_read reading)
 
   pub token_free : (text : List ℕ) (token : SeenToken JE JS (SeenIdTokenClaims Others GC)) → reads text ≡ Ok token → any_float (list_of token.payload.additional_claims) ≡ false
   token_free text token h =
-      let read = payload_said encryption_named signing_named (id_token_claims_of read_others gender_read) text token h in
-      let parts = accepted_parts read_others gender_read read.0 token.payload read.2 in
+      let read = payload_said encryption_named signing_named (id_token_claims_of read_others gender_read reading) text token h in
+      let parts = accepted_parts read_others gender_read reading read.0 token.payload read.2 in
       let kept = all_kept (additional_members read.0) (additional_stay read.0) in
       let same : kept.0 ≡ token.payload.additional_claims = same_ok kept.0 token.payload.additional_claims (sym kept.1 ∙ parts.2) in
       ap any_float (ap list_of (sym same) ∙ kept.2) ∙ kept_free _ read.0 read.1

@@ -21,7 +21,7 @@ use oidc_claims::{AdditionalClaims, GenderClaim};
 pub use oidc_id_token_claims::IdTokenClaims;
 use oidc_jwt::JsonWebToken;
 use oidc_keys::{JsonWebKey, SignatureVerificationError};
-use oidc_members::ParseError;
+use oidc_members::{ParseError, Reading};
 use oidc_types::{JweContentEncryptionAlgorithm, JwsSigningAlgorithm};
 use std::alloc::{AllocError, Global};
 use std::marker::Model;
@@ -64,12 +64,20 @@ impl<
     JS: JwsSigningAlgorithm,
 > IdToken<AC, GC, JE, JS> {
     /// The ID token that a text is. It is refused as a JSON Web Token is, its claims as
-    /// [`IdTokenClaims`] are.
+    /// [`IdTokenClaims`] are under the strict reading.
     pub fn from_str(alloc: Global, text: &str) -> Result<Self, ParseError>
         ensures answer { Answers (token_of JE.from_str JS.from_str
-            (id_token_claims_of AC.read_of GC.read_of) text.now) result }
+            (id_token_claims_of AC.read_of GC.read_of Reading.STRICT) text.now) result }
     {
-        let token = JsonWebToken::read(alloc, text)?;
+        IdToken::from_str_with(alloc, text, Reading::STRICT)
+    }
+
+    /// The same, with the claims read under that reading.
+    pub fn from_str_with(alloc: Global, text: &str, reading: Reading) -> Result<Self, ParseError>
+        ensures answer { Answers (token_of JE.from_str JS.from_str
+            (id_token_claims_of AC.read_of GC.read_of reading) text.now) result }
+    {
+        let token = JsonWebToken::read_with(alloc, text, reading)?;
         Ok(IdToken { token })
     }
 

@@ -11,27 +11,28 @@ ghost use Rattle.oidc_tokens.specs.IdTokenFields as spec;
 
 use crate::id_token::IdToken;
 use oidc_claims::{AdditionalClaims, GenderClaim};
-use oidc_members::{Member, Members, OutMember, ParseError, ParseKind};
+use oidc_members::{Member, Members, OutMember, ParseError, ParseKind, Reading};
 use oidc_oauth2::ExtraTokenFields;
 use oidc_readers::{FieldValue, MemberReader, Once, put_optional_text, read_fields, refused};
 use oidc_types::{JweContentEncryptionAlgorithm, JwsSigningAlgorithm};
 use std::alloc::{AllocError, Global};
 use std::marker::Model;
 
-/// A text that is an ID token. A refusal inside it has the kind and the field that it names.
+/// A text that is an ID token, under the reading. A refusal inside it has the kind and the field
+/// that it names.
 impl<
     AC: AdditionalClaims,
     GC: GenderClaim,
     JE: JweContentEncryptionAlgorithm,
     JS: JwsSigningAlgorithm,
 > FieldValue for IdToken<AC, GC, JE, JS> {
-    ghost read_of = { spec.token_kind (token_of JE.from_str JS.from_str
-        (id_token_claims_of AC.read_of GC.read_of)) };
+    ghost read_of = { λ reading. spec.token_kind (token_of JE.from_str JS.from_str
+        (id_token_claims_of AC.read_of GC.read_of reading)) };
 
-    fn read(alloc: Global, member: &Member) -> Result<Self, ParseError> {
+    fn read(alloc: Global, member: &Member, reading: Reading) -> Result<Self, ParseError> {
         match member.value().as_str() {
             None => Err(refused(alloc, ParseKind::WrongType, member.name())),
-            Some(text) => IdToken::from_str(alloc, text),
+            Some(text) => IdToken::from_str_with(alloc, text, reading),
         }
     }
 }
@@ -129,21 +130,21 @@ impl<
     JE: JweContentEncryptionAlgorithm,
     JS: JwsSigningAlgorithm,
 > MemberReader for IdTokenSlot<AC, GC, JE, JS> {
-    ghost fault = { judged (spec.id_token (token_of JE.from_str JS.from_str
-        (id_token_claims_of AC.read_of GC.read_of))) };
+    ghost fault = { λ reading. judged (spec.id_token (token_of JE.from_str JS.from_str
+        (id_token_claims_of AC.read_of GC.read_of reading))) };
 
-    ghost state = { λ members. record {
+    ghost state = { λ reading members. record {
       id_token = slot (spec.id_token (token_of JE.from_str JS.from_str
-          (id_token_claims_of AC.read_of GC.read_of))) members;
+          (id_token_claims_of AC.read_of GC.read_of reading))) members;
     } };
 
-    fn take(&mut self, alloc: Global, member: &Member) -> Result<(), ParseError> {
-        self.id_token.take(alloc, "id_token", member)
+    fn take(&mut self, alloc: Global, member: &Member, reading: Reading) -> Result<(), ParseError> {
+        self.id_token.take_under(alloc, "id_token", member, reading)
     }
 }
 
-/// The ID token is read where its member stands, then the other fields are. It is written as its text,
-/// before the other fields.
+/// The ID token is read under the members' reading where its member stands, then the other fields
+/// are. It is written as its text, before the other fields.
 impl<
     AC: AdditionalClaims,
     EF: ExtraTokenFields,
@@ -151,8 +152,8 @@ impl<
     JE: JweContentEncryptionAlgorithm,
     JS: JwsSigningAlgorithm,
 > ExtraTokenFields for IdTokenFields<AC, EF, GC, JE, JS> {
-    ghost read_of = { spec.response_fields_of (token_of JE.from_str JS.from_str
-        (id_token_claims_of AC.read_of GC.read_of)) EF.read_of };
+    ghost read_of = { λ reading. spec.response_fields_of (token_of JE.from_str JS.from_str
+        (id_token_claims_of AC.read_of GC.read_of reading)) (EF.read_of reading) };
 
     ghost write_of = { spec.response_fields_out EF.write_of };
 

@@ -8,6 +8,7 @@ ghost use Rattle.oidc_tokens.specs.Steps.{and_then};
 ghost use Rattle.oidc_jwt.specs.Header.{written_header};
 ghost use Rattle.oidc_jwt.specs.Issuing.{Issues, IsNamed, IsHeadedBy};
 ghost use Rattle.oidc_jwt.specs.Issuing.{issued, signed_with, compact};
+ghost use Rattle.oidc_members.specs.declared.reading.Reading.{Reading};
 ghost use Rattle.oidc_id_token_claims.specs.IdTokenClaims.{id_token_claims_of, id_token_members};
 ghost use Rattle.oidc_tokens.specs.Hashes as spec;
 ghost use Rattle.oidc_tokens.specs.Hashes.{GivesHash, hashing};
@@ -37,10 +38,11 @@ impl<
     /// code are those of what is given here; where nothing is given, the claims' own stay.
     ///
     /// Where the additional claims hold no float, the whole token or refusal is the one that the
-    /// definitions say. Whatever they hold, it is refused as `UnsupportedAlg` where a hash is wanted that
-    /// doesn't exist under the verification key, else as the signer refuses a message with the token's
-    /// header, or as `Memory`. The text is read back as this token where the claims are in range and the
-    /// algorithm is read back from its own text, which isn't `none`.
+    /// definitions say. Whatever they hold, it is refused as `UnsupportedAlg` where a hash is
+    /// wanted that doesn't exist under the verification key, else as the signer refuses a message
+    /// with the token's header, or as `Memory`. The text is read back as this token, under every
+    /// reading, where the claims are in range and the algorithm is read back from its own text,
+    /// which isn't `none`.
     pub fn new<S: PrivateSigningKey>(
         alloc: Global,
         claims: IdTokenClaims<AC, GC>,
@@ -85,9 +87,10 @@ impl<
 
         // What is issued is read back where its algorithm is, and whoever expects these claims
         // accepts it.
-        ensures reads_back { IsNamed JS.as_ref JS.from_str alg → IsTokenInRange AC.write_of claims
+        ensures reads_back { (reading : Reading)
+            → IsNamed JS.as_ref JS.from_str alg → IsTokenInRange AC.write_of claims
             → IfOk result (λ token. token_of JE.from_str JS.from_str
-            (id_token_claims_of AC.read_of GC.read_of) token.text ≡ Ok token) }
+            (id_token_claims_of AC.read_of GC.read_of reading) token.text ≡ Ok token) }
         ensures accepted { let k = meanings S.VerificationKey.JsonWebKey
             S.VerificationKey.KeyUse.JsonWebKeyUse
             JS.JwsSigningAlgorithm.own JS.ClosedVocabulary JS.KeyType.ClosedVocabulary in

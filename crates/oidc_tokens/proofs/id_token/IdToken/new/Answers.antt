@@ -42,10 +42,10 @@ returns-in-Ok-new g c =
       head = made.head;
       text = made.text;
       refused = tt;
-      reads_back = λ named range.
-          made.reads_back named
+      reads_back = λ reading named range.
+          made.reads_back reading named
           (comes_back additional.read_of additional.write_of gender.read_of gender.write_of law.reads_back law.stays_additional gender_law.reads_back gender_law.written_is_value c.in_ok-claims.claims
-          (range_kept additional.write_of claims c.in_ok-claims.claims differ range));
+          (range_kept additional.write_of claims c.in_ok-claims.claims differ range) reading);
       accepted = λ v allows now expects.
           accepts_issued k v allows now alg checker claims c.in-Ok-new.token expects (subst (λ p. DifferInHashes p claims) (sym made.payload) differ) made.header
           (g.met.S.PrivateSigningKey.signs_truly key alg _ _ made.signed);

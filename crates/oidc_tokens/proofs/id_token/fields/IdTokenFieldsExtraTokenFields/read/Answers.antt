@@ -10,10 +10,11 @@ use Rattle.oidc_tokens.proofs.id_token.fields.IdTokenFieldsExtraTokenFields.read
 pub returns-in-Err : goal.returns-in-Err
 unfolding response_fields_of
 returns-in-Err g c =
-    let members = c.args.members.now in
-    let field = id_token (token_of g.JE.ClosedVocabulary.from_str g.JS.ClosedVocabulary.from_str (id_token_claims_of g.AC.AdditionalClaims.read_of g.GC.GenderClaim.read_of)) in
+    let members = c.args.members.now.list in
+    let reading = c.args.members.now.reading in
+    let field = id_token (token_of g.JE.ClosedVocabulary.from_str g.JS.ClosedVocabulary.from_str (id_token_claims_of g.AC.AdditionalClaims.read_of g.GC.GenderClaim.read_of reading)) in
     record {
       fields = gives (faultless (judged field) members)
-          (λ u. g.EF.ExtraTokenFields.read_of members >>= λ extra. Ok (record { id_token = optional field members; extra_fields = extra })) tt (Err c.in-Err.error) c.in_ok-fields.ensures.kept.0
-          (stops (g.EF.ExtraTokenFields.read_of members) (λ extra. Ok (record { id_token = optional field members; extra_fields = extra })) c.in-Err.error c.in-Err.ensures.fields);
+          (λ u. g.EF.ExtraTokenFields.read_of reading members >>= λ extra. Ok (record { id_token = optional field members; extra_fields = extra })) tt (Err c.in-Err.error) c.in_ok-fields.ensures.kept.0
+          (stops (g.EF.ExtraTokenFields.read_of reading members) (λ extra. Ok (record { id_token = optional field members; extra_fields = extra })) c.in-Err.error c.in-Err.ensures.fields);
     }
