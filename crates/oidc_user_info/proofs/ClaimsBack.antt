@@ -5,6 +5,7 @@ use Rattle.std.proofs.lemmas.List.Elements.{All-append}
 use Rattle.serde_json.specs.Data.{Data}
 use Rattle.oidc_members.specs.Seen.{SeenMember, OutSeen}
 use Rattle.oidc_members.specs.Write.{any_float}
+use Rattle.oidc_members.specs.declared.reading.Reading.{Reading}
 use Rattle.oidc_members.specs.declared.refusal.Refusal.{Refusal}
 use Rattle.oidc_readers.specs.Passes.{first_by}
 use Rattle.oidc_readers.specs.Records.{◌>>=◌, optional}
@@ -103,27 +104,27 @@ module _
     standard_texts : All IsUtf8Member second_part
     standard_texts = behind IsUtf8Member first_part second_part (before IsUtf8Member (first_part ++ second_part) third_part texts)
 
-    read_standard : (first_by (fault_at gender_read) [] all ≡ None) × (faultless_claims gender_read all ≡ Ok c.standard_claims)
-    read_standard =
+    read_standard : (reading : Reading) → (first_by (fault_at gender_read reading) [] all ≡ None) × (faultless_claims gender_read reading all ≡ Ok c.standard_claims)
+    read_standard reading =
         let kept = standard_kept user_info_fields refl first_part second_part third_part firsts seconds thirds in (
-          standard_clean gender_read gender_data gender_back gender_there c.standard_claims range.standard_claims standard_texts all kept,
-          standard_there gender_read gender_data gender_back gender_there c.standard_claims range.standard_claims standard_texts all kept,
+          standard_clean gender_read reading gender_data gender_back gender_there c.standard_claims range.standard_claims standard_texts all kept,
+          standard_there gender_read reading gender_data gender_back gender_there c.standard_claims range.standard_claims standard_texts all kept,
         )
 
-    pub read_again : user_info_claims_of additional_read gender_read all ≡ Ok c
+    pub read_again : (reading : Reading) → user_info_claims_of additional_read gender_read reading all ≡ Ok c
     unfolding user_info_claims_of parts_in
-    read_again = rw (
-      no_fault (user_info_rule gender_read) all (passes_both issuer_and_audience_rule (fault_at gender_read) all [] clean_own read_standard.0),
-      read_standard.1,
+    read_again reading = rw (
+      no_fault (user_info_rule gender_read reading) all (passes_both issuer_and_audience_rule (fault_at gender_read reading) all [] clean_own (read_standard reading).0),
+      (read_standard reading).1,
       additional_there,
       issuer_there,
       audiences_there,
     ) refl
 
     pub gives_claims : GivesInfoClaims additional_read gender_read all_out c
-    gives_claims =
-        ap (option_map (user_info_claims_of additional_read gender_read)) (written_split_back all_out (may_be_written all_out values_stand texts))
-        ∙ ap Some read_again
+    gives_claims reading =
+        ap (option_map (user_info_claims_of additional_read gender_read reading)) (written_split_back all_out (may_be_written all_out values_stand texts))
+        ∙ ap Some (read_again reading)
 
-  pub comes_back : ComesBack (user_info_claims_of additional_read gender_read) (user_info_members additional_out gender_data) c
-  comes_back = record { values = values_stand; same = read_again }
+  pub comes_back : (reading : Reading) → ComesBack (user_info_claims_of additional_read gender_read reading) (user_info_members additional_out gender_data) c
+  comes_back reading = record { values = values_stand; same = λ texts. read_again texts reading }

@@ -3,6 +3,7 @@ use Rattle.std.proofs.Common.{◌≡◌, ◌≢◌, ◌==◌, ℕ, Bool, true, f
 use Rattle.std.specs.Prelude.{Result, Ok, Err, not, ◌⊎◌, if◌then◌else◌, codes}
 use Rattle.std.specs.Str.{is_utf8}
 use Rattle.http_header.specs.FieldValue.{is_visible_text, plain_value}
+use Rattle.oidc_members.specs.declared.reading.TheConstants.Reading.{STRICT}
 use Rattle.oidc_members.specs.declared.refusal.Refusal.{Refusal}
 use Rattle.oidc_keys.specs.declared.refusals.SignatureVerificationError.TheVariants.{AmbiguousKeyId, CryptoError, DisallowedAlg, InvalidKey, NoMatchingKey, NoSignature, UnsupportedAlg, Memory as NoMemory}
 use Rattle.oidc_oauth2.specs.Messages.{SeenRequest, SeenResponse, SeenAnswer}
@@ -103,17 +104,17 @@ module _ {AC GC JE Key Use Algorithm Type' : Type 0} (r : Readers AC GC JE Key U
       let another = about_another ask.demand.verifier.expected_subject found.standard_claims.subject is in
       inl (record { found = found; reads = reads; expected = another.0; is_expected = another.1; another = another.2 })
 
-  read_rests : (body : List ℕ) → AllowsObject ask answers body → (read : Result Claims Refusal) → claims_in r.additional r.gender body ≡ read
+  read_rests : (body : List ℕ) → AllowsObject ask answers body → (read : Result Claims Refusal) → claims_in r.additional r.gender STRICT body ≡ read
       → Rests ((read or_as Parse) >>= λ found. (ClaimsVerification claims.InvalidSubject when not (is_expected_subject ask.demand.verifier.expected_subject found.standard_claims.subject)) >> Ok found)
   read_rests body allows (Ok found) is = about_rests found (record { body = body; allows = allows; read = is }) (is_expected_subject ask.demand.verifier.expected_subject found.standard_claims.subject) refl
   read_rests body allows (Err refusal) is = inl (record { body = body; allows = allows; refused = is })
 
-  json_rests : (body : List ℕ) → AllowsObject ask answers body → Rests (from_json r.additional r.gender ask.demand.verifier.expected_subject body)
+  json_rests : (body : List ℕ) → AllowsObject ask answers body → Rests (from_json r.additional r.gender STRICT ask.demand.verifier.expected_subject body)
   unfolding from_json
-  json_rests body allows = read_rests body allows (claims_in r.additional r.gender body) refl
+  json_rests body allows = read_rests body allows (claims_in r.additional r.gender STRICT body) refl
 
   signed_rests : (body : List ℕ) → HoldsObject ask answers body → (signed : Bool) → ask.demand.signed ≡ signed
-      → Rests ((ClaimsVerification (claims.SignatureVerification NoSignature) when signed) >> from_json r.additional r.gender ask.demand.verifier.expected_subject body)
+      → Rests ((ClaimsVerification (claims.SignatureVerification NoSignature) when signed) >> from_json r.additional r.gender STRICT ask.demand.verifier.expected_subject body)
   signed_rests body holds true is = inl (record { body = body; holds = holds; signature_asked = is })
   signed_rests body holds false is = json_rests body (record { holds = holds; unsigned_allowed = is })
 
@@ -229,7 +230,7 @@ module _ {AC GC JE Key Use Algorithm Type' : Type 0} (r : Readers AC GC JE Key U
   unfolding by_media_type
   token_reply body holds = succeeds_reply holds.response holds.succeeds ∙ rw (holds.no_json, holds.jwt) (ap (of_token r ask.demand.verifier) holds.own_body)
 
-  allows_reply : (body : List ℕ) → AllowsObject ask answers body → Replies (from_json r.additional r.gender ask.demand.verifier.expected_subject body)
+  allows_reply : (body : List ℕ) → AllowsObject ask answers body → Replies (from_json r.additional r.gender STRICT ask.demand.verifier.expected_subject body)
   unfolding of_object
   allows_reply body allows = object_reply body allows.holds ∙ rw allows.unsigned_allowed refl
 

@@ -2,6 +2,7 @@
 use Rattle.std.proofs.Common.{◌≡◌, ◌==◌, ℕ, List, Bool, true, false, cond, Option, None, Some, Result, Ok, Err, refl, subst}
 use Rattle.std.specs.Prelude.{not, codes, IfErr}
 use Rattle.std.specs.Str.{is_utf8}
+use Rattle.oidc_members.specs.declared.reading.TheConstants.Reading.{STRICT}
 use Rattle.oidc_members.specs.declared.refusal.Refusal.{Refusal}
 use Rattle.oidc_keys.specs.declared.refusals.SignatureVerificationError.TheVariants.{NoSignature}
 use Rattle.oidc_oauth2.specs.HttpUtils.{may_be}
@@ -38,13 +39,13 @@ module _ {AC GC JE Key Use Algorithm Type' : Type 0} (r : Readers AC GC JE Key U
   read_judged (Ok found) = after_when (ClaimsVerification claims.InvalidSubject) (not (is_expected_subject demand.verifier.expected_subject found.standard_claims.subject)) (Ok found) tt tt
   read_judged (Err refusal) = tt
 
-  json_judged : (body : List ℕ) → IsJudged (from_json r.additional r.gender demand.verifier.expected_subject body)
+  json_judged : (body : List ℕ) → IsJudged (from_json r.additional r.gender STRICT demand.verifier.expected_subject body)
   unfolding from_json
-  json_judged body = read_judged (claims_in r.additional r.gender body)
+  json_judged body = read_judged (claims_in r.additional r.gender STRICT body)
 
   object_judged : (body : List ℕ) → IsJudged (of_object r.additional r.gender demand body)
   unfolding of_object
-  object_judged body = after_when (ClaimsVerification (claims.SignatureVerification NoSignature)) demand.signed (from_json r.additional r.gender demand.verifier.expected_subject body) tt (json_judged body)
+  object_judged body = after_when (ClaimsVerification (claims.SignatureVerification NoSignature)) demand.signed (from_json r.additional r.gender STRICT demand.verifier.expected_subject body) tt (json_judged body)
 
   failure_judged : (token : SeenToken JE Algorithm Claims) (failure : Option ClaimsVerificationError) → IsJudged ((ClaimsVerification for failure) >> Ok token.payload)
   failure_judged token None = tt

@@ -2,6 +2,7 @@
 use Rattle.std.specs.Prelude.{◌≡◌, List, filter, Result, Ok}
 use Rattle.std.specs.List.{All}
 use Rattle.oidc_members.specs.Seen.{SeenMember}
+use Rattle.oidc_members.specs.declared.reading.Reading.{Reading}
 use Rattle.oidc_members.specs.declared.refusal.Refusal.{Refusal}
 use Rattle.oidc_readers.specs.Records.{optional}
 use Rattle.oidc_claims.specs.Home.{user_info_fields}
@@ -11,17 +12,18 @@ use Rattle.oidc_user_info.specs.UserInfoClaims.{SeenUserInfoClaims, iss, aud, us
 
 module _ {AC GC : Type 0} (additional_read : List SeenMember → Result AC Refusal)
     (gender_read : SeenMember → Result GC Refusal) where
-  -- Of accepted members, each has one home, and each part of the claims is what the members of its own
-  -- home say.
-  pub record HaveOneHome (members : List SeenMember) (claims : SeenUserInfoClaims AC GC) : Type 0 where
+  -- Of members that are accepted under a reading, each has one home, and each part of the claims is what the
+  -- members of its own home say.
+  pub record HaveOneHome (reading : Reading) (members : List SeenMember)
+      (claims : SeenUserInfoClaims AC GC) : Type 0 where
     pub homes : All (HasOneHome user_info_fields) members
     pub issuer : optional iss (filter (is_field user_info_fields) members) ≡ claims.issuer
     pub audiences : optional aud (filter (is_field user_info_fields) members) ≡ claims.audiences
-    pub standard : faultless_claims gender_read (filter is_standard members) ≡ Ok claims.standard_claims
+    pub standard : faultless_claims gender_read reading (filter is_standard members) ≡ Ok claims.standard_claims
     pub additional : additional_read (filter (is_additional user_info_fields) members) ≡ Ok claims.additional_claims
 
   abbrev pub AcceptedHaveOneHome : Type 0
   AcceptedHaveOneHome =
-      (members : List SeenMember) (claims : SeenUserInfoClaims AC GC)
-      → user_info_claims_of additional_read gender_read members ≡ Ok claims
-      → HaveOneHome members claims
+      (reading : Reading) (members : List SeenMember) (claims : SeenUserInfoClaims AC GC)
+      → user_info_claims_of additional_read gender_read reading members ≡ Ok claims
+      → HaveOneHome reading members claims

@@ -3,6 +3,8 @@
 use Rattle.std.specs.Prelude.{ℕ, List, ◌==◌, Bool, not, Option, Result, Ok, Err, if◌then◌else◌, codes}
 use Rattle.std.specs.Str.{is_utf8}
 use Rattle.oidc_members.specs.Seen.{SeenMember}
+use Rattle.oidc_members.specs.declared.reading.Reading.{Reading}
+use Rattle.oidc_members.specs.declared.reading.TheConstants.Reading.{STRICT}
 use Rattle.oidc_members.specs.declared.refusal.Refusal.{Refusal}
 use Rattle.oidc_keys.specs.declared.refusals.SignatureVerificationError.TheVariants.{NoSignature}
 use Rattle.oidc_oauth2.specs.Messages.{SeenResponse}
@@ -48,30 +50,32 @@ readers additional gender encryption signing keys = record {
 
 -- the claims that a body holds as an object
 abbrev pub claims_in : {AC GC : Type 0} → (List SeenMember → Result AC Refusal)
-    → (SeenMember → Result GC Refusal) → List ℕ → Result (SeenUserInfoClaims AC GC) Refusal
-claims_in additional gender body = record_in (user_info_claims_of additional gender) body
+    → (SeenMember → Result GC Refusal) → Reading → List ℕ → Result (SeenUserInfoClaims AC GC) Refusal
+claims_in additional gender reading body = record_in (user_info_claims_of additional gender reading) body
 
 -- ---- the rows
 
--- those of an object, where a subject may be expected
+-- those of an object, where a subject may be expected, under a reading
 unfoldable pub from_json : {AC GC : Type 0} → (List SeenMember → Result AC Refusal)
-    → (SeenMember → Result GC Refusal) → Option (List ℕ) → List ℕ → Meant (SeenUserInfoClaims AC GC)
-from_json additional gender expected body = do
-  claims ← claims_in additional gender body or_as Parse
+    → (SeenMember → Result GC Refusal) → Reading → Option (List ℕ) → List ℕ
+    → Meant (SeenUserInfoClaims AC GC)
+from_json additional gender reading expected body = do
+  claims ← claims_in additional gender reading body or_as Parse
   ClaimsVerification InvalidSubject when not (is_expected_subject expected claims.standard_claims.subject)
   Ok claims
 
--- those of an answer that is an object
+-- those of an answer that is an object, whose claims are read strictly
 unfoldable pub of_object : {AC GC Key : Type 0} → (List SeenMember → Result AC Refusal)
     → (SeenMember → Result GC Refusal) → Demand Key → List ℕ → Meant (SeenUserInfoClaims AC GC)
 of_object additional gender demand body = do
   ClaimsVerification (SignatureVerification NoSignature) when demand.signed
-  from_json additional gender demand.verifier.expected_subject body
+  from_json additional gender STRICT demand.verifier.expected_subject body
 
 module _ {AC GC JE Key Use Algorithm Type' : Type 0} (r : Readers AC GC JE Key Use Algorithm Type') where
-  -- the token that a text is
+  -- the token that a text is, whose claims are read strictly
   abbrev pub token_in : List ℕ → Result (SeenToken JE Algorithm (SeenUserInfoClaims AC GC)) Refusal
-  token_in text = token_of r.encryption_named r.signing_named (user_info_claims_of r.additional r.gender) text
+  token_in text =
+      token_of r.encryption_named r.signing_named (user_info_claims_of r.additional r.gender STRICT) text
 
   -- the first check of a token that fails
   abbrev pub failure_of : SeenUserInfoVerifier Key → SeenToken JE Algorithm (SeenUserInfoClaims AC GC)

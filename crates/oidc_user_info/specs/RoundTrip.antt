@@ -6,6 +6,7 @@ use Rattle.oidc_types.specs.{TextAndUrl}
 use Rattle.oidc_members.specs.Seen.{SeenMember, OutSeen}
 use Rattle.oidc_members.specs.Objects.{members_of}
 use Rattle.oidc_members.specs.Write.{object_text}
+use Rattle.oidc_members.specs.declared.reading.Reading.{Reading}
 use Rattle.oidc_members.specs.declared.refusal.Refusal.{Refusal}
 use Rattle.oidc_readers.specs.WrittenBack.{MayStand}
 use Rattle.oidc_claims.specs.Write.{IsInRange}
@@ -20,9 +21,10 @@ pub record IsInfoInRange {AC GC : Type 0} (additional_out : AC → List OutSeen)
   pub standard_claims : IsInRange claims.standard_claims
   pub values : All (λ m. MayStand m.value) (additional_out claims.additional_claims)
 
--- The object's text of those members is read as these claims.
+-- The object's text of those members is read as these claims, under every reading.
 abbrev pub GivesInfoClaims : {AC GC : Type 0} → (List SeenMember → Result AC Refusal)
     → (SeenMember → Result GC Refusal) → List OutSeen → SeenUserInfoClaims AC GC → Type 0
 GivesInfoClaims additional_read gender_read members claims =
-    option_map (user_info_claims_of additional_read gender_read) (members_of (object_text members))
+    (reading : Reading)
+    → option_map (user_info_claims_of additional_read gender_read reading) (members_of (object_text members))
     ≡ Some (Ok claims)

@@ -3,6 +3,7 @@ use Rattle.std.specs.Prelude.{ℕ, List, [], ◌∷◌, ◌++◌, Option, option
 use Rattle.serde_json.specs.Data.{Data}
 use Rattle.oidc_types.specs.{TextAndUrl}
 use Rattle.oidc_members.specs.Seen.{SeenMember, OutSeen}
+use Rattle.oidc_members.specs.declared.reading.Reading.{Reading}
 use Rattle.oidc_members.specs.declared.refusal.Refusal.{Refusal}
 use Rattle.oidc_readers.specs.Kinds.{url_kind, text_or_texts_kind, or_null}
 use Rattle.oidc_readers.specs.Fields.{Field, field, judged}
@@ -38,18 +39,18 @@ abbrev pub issuer_and_audience_rule : Rule
 issuer_and_audience_rule = by_table (judged iss ∷ judged aud ∷ [])
 
 -- why a member is faulty, after all those before it: by its own field's row, or as a standard claim
-abbrev pub user_info_rule : {GC : Type 0} → (SeenMember → Result GC Refusal) → Rule
-user_info_rule gender_read = either_rule issuer_and_audience_rule (fault_at gender_read)
+abbrev pub user_info_rule : {GC : Type 0} → (SeenMember → Result GC Refusal) → Reading → Rule
+user_info_rule gender_read reading = either_rule issuer_and_audience_rule (fault_at gender_read reading)
 
 -- ---- as they are read
 
 module _ {AC GC : Type 0} (additional_read : List SeenMember → Result AC Refusal)
-    (gender_read : SeenMember → Result GC Refusal) where
+    (gender_read : SeenMember → Result GC Refusal) (reading : Reading) where
   -- What members say, none of which is faulty. A missing `sub` refuses them, and then the additional
   -- claims may.
   unfoldable pub parts_in : List SeenMember → Result (SeenUserInfoClaims AC GC) Refusal
   parts_in members = do
-    standard ← faultless_claims gender_read members
+    standard ← faultless_claims gender_read reading members
     additional ← additional_read (additional_among user_info_fields members)
     Ok (record {
       issuer = optional iss members;
@@ -61,7 +62,7 @@ module _ {AC GC : Type 0} (additional_read : List SeenMember → Result AC Refus
   -- The first faulty member refuses the list.
   unfoldable pub user_info_claims_of : List SeenMember → Result (SeenUserInfoClaims AC GC) Refusal
   user_info_claims_of members = do
-    u ← faultless (user_info_rule gender_read) members
+    u ← faultless (user_info_rule gender_read reading) members
     parts_in members
 
 -- ---- as members

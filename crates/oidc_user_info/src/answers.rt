@@ -17,36 +17,52 @@ use crate::requests::UserInfoRequest;
 use crate::token::UserInfoJsonWebToken;
 use oidc_claims::{AdditionalClaims, GenderClaim};
 use oidc_keys::{JsonWebKey, SignatureVerificationError};
-use oidc_members::{Members, ParseError};
+use oidc_members::{Members, ParseError, Reading};
 use oidc_oauth2::{HttpResponse, MAX_BODY, MIME_TYPE_JSON, MIME_TYPE_JWT, check_content_type};
 use oidc_tokens::{ClaimsVerificationError, Payload, UserInfoVerifier, is_expected_subject};
 use oidc_types::{Body, JweContentEncryptionAlgorithm, SubjectIdentifier};
 use std::alloc::Global;
 
-// The claims that an object's text holds.
+// The claims that an object's text holds, under a reading.
 fn claims_in<AC: AdditionalClaims, GC: GenderClaim>(
     alloc: Global,
     json: &[u8],
+    reading: Reading,
 ) -> Result<UserInfoClaims<AC, GC>, ParseError>
-    ensures { Answers (spec.claims_in AC.read_of GC.read_of json.now) result }
+    ensures { Answers (spec.claims_in AC.read_of GC.read_of reading json.now) result }
 {
-    let members = Members::split(alloc, json)?;
+    let members = Members::split(alloc, json)?.with_reading(reading);
     UserInfoClaims::read(alloc, &members)
 }
 
 impl<AC: AdditionalClaims, GC: GenderClaim> UserInfoClaims<AC, GC> {
-    /// The claims that an object's text holds, about the expected subject, where one is expected. It is
-    /// refused as `Parse`, then as `InvalidSubject`, or as `Memory`.
-    #[tactic(auto, unfolding(crate::specs::InfoAnswers::from_json))]
+    /// The claims that an object's text holds, read strictly, about the expected subject, where one
+    /// is expected. It is refused as `Parse`, then as `InvalidSubject`, or as `Memory`.
     pub fn from_json<RE>(
         alloc: Global,
         json: &[u8],
         expected_subject: Option<&SubjectIdentifier>,
     ) -> Result<Self, UserInfoError<RE>>
         ensures answer { let expected = option_copied expected_subject.entry in
-            Gives info_errors result (spec.from_json AC.read_of GC.read_of expected json.now) }
+            let read = spec.from_json AC.read_of GC.read_of Reading.STRICT in
+            Gives info_errors result (read expected json.now) }
     {
-        match claims_in::<AC, GC>(alloc, json) {
+        UserInfoClaims::from_json_with(alloc, json, expected_subject, Reading::STRICT)
+    }
+
+    /// The same, with the claims read under that reading.
+    #[tactic(auto, unfolding(crate::specs::InfoAnswers::from_json))]
+    pub fn from_json_with<RE>(
+        alloc: Global,
+        json: &[u8],
+        expected_subject: Option<&SubjectIdentifier>,
+        reading: Reading,
+    ) -> Result<Self, UserInfoError<RE>>
+        ensures answer { let expected = option_copied expected_subject.entry in
+            let read = spec.from_json AC.read_of GC.read_of reading in
+            Gives info_errors result (read expected json.now) }
+    {
+        match claims_in::<AC, GC>(alloc, json, reading) {
             Err(ParseError::Refused(refusal)) => Err(UserInfoError::Parse(refusal)),
             Err(ParseError::Memory) => Err(UserInfoError::Memory),
             Ok(claims) => {

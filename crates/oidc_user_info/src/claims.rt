@@ -189,9 +189,11 @@ impl<AC: AdditionalClaims, GC: GenderClaim> UserInfoClaims<AC, GC> {
         standard: ClaimsReader<GC>,
         members: &Members,
     ) -> Result<Self, ParseError>
-        requires own { own ≡ issuer_and_audience members.now }
-        requires standard { standard ≡ reader_of GC.read_of members.now }
-        ensures { Answers (spec.parts_in AC.read_of GC.read_of members.now) result }
+        requires own { own ≡ issuer_and_audience members.now.list }
+        requires standard { standard
+            ≡ reader_of GC.read_of members.now.reading members.now.list }
+        ensures { let parts = spec.parts_in AC.read_of GC.read_of members.now.reading in
+            Answers (parts members.now.list) result }
     {
         match standard.finish(alloc) {
             Err(error) => {
@@ -267,8 +269,9 @@ impl<AC: AdditionalClaims, GC: GenderClaim> Payload for UserInfoClaims<AC, GC> {
 
     ghost write_of = { spec.user_info_members AC.write_of GC.write_of };
 
-    /// Reads the claims. It refuses the first faulty member, be it `iss`, `aud` or a standard claim; then a
-    /// missing `sub`; then as the additional claims do. A null stands for an absent `iss` or `aud`.
+    /// Reads the claims under the members' reading. It refuses the first faulty member, be it
+    /// `iss`, `aud` or a standard claim; then a missing `sub`; then as the additional claims do. A
+    /// null stands for an absent `iss` or `aud`.
     ///
     /// `iss` and `aud` are faulty where they repeat (`Duplicate`) or aren't of their kind: a URL (`WrongType`
     /// where it is no text, else `Url`); a text or an array of texts (`WrongType`). A standard claim is
@@ -286,9 +289,9 @@ impl<AC: AdditionalClaims, GC: GenderClaim> Payload for UserInfoClaims<AC, GC> {
     /// The claims as members: `iss`, `aud`, the standard claims, then the additional ones. Absent claims are
     /// left out, `aud` is an array, and moments are whole seconds, rounded down.
     ///
-    /// Claims are read back from the object's text of what is written, where they are in range: the
-    /// issuer's URL is that of its text, the standard claims are in the range of `write_standard`, and the
-    /// additional claims give values that an object may have.
+    /// Claims are read back from the object's text of what is written, under every reading, where
+    /// they are in range: the issuer's URL is that of its text, the standard claims are in the
+    /// range of `write_standard`, and the additional claims give values that an object may have.
     fn write(&self, alloc: Global) -> Result<Vec<OutMember>, AllocError>
         ensures members { let written = spec.user_info_members AC.write_of GC.write_of self.now in
             IfOk result (λ out. out.items ≡ written) }

@@ -3,6 +3,7 @@
 ghost use Rattle.std.specs.Prelude.{◌≡◌, Ok, IfOk, IfErr, false};
 ghost use Rattle.oidc_members.specs.Answers.{Answers};
 ghost use Rattle.oidc_members.specs.Write.{any_float};
+ghost use Rattle.oidc_members.specs.declared.reading.Reading.{Reading};
 ghost use Rattle.oidc_jwt.specs.Header.{written_header};
 ghost use Rattle.oidc_jwt.specs.Tokens.{token_of};
 ghost use Rattle.oidc_jwt.specs.Issuing as issuing;
@@ -17,7 +18,7 @@ ghost use Rattle.oidc_user_info.specs.UserInfoClaims.{user_info_claims_of, user_
 use crate::claims::UserInfoClaims;
 use oidc_claims::{AdditionalClaims, GenderClaim};
 use oidc_keys::{JsonWebKey, PrivateSigningKey};
-use oidc_members::ParseError;
+use oidc_members::{ParseError, Reading};
 use oidc_tokens::{ClaimsVerificationError, JsonWebToken, JsonWebTokenError, UserInfoVerifier};
 use oidc_types::{JweContentEncryptionAlgorithm, JwsSigningAlgorithm};
 use std::alloc::Global;
@@ -60,12 +61,21 @@ impl<
     JE: JweContentEncryptionAlgorithm,
     JS: JwsSigningAlgorithm,
 > UserInfoJsonWebToken<AC, GC, JE, JS> {
-    /// The token that a text is. It is refused as a JSON Web Token is, its claims as [`UserInfoClaims`] are.
+    /// The token that a text is. It is refused as a JSON Web Token is, its claims as
+    /// [`UserInfoClaims`] are under the strict reading.
     pub fn read(alloc: Global, text: &str) -> Result<Self, ParseError>
         ensures answer { Answers (token_of JE.from_str JS.from_str
-            (user_info_claims_of AC.read_of GC.read_of) text.now) result }
+            (user_info_claims_of AC.read_of GC.read_of Reading.STRICT) text.now) result }
     {
-        let token = JsonWebToken::read(alloc, text)?;
+        UserInfoJsonWebToken::read_with(alloc, text, Reading::STRICT)
+    }
+
+    /// The same, with the claims read under that reading.
+    pub fn read_with(alloc: Global, text: &str, reading: Reading) -> Result<Self, ParseError>
+        ensures answer { Answers (token_of JE.from_str JS.from_str
+            (user_info_claims_of AC.read_of GC.read_of reading) text.now) result }
+    {
+        let token = JsonWebToken::read_with(alloc, text, reading)?;
         Ok(UserInfoJsonWebToken { token })
     }
 
@@ -103,10 +113,12 @@ impl<
             let header = written_header (JS.as_ref alg) key_id in
             IfErr result (IsRefusedBy header (S.signs key.now alg)) }
 
-        // What is issued is read back, where its algorithm is read back from its own text.
-        ensures reads_back { IsNamed JS.as_ref JS.from_str alg → IsInfoInRange AC.write_of claims
+        // What is issued is read back under every reading, where its algorithm is read back from
+        // its own text.
+        ensures reads_back { (reading : Reading)
+            → IsNamed JS.as_ref JS.from_str alg → IsInfoInRange AC.write_of claims
             → IfOk result (λ token. token_of JE.from_str JS.from_str
-            (user_info_claims_of AC.read_of GC.read_of) token.text ≡ Ok token) }
+            (user_info_claims_of AC.read_of GC.read_of reading) token.text ≡ Ok token) }
     {
         match JsonWebToken::new(alloc, claims, key, &alg) {
             Ok(token) => Ok(UserInfoJsonWebToken { token }),

@@ -6,7 +6,7 @@ ghost use Rattle.oidc_readers.specs.Slots.{slot_value};
 ghost use Rattle.oidc_user_info.specs.UserInfoClaims as spec;
 ghost use Rattle.oidc_user_info.specs.IssuerAndAudience.{issuer_and_audience};
 
-use oidc_members::{Member, ParseError};
+use oidc_members::{Member, ParseError, Reading};
 use oidc_readers::{MemberReader, Once, TextOrTexts};
 use oidc_types::{Audience, AudienceMarker, IssuerUrl};
 use std::alloc::Global;
@@ -49,11 +49,16 @@ fn vec_of(texts: Option<TextOrTexts<AudienceMarker>>) -> Option<Vec<Audience>>
 }
 
 impl MemberReader for IssuerAndAudience {
-    ghost fault = { spec.issuer_and_audience_rule };
+    ghost fault = { λ _. spec.issuer_and_audience_rule };
 
-    ghost state = { issuer_and_audience };
+    ghost state = { λ _. issuer_and_audience };
 
-    fn take(&mut self, alloc: Global, member: &Member) -> Result<(), ParseError> {
+    fn take(
+        &mut self,
+        alloc: Global,
+        member: &Member,
+        _reading: Reading,
+    ) -> Result<(), ParseError> {
         self.iss
             .take(alloc, "iss", member)
             .and(self.aud.take(alloc, "aud", member))
