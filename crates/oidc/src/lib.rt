@@ -40,7 +40,9 @@ pub use oidc_types::{
 };
 
 // Why a text doesn't read, and the members of an object.
-pub use oidc_members::{FieldName, Member, Members, OutMember, ParseError, ParseKind, Refusal};
+pub use oidc_members::{
+    FieldName, Member, Members, OutMember, ParseError, ParseKind, Reading, Refusal,
+};
 
 // Claims.
 pub use oidc_claims::{

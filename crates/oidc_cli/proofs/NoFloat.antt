@@ -8,6 +8,7 @@ use Rattle.serde_json.specs.Written.{has_float}
 use Rattle.oidc_members.specs.Seen.{SeenMember}
 use Rattle.oidc_members.specs.Objects.{split_of}
 use Rattle.oidc_members.specs.Write.{any_float}
+use Rattle.oidc_members.specs.declared.reading.TheConstants.Reading.{STRICT}
 use Rattle.oidc_members.specs.declared.refusal.Refusal.{Refusal}
 use Rattle.oidc_readers.specs.Kinds.{text_kind}
 use Rattle.oidc_readers.specs.Records.{faultless}
@@ -89,13 +90,13 @@ additional_stay ms = filtered (λ m. is_additional m.name) ms
 -- ---- claims of user info
 
 abbrev reads_claims : List SeenMember → Result SeenUserInfo Refusal
-reads_claims = user_info_claims_of read_others text_kind
+reads_claims = user_info_claims_of read_others text_kind STRICT
 
 claims_free : (members : List SeenMember) (found : SeenUserInfo) → reads_claims members ≡ Ok found → IsFree members → any_float (list_of found.additional_claims) ≡ false
 unfolding user_info_claims_of parts_in
 claims_free members found h free =
     let among : List SeenMember = additional_among user_info_fields members in
-    after (faultless (user_info_rule text_kind) members) _ found h λ _ _ judged.
+    after (faultless (user_info_rule text_kind STRICT) members) _ found h λ _ _ judged.
     after (faultless_claims text_kind members) _ found judged λ _ _ standard.
     let own : others_of (map out_of among) ≡ found.additional_claims = ap (λ (f : SeenUserInfo). f.additional_claims) (same_ok _ found standard) in
     let kept = all_kept among (additional_stay members) in
@@ -103,7 +104,7 @@ claims_free members found h free =
     ap any_float (ap list_of (sym own ∙ same) ∙ kept.2) ∙ kept_free (λ m. is_additional_home (home_of m.name user_info_fields)) members free
 
 -- those of an object
-object_free : (body : List ℕ) (found : SeenUserInfo) → claims_in read_others text_kind body ≡ Ok found → any_float (list_of found.additional_claims) ≡ false
+object_free : (body : List ℕ) (found : SeenUserInfo) → claims_in read_others text_kind STRICT body ≡ Ok found → any_float (list_of found.additional_claims) ≡ false
 object_free body found h =
     let split = then_ok (split_of body) reads_claims found h in claims_free split.0 found split.2 (split_free body split.0 split.1)
 
@@ -119,10 +120,10 @@ of_object_free : (demand : Demand SymmetricKey) (body : List ℕ) (found : SeenU
     → any_float (list_of found.additional_claims) ≡ false
 unfolding of_object from_json
 of_object_free demand body found h =
-    let read = then_ok (claims_in read_others text_kind body or_as _) _ found (when_ok _ demand.signed _ found h) in
+    let read = then_ok (claims_in read_others text_kind STRICT body or_as _) _ found (when_ok _ demand.signed _ found h) in
     let same = same_ok _ found (when_ok _ _ _ found read.2) in
     ap (λ (f : SeenUserInfo). any_float (list_of f.additional_claims)) (sym same)
-    ∙ object_free body read.0 (as_ok (claims_in read_others text_kind body) _ read.0 read.1)
+    ∙ object_free body read.0 (as_ok (claims_in read_others text_kind STRICT body) _ read.0 read.1)
 
 of_token_free : (demand : Demand SymmetricKey) (body : List ℕ) (found : SeenUserInfo) → of_token types demand.verifier body ≡ Ok found
     → any_float (list_of found.additional_claims) ≡ false

@@ -3,6 +3,7 @@ use Rattle.std.proofs.Common.{◌≡◌, ℕ, List, false, Result, Ok, ap, ◌�
 use Rattle.oidc_members.specs.Seen.{SeenMember}
 use Rattle.oidc_members.specs.Objects.{split_of}
 use Rattle.oidc_members.specs.Write.{any_float}
+use Rattle.oidc_members.specs.declared.reading.TheConstants.Reading.{STRICT}
 use Rattle.oidc_members.specs.declared.refusal.Refusal.{Refusal}
 use Rattle.oidc_readers.specs.Records.{faultless, required}
 use Rattle.oidc_types.specs.declared.core_algorithms.CoreJsonWebKeyType.{CoreJsonWebKeyType}
@@ -45,4 +46,4 @@ module _ {GC Key Use : Type 0} (gender : SeenMember → Result GC Refusal) (keys
       let reads = is.holds.reads in
       let read = body_read reads.response.body is.held.tokens reads.tokens_held.read in
       ap (λ t. any_float (list_of t.payload.additional_claims)) is.own_id_token
-      ∙ response_free keeping.encryption_named keeping.signing_named gender no_others read.0 is.held.tokens.extra_fields is.held.token (fields_read read.0 is.held.tokens read.1) is.holds.own_id_token
+      ∙ response_free keeping.encryption_named keeping.signing_named gender STRICT no_others read.0 is.held.tokens.extra_fields is.held.token (fields_read read.0 is.held.tokens read.1) is.holds.own_id_token

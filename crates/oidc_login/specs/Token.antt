@@ -4,6 +4,7 @@ use Rattle.std.specs.Prelude.{◌≡◌, ℕ, ℤ, List, [], Bool, false, not, O
 use Rattle.std.specs.Option.{option_map_or}
 use Rattle.std.specs.Str.{bytes_eq}
 use Rattle.oidc_members.specs.Seen.{SeenMember}
+use Rattle.oidc_members.specs.declared.reading.TheConstants.Reading.{STRICT}
 use Rattle.oidc_members.specs.declared.refusal.Refusal.{Refusal}
 use Rattle.oidc_types.specs.{signing_text}
 use Rattle.oidc_types.specs.declared.signing_error.SigningError.{SigningError}
@@ -44,7 +45,7 @@ subject_of token = token.payload.standard_claims.subject
 module _ {AC GC Key Use : Type 0} (types : SiteTypes AC GC Key Use) where
   -- the ID token that a text is, or why it is none
   abbrev pub id_token_of : List ℕ → Result (SeenIdToken AC GC) Refusal
-  id_token_of = token_of types.encryption_named types.signing_named (id_token_claims_of types.additional types.gender)
+  id_token_of = token_of types.encryption_named types.signing_named (id_token_claims_of types.additional types.gender STRICT)
 
 -- ---- the answer to the token request
 

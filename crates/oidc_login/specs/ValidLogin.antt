@@ -3,6 +3,7 @@
 use Rattle.std.specs.Prelude.{◌≡◌, ◌⊎◌, ℕ, List, [], drop, None, Some, false, true, Ok, codes}
 use Rattle.http_header.specs.FieldValue.{is_visible_text}
 use Rattle.oidc_pairs.specs.Pairs.{pairs, values, only_of}
+use Rattle.oidc_members.specs.declared.reading.TheConstants.Reading.{STRICT}
 use Rattle.oidc_oauth2.specs.Messages.{SeenRequest, SeenResponse, SeenAnswer}
 use Rattle.oidc_oauth2.specs.Requests.{is_address}
 use Rattle.oidc_oauth2.specs.Transport.{first_answer}
@@ -32,7 +33,7 @@ module _ {AC GC Key Use : Type 0} (types : SiteTypes AC GC Key Use) where
     pub success : response.status ≡ 200
     pub json : may_be_json response ≡ true
     pub not_too_long : is_over_long response.body ≡ false
-    pub read : claims_in types.additional types.gender response.body ≡ Ok found
+    pub read : claims_in types.additional types.gender STRICT response.body ≡ Ok found
     pub about : found.standard_claims.subject ≡ subject
 
   module _ (a : Attempt Key) (answers : List SeenAnswer) where

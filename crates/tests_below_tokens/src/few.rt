@@ -17,9 +17,9 @@ pub struct Few {
 }
 
 fn few_of(alloc: Global, members: &Members) -> Result<Few, ParseError>
-    ensures { Answers (if nat_lt 5 (length members.now)
+    ensures { Answers (if nat_lt 5 (length members.now.list)
         then Err (record { kind = Additional; field = codes "members" })
-        else Ok (record { members = length members.now })) result }
+        else Ok (record { members = length members.now.list })) result }
 {
     if members.len() > 5 {
         return Err(Refusal::of_field(alloc, ParseKind::Additional, "members")?.into());
@@ -34,7 +34,7 @@ impl ExtraTokenFields for Few {
     ghost use Rattle.serde_json.specs.Data.{boolean};
     ghost use Rattle.oidc_members.specs.declared.refusal.ParseKind.TheVariants.{Additional};
 
-    ghost read_of = { λ members. if nat_lt 5 (length members)
+    ghost read_of = { λ _ members. if nat_lt 5 (length members)
         then Err (record { kind = Additional; field = codes "members" })
         else Ok (record { members = length members }) };
 
