@@ -27,13 +27,14 @@ import plain_keys
 import plain_requests
 import plain_tokens
 import plain_urls
-from plain_records import answer_by, pairs, read_case
+from plain_records import answer_by, pairs, read_case, reading_in
 
 CRATES = os.path.join(os.path.dirname(os.path.abspath(__file__)), os.pardir, "crates")
 
 
 def standard(line):
-    return plain_claims.answer_of(read_case(line, {"text"})[0]["text"])
+    found, _ = read_case(line, {"text"}, {"reading"})
+    return plain_claims.answer_of(found["text"], reading_in(found))
 
 
 # The operations that have a reader, by the crate that has their cases.
@@ -77,9 +78,11 @@ ASIDE = {
 
 # The generated cases, by the crate in whose table they stand.
 GENERATED = {
-    "vectors": [lambda: ["op=standard&text=" + text for text in plain_claims.texts()]],
+    "vectors": [lambda: ["op=standard&text=" + text for text in plain_claims.texts()],
+                lambda: list(plain_claims.readings())],
     "vectors_requests": [],
-    "vectors_tokens": [plain_tokens.cases, plain_info.cases, plain_urls.cases],
+    "vectors_tokens": [plain_tokens.cases, plain_info.cases, plain_urls.cases,
+                       lambda: list(plain_tokens.readings()), lambda: list(plain_info.readings())],
     "vectors_logins": [plain_callback.short_cases, plain_callback.long_cases, plain_front.cases],
 }
 

@@ -4,6 +4,7 @@
     tools/plain_claims.py cases      5,000 generated cases, a line each
     tools/plain_claims.py answers    the line that answers each of them
     tools/plain_claims.py read TEXT  what this reader says of one object
+    tools/plain_claims.py readings   cases of booleans and moments as texts, under each of the four readings
 
 It is a second reader beside oidc_claims, which fills slots in one pass. This one judges each member of
 an object against all that stand before it, and then looks each claim up in the whole list (OpenID
@@ -11,8 +12,10 @@ Connect Core 1.0 sections 5.1, 5.1.1, 5.1.2 and 5.2).
 """
 import json
 import math
+import re
 import sys
 from collections import namedtuple
+from datetime import datetime, timedelta, timezone
 from urllib.parse import quote
 
 Member = namedtuple("Member", "name value text")
@@ -157,6 +160,65 @@ def texts_of(text):
     return [item.strip(" \t\r\n") for item in items]
 
 
+# ---- texts that stand for booleans and moments
+
+Reading = namedtuple("Reading", "booleans moments")
+READINGS = {
+    "strict": Reading(False, False),
+    "booleans": Reading(True, False),
+    "moments": Reading(False, True),
+    "lenient": Reading(True, True),
+}
+STRICT = READINGS["strict"]
+
+EPOCH = datetime(1970, 1, 1, tzinfo=timezone.utc)
+
+# `date-time` of RFC 3339 section 5.6. Every digit is one of ASCII.
+DATE_TIME = re.compile(
+    r"([0-9]{4})-([0-9]{2})-([0-9]{2})[Tt]([0-9]{2}):([0-9]{2}):([0-9]{2})(?:\.([0-9]+))?"
+    r"(?:[Zz]|([+-])([0-9]{2}):([0-9]{2}))"
+)
+
+
+def moment_of(text):
+    """The seconds of a text, rounded down, by Python's datetime; none where it is no date and time."""
+    parts = DATE_TIME.fullmatch(text)
+    if not parts:
+        return None
+    year, month, day, hour, minute, second = (int(part) for part in parts.groups()[:6])
+    hours, minutes = int(parts[9] or 0), int(parts[10] or 0)
+    if hours > 23 or minutes > 59:
+        return None
+    # datetime has no year 0. Dates repeat every 400 years, which have 146,097 days.
+    cycles = 1 if year == 0 else 0
+    try:
+        clock = datetime(year + 400 * cycles, month, day, hour, minute, second, tzinfo=timezone.utc)
+    except ValueError:
+        return None
+    ahead = timedelta(hours=hours, minutes=minutes) * (-1 if parts[8] == "-" else 1)
+    # A fraction is added to whole seconds, and rounding down takes it away.
+    return (clock - EPOCH - ahead - timedelta(days=146_097 * cycles)) // timedelta(seconds=1)
+
+
+def as_read(kind, value, reading):
+    """The value that a text stands for. One that is no moment stands for a number that is out of range, since both
+    are refused alike."""
+    if kind == FLAG and reading.booleans and value in ("true", "false"):
+        return value == "true"
+    if kind == MOMENT and reading.moments and isinstance(value, str):
+        seconds = moment_of(value)
+        return LAST + 1 if seconds is None else seconds
+    return value
+
+
+def read_by(members, reading, own=()):
+    """The members under a reading: standard claims, and those moments that are a token's own."""
+    def kind_of(name):
+        return MOMENT if name in own else KINDS.get(key_of(name)[0])
+
+    return [member._replace(value=as_read(kind_of(member.name), member.value, reading)) for member in members]
+
+
 # ---- judging a member by those before it
 
 def key_of(name):
@@ -290,10 +352,10 @@ def form(pairs):
     return "&".join(f"{escaped(name)}={escaped(value)}" for name, value in pairs)
 
 
-def answer_of(text):
+def answer_of(text, reading=STRICT):
     """What the operation `standard` of crates/vectors answers for an object."""
     try:
-        members = members_of(text)
+        members = read_by(members_of(text), reading)
         check(members)
     except Refused as refused:
         place, kind, field = refused.args
@@ -366,8 +428,99 @@ def texts():
     return [choices.object() for _ in range(COUNT)]
 
 
+# ---- cases of readings
+
+FLAGS = ['true', 'false', '"true"', '"false"', '"True"', '"False"', '"TRUE"', '"FALSE"', '"tRue"', '" true"', '"true "',
+         '"true\\n"', '"t\\u0072ue"', '"truefalse"', '""', '"null"', '"yes"', '"1"', '"0"', '1', '0', '[true]', '["true"]',
+         '{}', 'null']
+
+NUMBERS = ["0", "-1", "1640139037", "253402207200", "253402207201", "-377705023201", "-377705023202",
+           "18446744073709551615", "-9223372036854775808"]
+
+DATE_TIMES = [
+    # spellings of one moment
+    "2021-12-22T02:10:37Z", "2021-12-22T02:10:37.000Z", "2021-12-22t02:10:37z", "2021-12-22t03:10:37+01:00",
+    "2021-12-21T21:40:37-04:30", "2021-12-22T02:10:37+00:00", "2021-12-22T02:10:37-00:00", "2021-12-23T02:09:37+23:59",
+    "2021-12-21T02:11:37-23:59",
+    # fractions
+    "2021-12-22T02:10:37.5Z", "2021-12-22T02:10:37.123456789Z", "2021-12-22T02:10:37.999999999Z",
+    "2021-12-22T02:10:37.1234567891Z", "2021-12-22T02:10:37.9999999999Z", "2021-12-22T02:10:37.00000000000000000001+01:00",
+    "2021-12-22T02:10:37.Z", "2021-12-22T02:10:37.", "2021-12-22T02:10:37,5Z", "2021-12-22T02:10:37..5Z",
+    "2021-12-22T02:10:37.5.5Z", "2021-12-22T02:10:37.-5Z", "2021-12-22T02:10:37.5 Z",
+    # around the epoch, where rounding down is not rounding toward zero
+    "1970-01-01T00:00:00Z", "1969-12-31T23:59:59Z", "1969-12-31T23:59:59.5Z", "1970-01-01T00:00:00.5Z",
+    "1970-01-01T00:00:00+00:01", "1969-12-31T23:59:00.999999999-00:01",
+    # both ends of the range
+    "9999-12-30T22:00:00Z", "9999-12-30T22:00:00.999999999Z", "9999-12-30T22:00:01Z", "9999-12-31T21:59:00+23:59",
+    "9999-12-31T21:59:01+23:59", "9999-12-31T23:59:59+23:59", "9999-12-31T23:59:59Z", "9999-12-29T22:01:00-23:59",
+    "9999-12-29T22:01:01-23:59", "0000-01-01T00:00:00Z", "0000-01-01T00:00:00+23:59", "0000-01-01T00:00:00.5+23:59",
+    "0000-02-29T00:00:00Z", "0000-12-31T23:59:59Z", "0001-01-01T00:00:00Z", "0001-01-01T00:00:00-23:59",
+    # hours, minutes and seconds
+    "2021-12-22T00:00:00Z", "2021-12-22T23:59:59Z", "2021-12-22T24:00:00Z", "2021-12-22T23:60:00Z", "2021-12-22T23:59:60Z",
+    "2016-12-31T23:59:60Z", "2021-12-22T2:10:37Z", "2021-12-22T02:1:37Z", "2021-12-22T02:10:7Z", "2021-12-22T02:10Z",
+    "2021-12-22T021037Z", "2021-12-22T02:10:370Z", "2021-12-22T-2:10:37Z",
+    # offsets
+    "2021-12-22T02:10:37+24:00", "2021-12-22T02:10:37-24:00", "2021-12-22T02:10:37+23:60", "2021-12-22T02:10:37-00:60",
+    "2021-12-22T02:10:37+0100", "2021-12-22T02:10:37+01", "2021-12-22T02:10:37+1:00", "2021-12-22T02:10:37+01:0",
+    "2021-12-22T02:10:37+01:00:00", "2021-12-22T02:10:37+01:00Z", "2021-12-22T02:10:37", "2021-12-22T02:10:37ZZ",
+    "2021-12-22T02:10:37UTC", "2021-12-22T02:10:37[UTC]", "2021-12-22T02:10:37Z[UTC]", "2021-12-22T02:10:37+",
+    "2021-12-22T02:10:37\u221201:00",
+    # days and months
+    "1900-02-28T00:00:00Z", "1900-02-29T00:00:00Z", "2000-02-29T00:00:00Z", "2020-02-29T00:00:00Z", "2021-02-28T00:00:00Z",
+    "2021-02-29T00:00:00Z", "2020-02-30T00:00:00Z", "2021-04-30T00:00:00Z", "2021-04-31T00:00:00Z", "2021-01-31T00:00:00Z",
+    "2021-01-32T00:00:00Z", "2021-12-00T00:00:00Z", "2021-00-22T00:00:00Z", "2021-13-22T00:00:00Z", "2021-1-22T00:00:00Z",
+    "2021-12-2T00:00:00Z",
+    # years
+    "12021-12-22T02:10:37Z", "02021-12-22T02:10:37Z", "+2021-12-22T02:10:37Z", "+002021-12-22T02:10:37Z",
+    "-2021-12-22T02:10:37Z", "-0001-12-22T02:10:37Z", "21-12-22T02:10:37Z", "221-12-22T02:10:37Z",
+    # separators, white space and what is no date
+    "2021-12-22 02:10:37Z", "2021-12-22_02:10:37Z", "2021-12-22T 02:10:37Z", "2021/12/22T02:10:37Z", "2021-12-22T02.10.37Z",
+    "20211222T021037Z", "2021-356T02:10:37Z", "2021-W51-3T02:10:37Z", " 2021-12-22T02:10:37Z", "2021-12-22T02:10:37Z ",
+    "\t2021-12-22T02:10:37Z", "2021-12-22T02:10:37Z\n", "2021-12-22", "02:10:37Z", "", "Z", "T", "now", "1640139037", "0",
+    "-1", "253402207200", "1.5", "true", "null",
+    # digits of other scripts
+    "\uff12021-12-22T02:10:37Z", "\u0662\u0660\u0662\u0661-12-22T02:10:37Z", "2021-12-22T02:10:3\u0667Z",
+    "2021-12-22T02:10:37.\u0665Z", "2021-12-22T02:10:37+0\u0661:00",
+]
+
+# Members beside `sub` that show what a reading reaches, and what comes before it.
+BESIDE = [
+    '"email_verified":"true","phone_number_verified":"false"',
+    '"email_verified":"true","email_verified":true', '"email_verified":"no","email_verified":"true"',
+    '"email_verified#de":"true"', '"email_verified#":"true"', '"updated_at#de":"2021-12-22T02:10:37Z"',
+    '"updated_at":"2021-12-22T02:10:37Z","updated_at":0', '"updated_at":null,"updated_at":"2021-12-22T02:10:37Z"',
+    '"updated_at":"2021-12-22T02:10:37Z","email_verified":"True"', '"email_verified":"True","updated_at":"now"',
+    '"zz":"true","zz#de":"2021-12-22T02:10:37Z","exp":"2021-12-22T02:10:37Z","Email_verified":"true"',
+    '"name":"true","birthdate":"2021-12-22T02:10:37Z","gender":"false"', '"name":true', '"address":{"country":"true"}',
+    '"address":{"country":true}', '"updated_at":["2021-12-22T02:10:37Z"]', '"updated_at":{}', '"updated_at":true',
+    '"updated_at":null', '"updated_at":1.5',
+]
+
+
+def case(operation, reading, text):
+    """A line. The strict reading is the one that no name says."""
+    named = "" if reading == "strict" else f"reading={reading}&"
+    return f"op={operation}&{named}text=" + text.replace("%", "%25").replace("&", "%26").replace("+", "%2B")
+
+
+def quoted(text):
+    return json.dumps(text, ensure_ascii=False)
+
+
+def readings():
+    """Objects under each of the four readings."""
+    members = ['"email_verified":' + value for value in FLAGS]
+    members += ['"updated_at":' + value for value in NUMBERS + [quoted(text) for text in DATE_TIMES]]
+    for beside in members + BESIDE:
+        for reading in READINGS:
+            yield case("standard", reading, '{"sub":"a",' + beside + "}")
+
+
 def main(words):
-    if words == ["cases"]:
+    if words == ["readings"]:
+        for line in readings():
+            print(line)
+    elif words == ["cases"]:
         for text in texts():
             print("op=standard&text=" + text)
     elif words == ["answers"]:

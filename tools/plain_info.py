@@ -14,7 +14,7 @@ import plain_claims
 import plain_tokens
 from plain_answers import fits_address
 from plain_records import (
-    LONGEST_BODY, NoCase, Refused, answer_of, has_essence, is_text, members_of, ok, read_case, run_reader,
+    LONGEST_BODY, NoCase, Refused, answer_of, has_essence, is_text, members_of, ok, read_case, reading_in, run_reader,
     text_or_texts_fault, url_fault,
 )
 from plain_tokens import check, check_there, encoded, fault_in, value_of
@@ -29,9 +29,9 @@ def claim_fault(before, member):
     return fault_in(INFO, before, member) or plain_claims.fault_of(before, member)
 
 
-def claim_members(text):
+def claim_members(text, reading=plain_claims.STRICT):
     """The members of user info, none of which is faulty, with `sub` among them."""
-    members = members_of(text)
+    members = plain_claims.read_by(members_of(text), reading)
     check(members, claim_fault)
     check_there(members, ["sub"])
     return members
@@ -137,7 +137,8 @@ def judged(client, status, content_type, body):
 
 
 def info_claims(line):
-    members = claim_members(read_case(line, {"text"})[0]["text"].encode())
+    found, _ = read_case(line, {"text"}, {"reading"})
+    members = claim_members(found["text"].encode(), reading_in(found))
     additional = plain_claims.written_object(additional_of(members))
     return ok([("written", written(members)), ("additional", additional)])
 
@@ -174,10 +175,11 @@ def info_answer(line):
 
 
 def info_issue(line):
-    found, _ = read_case(line, {"claims", "secret", "alg"})
+    found, _ = read_case(line, {"claims", "secret", "alg"}, {"reading"})
     alg = plain_tokens.algorithm_in(found["alg"])
+    reading = reading_in(found)
     try:
-        claims = written(claim_members(found["claims"].encode()))
+        claims = written(claim_members(found["claims"].encode(), reading))
     except Refused:
         raise NoCase from None
     if not alg.startswith("HS"):
@@ -237,6 +239,17 @@ class Choices(plain_tokens.Choices):
         line += self.rarely([("signed", "1")] if is_token else [], [[], [("signed", "1")]])
         line += self.rarely([], [[("any_issuer", "1")], [("any_audience", "1")]])
         return line + self.issuer_keys("RSA")
+
+
+def readings():
+    """User info under each of the four readings."""
+    for beside in ['"email_verified":"true"', '"email_verified":"True"', '"phone_number_verified":"false"',
+                   '"updated_at":"2021-12-22T02:10:37Z"', '"updated_at":"2021-12-22t03:10:37.5+01:00"',
+                   '"updated_at":"2021-02-29T00:00:00Z"', '"updated_at":"1640139037"', '"updated_at":1640139037',
+                   '"updated_at":null,"email_verified":null', '"email_verified":"no","updated_at":"no"',
+                   '"exp":"2021-12-22T02:10:37Z","iat":"true","zz":"false"', '"iss":"https://a","aud":"true"']:
+        for reading in plain_claims.READINGS:
+            yield plain_claims.case("info_claims", reading, '{"sub":"u",' + beside + "}")
 
 
 def cases():

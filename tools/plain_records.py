@@ -68,6 +68,13 @@ def read_case(line, required, optional=frozenset(), repeated=None):
     return found, values(of[1:], repeated)
 
 
+def reading_in(found):
+    """The reading that a case names."""
+    if found.get("reading") == "strict" or found.get("reading", "strict") not in plain_claims.READINGS:
+        raise NoCase
+    return plain_claims.READINGS[found.get("reading", "strict")]
+
+
 def answer_by(operations, line):
     """The answer of a case of one of these operations; any other line as it came."""
     operation = operations.get(re.split("[=&]", line + "=")[1]) if line.startswith("op=") else None

@@ -21,7 +21,7 @@ from collections import namedtuple
 
 import plain_claims
 from plain_records import (
-    TOKENS, NoCase, Refused, answer_of, cut_scopes, is_text, members_of, moment_fault, ok, read_case, run_reader,
+    TOKENS, NoCase, Refused, answer_of, cut_scopes, is_text, members_of, moment_fault, ok, read_case, reading_in, run_reader,
     text_fault, text_or_texts_fault, texts_fault, there, token_type_of, tokens_in, tokens_of, url_fault,
 )
 
@@ -119,9 +119,13 @@ def claim_fault(before, member):
     return fault_in(OWN, before, member) or plain_claims.fault_of(before, member)
 
 
-def claim_members(text):
+# The moments among them, which a reading may take as texts.
+MOMENT_FIELDS = ("exp", "iat", "auth_time")
+
+
+def claim_members(text, reading=plain_claims.STRICT):
     """The members of the claims of an ID token, none of which is faulty or missing."""
-    members = members_of(text)
+    members = plain_claims.read_by(members_of(text), reading, MOMENT_FIELDS)
     check(members, claim_fault)
     check_there(members, ["iss", "exp", "iat", "sub"])
     return members
@@ -164,12 +168,12 @@ def decoded(part):
     return read
 
 
-def token_of(text):
+def token_of(text, reading=plain_claims.STRICT):
     parts = text.split(".")
     if len(parts) != 3:
         raise Refused("token")
     header, claims, signature = [decoded(part) for part in parts]
-    return Token(header_of(header), claim_members(claims), parts[0] + "." + parts[1], signature)
+    return Token(header_of(header), claim_members(claims, reading), parts[0] + "." + parts[1], signature)
 
 
 # ---- hashes and signatures
@@ -277,14 +281,16 @@ def header(line):
 
 
 def id_claims(line):
-    members = claim_members(read_case(line, {"text"})[0]["text"].encode())
+    found, _ = read_case(line, {"text"}, {"reading"})
+    members = claim_members(found["text"].encode(), reading_in(found))
     additional = plain_claims.written_object(additional_of(members))
     return ok([("written", written(members)), ("additional", additional)])
 
 
 def token(line):
-    text = read_case(line, {"text"})[0]["text"]
-    read = token_of(text)
+    found, _ = read_case(line, {"text"}, {"reading"})
+    text = found["text"]
+    read = token_of(text, reading_in(found))
     return ok([("header", decoded(text.split(".")[0]).decode()), ("written", written(read.members)),
                ("message", read.message), ("signature", read.signature.hex())])
 
@@ -319,11 +325,12 @@ def client_in(found, keys):
 
 
 def verify(line):
-    found, keys = read_case(line, {"token", "id", "issuer", "nonce", "now"}, {"secret", "algs"}, "key")
+    found, keys = read_case(line, {"token", "id", "issuer", "nonce", "now"}, {"secret", "algs", "reading"}, "key")
     client = client_in(found, keys)
     now = now_in(found["now"])
+    reading = reading_in(found)
     try:
-        read = token_of(found["token"])
+        read = token_of(found["token"], reading)
     except Refused:
         raise NoCase from None
     failure = first_failure(client, found["nonce"], now, read)
@@ -358,10 +365,11 @@ def signed(claims, secret, alg):
 
 
 def issue(line):
-    found, _ = read_case(line, {"claims", "secret", "alg"}, {"access_token", "code"})
+    found, _ = read_case(line, {"claims", "secret", "alg"}, {"access_token", "code", "reading"})
     alg = algorithm_in(found["alg"])
+    reading = reading_in(found)
     try:
-        members = claim_members(found["claims"].encode())
+        members = claim_members(found["claims"].encode(), reading)
     except Refused:
         raise NoCase from None
     if not alg.startswith("HS"):
@@ -503,6 +511,37 @@ def distinct(made, count):
     while len(out) < count:
         out[made()] = None
     return list(out)
+
+
+# A moment in several spellings, and texts that are none.
+DATE_TIMES = ["1970-01-01T00:33:20Z", "1970-01-01t01:33:20.9+01:00", "1970-01-01T00:33:20", "2021-02-29T00:00:00Z",
+              "9999-12-31T00:00:00Z", "2000", ""]
+
+# Claims of an ID token beside `iss` and `sub`, for which a reading counts.
+DATED = [f'"exp":"{text}","iat":900' for text in DATE_TIMES] \
+    + [f'"exp":2000,"iat":"{text}"' for text in DATE_TIMES] \
+    + [f'"exp":2000,"iat":900,"auth_time":"{text}"' for text in DATE_TIMES] \
+    + [f'"exp":2000,"iat":900,"updated_at":"{text}"' for text in DATE_TIMES] \
+    + ['"exp":2000,"iat":900,"auth_time":null,"updated_at":null,"email_verified":null', '"exp":null,"iat":900',
+       '"exp":"1970-01-01T00:33:20Z","iat":"1970-01-01T00:15:00Z","auth_time":"1970-01-01T00:14:59.5Z",'
+       '"email_verified":"false","updated_at":"1969-12-31T23:59:59.5Z"',
+       '"exp":2000,"iat":900,"email_verified":"true","phone_number_verified":"True"',
+       '"exp":2000,"iat":900,"email_verified":"true","nonce":"true","exp#":"no"',
+       '"exp":"1970-01-01T00:33:20Z","iat":900,"exp":2000', '"exp":true,"iat":900',
+       '"exp":2000,"iat":900,"nbf":"1970-01-01T00:15:00Z","zz":"true"',
+       '"iat":"no","exp":"1970-01-01T00:33:20Z"', '"exp":"1970-01-01T00:33:20Z"']
+
+
+def readings():
+    """Claims and tokens under each of the four readings."""
+    for beside in DATED:
+        payload = '{"iss":"https://a","sub":"u",' + beside + "}"
+        for reading in plain_claims.READINGS:
+            yield plain_claims.case("id_claims", reading, payload)
+    for beside in DATED[7 * 4:]:
+        message = encoded(b'{"alg":"HS256"}') + "." + encoded(('{"iss":"https://a","sub":"u",' + beside + "}").encode())
+        for reading in plain_claims.READINGS:
+            yield plain_claims.case("token", reading, message + "." + encoded(mac("s", "HS256", message)))
 
 
 def cases():

@@ -30,7 +30,7 @@ pub use crate::exchanges::{
 pub use crate::headers::{content_type, header_of, header_text};
 pub use crate::lines::{CaseOperation, answer_lines, exit_code};
 pub use crate::prints::{one_of, variant_name};
-pub use crate::readers::{algorithm, algorithms, extra_in, moment, number, url_of};
+pub use crate::readers::{algorithm, algorithms, extra_in, moment, number, reading_in, url_of};
 pub use crate::records::{Tokens, push_scopes, push_seconds, token_response_line, written};
 pub use crate::verifier_keys::{IssuerKey, VerifierKey, keys_in};
 pub use crate::words::{kind_word, signature_word};

@@ -1,7 +1,8 @@
 //! Values of a line that more than one program reads.
 
-use crate::case::CaseError;
+use crate::case::{Case, CaseError};
 use jiff::Timestamp;
+use oidc_members::Reading;
 use oidc_pairs::Pairs;
 use oidc_types::{ClosedVocabulary, CoreJwsSigningAlgorithm, Marker, UrlText, UrlTextError};
 use std::alloc::Global;
@@ -53,6 +54,24 @@ pub fn url_of<M: Marker>(alloc: Global, text: &str) -> Result<UrlText<M>, CaseEr
         Err(UrlTextError::Refused(_)) => Err(CaseError::NoCase),
         Err(UrlTextError::Memory) => Err(CaseError::Memory),
     }
+}
+
+/// The reading that a line names: of `booleans`, of `moments`, or `lenient`, which is both. Without a name it
+/// is strict.
+pub fn reading_in(case: &Case) -> Result<Reading, CaseError> {
+    let Some(word) = case.optional("reading") else {
+        return Ok(Reading::STRICT);
+    };
+    let (string_booleans, rfc3339_moments) = match word {
+        "booleans" => (true, false),
+        "moments" => (false, true),
+        "lenient" => (true, true),
+        _ => return Err(CaseError::NoCase),
+    };
+    Ok(Reading {
+        string_booleans,
+        rfc3339_moments,
+    })
 }
 
 /// The one pair of a form text.

@@ -3,7 +3,7 @@ ghost use Rattle.std.specs.Prelude.{◌≡◌, IfOk, IsTrue};
 ghost use Rattle.oidc_claims.specs.Additional.{are_additional};
 ghost use Rattle.oidc_claims.specs.Home.{is_additional};
 
-use case_lines::{Case, CaseError, object, ok_form, refused_as};
+use case_lines::{Case, CaseError, object, ok_form, reading_in, refused_as};
 use oidc_claims::{
     AdditionalClaims, AllOtherClaims, Home, PlacedError, StandardClaims, USER_INFO_FIELDS, belongs,
     read_standard, write_standard,
@@ -15,12 +15,13 @@ use std::alloc::{AllocError, Global};
 
 type Claims = StandardClaims<CoreGenderClaim>;
 
-/// `standard`: the claims of an object by the fields of user info, written again, and the additional
-/// ones that `AllOtherClaims` keeps.
+/// `standard`: the claims of an object by the fields of user info, under a reading, written again, and the
+/// additional ones that `AllOtherClaims` keeps.
 pub(crate) fn standard(alloc: Global, case: &Case) -> Result<String, CaseError> {
-    case.check(&["text"])?;
+    case.check_with(&["text"], &["reading"])?;
+    let reading = reading_in(case)?;
     match Members::split(alloc, case.value("text").as_bytes()) {
-        Ok(members) => read_and_written(alloc, &members),
+        Ok(members) => read_and_written(alloc, &members.with_reading(reading)),
         Err(ParseError::Refused(refusal)) => refused_at(alloc, "", &refusal),
         Err(ParseError::Memory) => Err(CaseError::Memory),
     }

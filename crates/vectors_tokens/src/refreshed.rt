@@ -4,6 +4,7 @@ use crate::tokens::{Claims, Token, claims_of, token_of};
 use crate::verifiers::{Parties, parties_in, verifier_in, written_line};
 use crate::words::claims_word;
 use case_lines::{Case, CaseError, VerifierKey, moment, refused_word};
+use oidc_members::Reading;
 use oidc_tokens::{IdTokenVerifier, RefreshedClaimsError};
 use oidc_types::{AccessToken, SigningError};
 use std::alloc::Global;
@@ -20,7 +21,7 @@ pub(crate) fn verify_refreshed(alloc: Global, case: &Case) -> Result<String, Cas
 }
 
 fn verdict_of(alloc: Global, case: &Case, parties: &Parties) -> Result<String, CaseError> {
-    let token = token_of(alloc, case.value("token"))?;
+    let token = token_of(alloc, case.value("token"), Reading::STRICT)?;
     let line = verdict_on(alloc, case, parties, &token);
     drop(token);
     line
@@ -32,7 +33,7 @@ fn verdict_on(
     parties: &Parties,
     token: &Token,
 ) -> Result<String, CaseError> {
-    let first = claims_of(alloc, case.value("first"))?;
+    let first = claims_of(alloc, case.value("first"), Reading::STRICT)?;
     let line = verdict_beside(alloc, case, parties, token, &first);
     drop(first);
     line

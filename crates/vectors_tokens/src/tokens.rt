@@ -3,16 +3,17 @@
 use base64::DecodeAllocError;
 use base64::engine::general_purpose::URL_SAFE_NO_PAD;
 use case_lines::{
-    Case, CaseError, algorithm, object, ok_form, ok_pair, refused_reading, refused_word, text_of,
+    Case, CaseError, algorithm, object, ok_form, ok_pair, reading_in, refused_reading,
+    refused_word, text_of,
 };
 use oidc_claims::{AdditionalClaims, AllOtherClaims};
 use oidc_keys::{CoreHmacKey, CoreJsonWebKey, JsonWebKey};
-use oidc_members::{FieldName, Members, ParseError};
+use oidc_members::{FieldName, Members, ParseError, Reading};
 use oidc_oauth2::EmptyExtraTokenFields;
 use oidc_pairs::FormText;
 use oidc_tokens::{
-    IdToken, IdTokenClaims, IdTokenFields, JsonWebTokenAlgorithm, JsonWebTokenError, Payload,
-    TokenHeader, from_code, from_token,
+    IdToken, IdTokenClaims, IdTokenFields, JsonWebToken, JsonWebTokenAlgorithm, JsonWebTokenError,
+    Payload, TokenHeader, from_code, from_token,
 };
 use oidc_types::{
     AccessToken, AuthorizationCode, ClosedVocabulary, CoreGenderClaim,
@@ -30,6 +31,9 @@ pub(crate) type Token = IdToken<
     CoreJweContentEncryptionAlgorithm,
     CoreJwsSigningAlgorithm,
 >;
+
+/// The same as a JSON Web Token.
+type WebToken = JsonWebToken<CoreJweContentEncryptionAlgorithm, CoreJwsSigningAlgorithm, Claims>;
 
 /// The field of a token response that such a token is.
 pub(crate) type TokenFields = IdTokenFields<
@@ -91,10 +95,11 @@ fn push_name(form: &mut FormText, name: &str, value: Option<&FieldName>) -> Resu
 
 // ---- claims
 
-/// `id_claims`: the claims of an ID token, written again, and the additional ones among them.
+/// `id_claims`: the claims of an ID token, under a reading, written again, and the additional ones among
+/// them.
 pub(crate) fn id_claims(alloc: Global, case: &Case) -> Result<String, CaseError> {
-    case.check(&["text"])?;
-    let read = claims_in(alloc, case.value("text"));
+    case.check_with(&["text"], &["reading"])?;
+    let read = claims_in(alloc, case.value("text"), reading_in(case)?);
     let line = read_line(alloc, &read);
     drop(read);
     line
@@ -107,8 +112,8 @@ fn read_line(alloc: Global, read: &Result<Claims, ParseError>) -> Result<String,
     }
 }
 
-fn claims_in(alloc: Global, text: &str) -> Result<Claims, ParseError> {
-    let members = Members::split(alloc, text.as_bytes())?;
+fn claims_in(alloc: Global, text: &str, reading: Reading) -> Result<Claims, ParseError> {
+    let members = Members::split(alloc, text.as_bytes())?.with_reading(reading);
     Claims::read(alloc, &members)
 }
 
@@ -130,24 +135,35 @@ pub(crate) fn written_claims(alloc: Global, claims: &Claims) -> Result<String, C
 
 // ---- whole tokens
 
-/// `token`: what stands in an ID token.
+/// `token`: what stands in an ID token, under a reading.
 pub(crate) fn token(alloc: Global, case: &Case) -> Result<String, CaseError> {
-    case.check(&["text"])?;
-    let read = Token::from_str(alloc, case.value("text"));
+    case.check_with(&["text"], &["reading"])?;
+    let read = read_web_token(alloc, case.value("text"), reading_in(case)?);
     let line = read_token_line(alloc, &read);
     drop(read);
     line
 }
 
-fn read_token_line(alloc: Global, read: &Result<Token, ParseError>) -> Result<String, CaseError> {
+// The strict reading goes by the call that takes none.
+fn read_web_token(alloc: Global, text: &str, reading: Reading) -> Result<WebToken, ParseError> {
+    if reading == Reading::STRICT {
+        WebToken::read(alloc, text)
+    } else {
+        WebToken::read_with(alloc, text, reading)
+    }
+}
+
+fn read_token_line(
+    alloc: Global,
+    read: &Result<WebToken, ParseError>,
+) -> Result<String, CaseError> {
     match read {
         Ok(token) => token_line(alloc, token),
         Err(error) => refused_reading(alloc, error),
     }
 }
 
-fn token_line(alloc: Global, token: &Token) -> Result<String, CaseError> {
-    let token = token.token();
+fn token_line(alloc: Global, token: &WebToken) -> Result<String, CaseError> {
     let header = decoded_header(alloc, token.message())?;
     let written = written_claims(alloc, token.unverified_payload())?;
     let signature = hex::encode(alloc, token.signature())?;
@@ -171,9 +187,18 @@ fn decoded_header(alloc: Global, message: &str) -> Result<String, CaseError> {
     }
 }
 
-/// The ID token of a text that has to be one.
-pub(crate) fn token_of(alloc: Global, text: &str) -> Result<Token, CaseError> {
-    match Token::from_str(alloc, text) {
+// The strict reading goes by the call that takes none.
+fn read_token(alloc: Global, text: &str, reading: Reading) -> Result<Token, ParseError> {
+    if reading == Reading::STRICT {
+        Token::from_str(alloc, text)
+    } else {
+        Token::from_str_with(alloc, text, reading)
+    }
+}
+
+/// The ID token of a text that has to be one under a reading.
+pub(crate) fn token_of(alloc: Global, text: &str, reading: Reading) -> Result<Token, CaseError> {
+    match read_token(alloc, text, reading) {
         Ok(token) => Ok(token),
         Err(error) => Err(unread(&error)),
     }
@@ -241,10 +266,12 @@ pub(crate) fn unsigned_line(alloc: Global, refusal: &SigningError) -> Result<Str
 
 /// `issue`: the ID token of these claims, signed by a secret.
 pub(crate) fn issue(alloc: Global, case: &Case) -> Result<String, CaseError> {
-    case.check_with(&["claims", "secret", "alg"], &["access_token", "code"])?;
+    let optional = ["access_token", "code", "reading"];
+    case.check_with(&["claims", "secret", "alg"], &optional)?;
     let alg = algorithm(case.value("alg"))?;
+    let reading = reading_in(case)?;
     let handed = handed_in(alloc, case)?;
-    let line = issued_line(alloc, case.value("claims"), &handed, alg);
+    let line = issued_line(alloc, case.value("claims"), reading, &handed, alg);
     drop(handed);
     line
 }
@@ -271,10 +298,11 @@ fn handed_in(alloc: Global, case: &Case) -> Result<Handed, AllocError> {
 fn issued_line(
     alloc: Global,
     claims: &str,
+    reading: Reading,
     handed: &Handed,
     alg: CoreJwsSigningAlgorithm,
 ) -> Result<String, CaseError> {
-    let claims = claims_of(alloc, claims)?;
+    let claims = claims_of(alloc, claims, reading)?;
     let (access_token, code) = (handed.access_token.as_ref(), handed.code.as_ref());
     let issued = Token::new(alloc, claims, &handed.key, alg, access_token, code);
     let line = token_or_refusal(alloc, &issued);
@@ -293,9 +321,9 @@ fn token_or_refusal(
     }
 }
 
-/// The claims of a text that has to hold them.
-pub(crate) fn claims_of(alloc: Global, text: &str) -> Result<Claims, CaseError> {
-    match claims_in(alloc, text) {
+/// The claims of a text that has to hold them under a reading.
+pub(crate) fn claims_of(alloc: Global, text: &str, reading: Reading) -> Result<Claims, CaseError> {
+    match claims_in(alloc, text, reading) {
         Ok(claims) => Ok(claims),
         Err(error) => Err(unread(&error)),
     }

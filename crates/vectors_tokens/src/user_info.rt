@@ -4,11 +4,12 @@ use crate::tokens::unsigned_line;
 use crate::verifiers::{Parties, parties_in};
 use crate::words::claims_word;
 use case_lines::{
-    Case, CaseError, VerifierKey, algorithm, object, ok_form, ok_pair, parse_line, refused_as,
-    refused_word, request_line, response_in, url_of,
+    Case, CaseError, VerifierKey, algorithm, object, ok_form, ok_pair, parse_line, reading_in,
+    refused_as, refused_word, request_line, response_in, url_of,
 };
 use oidc_claims::{AdditionalClaims, AllOtherClaims};
 use oidc_keys::{CoreHmacKey, JsonWebKeySet};
+use oidc_members::{ParseError, Reading};
 use oidc_oauth2::{Answer, Fault, Recorded};
 use oidc_pairs::FormText;
 use oidc_tokens::{ClaimsVerificationError, JsonWebTokenError, Payload, UserInfoVerifier};
@@ -39,13 +40,23 @@ type Request<'a> = UserInfoRequest<'a, CoreJweContentEncryptionAlgorithm, Verifi
 
 // ---- claims
 
-/// `info_claims`: the claims of an answer that is an object, written again, and the additional ones.
+/// `info_claims`: the claims of an answer that is an object, under a reading, written again, and the
+/// additional ones.
 pub(crate) fn info_claims(alloc: Global, case: &Case) -> Result<String, CaseError> {
-    case.check(&["text"])?;
-    let read = Claims::from_json(alloc, case.value("text").as_bytes(), None);
+    case.check_with(&["text"], &["reading"])?;
+    let read = claims_in(alloc, case.value("text"), reading_in(case)?);
     let line = read_line(alloc, &read);
     drop(read);
     line
+}
+
+// The strict reading goes by the call that takes none.
+fn claims_in(alloc: Global, text: &str, reading: Reading) -> Result<Claims, UserInfoError<Fault>> {
+    if reading == Reading::STRICT {
+        Claims::from_json(alloc, text.as_bytes(), None)
+    } else {
+        Claims::from_json_with(alloc, text.as_bytes(), None, reading)
+    }
 }
 
 fn read_line(
@@ -278,23 +289,26 @@ fn claims_refused(alloc: Global, kind: ClaimsVerificationError) -> Result<String
 
 // ---- tokens that are issued
 
-/// `info_issue`: the token of these claims, signed by a secret.
+/// `info_issue`: the token of these claims, signed by a secret and read again. The reading is that of the
+/// claims.
 pub(crate) fn info_issue(alloc: Global, case: &Case) -> Result<String, CaseError> {
-    case.check(&["claims", "secret", "alg"])?;
+    case.check_with(&["claims", "secret", "alg"], &["reading"])?;
     let alg = algorithm(case.value("alg"))?;
+    let reading = reading_in(case)?;
     let key = CoreHmacKey::new(Vec::from_slice(alloc, case.value("secret").as_bytes())?);
-    issued_line(alloc, case.value("claims"), &key, alg)
+    issued_line(alloc, case.value("claims"), reading, &key, alg)
 }
 
 fn issued_line(
     alloc: Global,
     claims: &str,
+    reading: Reading,
     key: &CoreHmacKey,
     alg: CoreJwsSigningAlgorithm,
 ) -> Result<String, CaseError> {
-    let claims = claims_of(alloc, claims)?;
+    let claims = claims_of(alloc, claims, reading)?;
     let issued = Token::new(alloc, claims, key, alg);
-    let line = token_or_refusal(alloc, &issued);
+    let line = token_or_refusal(alloc, &issued, reading);
     drop(issued);
     line
 }
@@ -302,17 +316,36 @@ fn issued_line(
 fn token_or_refusal(
     alloc: Global,
     issued: &Result<Token, JsonWebTokenError>,
+    reading: Reading,
 ) -> Result<String, CaseError> {
     match issued {
-        Ok(token) => ok_pair(alloc, "token", token.as_str()),
+        Ok(token) => read_again(alloc, token.as_str(), reading),
         Err(JsonWebTokenError::SigningError(refusal)) => unsigned_line(alloc, refusal),
         Err(JsonWebTokenError::Memory) => Err(CaseError::Memory),
     }
 }
 
-// The claims of a text that has to hold them.
-fn claims_of(alloc: Global, text: &str) -> Result<Claims, CaseError> {
-    match Claims::from_json::<Fault>(alloc, text.as_bytes(), None) {
+// The text of a token that was issued, as it is read.
+fn read_again(alloc: Global, text: &str, reading: Reading) -> Result<String, CaseError> {
+    match read_token(alloc, text, reading) {
+        Ok(token) => ok_pair(alloc, "token", token.as_str()),
+        Err(ParseError::Refused(_)) => Err(CaseError::NoCase),
+        Err(ParseError::Memory) => Err(CaseError::Memory),
+    }
+}
+
+// The strict reading goes by the call that takes none.
+fn read_token(alloc: Global, text: &str, reading: Reading) -> Result<Token, ParseError> {
+    if reading == Reading::STRICT {
+        Token::read(alloc, text)
+    } else {
+        Token::read_with(alloc, text, reading)
+    }
+}
+
+// The claims of a text that has to hold them under a reading.
+fn claims_of(alloc: Global, text: &str, reading: Reading) -> Result<Claims, CaseError> {
+    match claims_in(alloc, text, reading) {
         Ok(claims) => Ok(claims),
         Err(error) => Err(unread(&error)),
     }

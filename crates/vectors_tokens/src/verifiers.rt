@@ -3,7 +3,8 @@
 use crate::tokens::{Claims, Token, token_of, written_claims};
 use crate::words::claims_word;
 use case_lines::{
-    Case, CaseError, VerifierKey, algorithms, keys_in, moment, ok_pair, refused_word, url_of,
+    Case, CaseError, VerifierKey, algorithms, keys_in, moment, ok_pair, reading_in, refused_word,
+    url_of,
 };
 use oidc_keys::JsonWebKeySet;
 use oidc_tokens::{ClaimsVerificationError, IdTokenVerifier};
@@ -13,7 +14,7 @@ use std::alloc::{AllocError, Global};
 /// `verify`: the claims of an ID token that a client accepts, or the first check that fails.
 pub(crate) fn verify(alloc: Global, case: &Case) -> Result<String, CaseError> {
     let required = ["token", "id", "issuer", "nonce", "now"];
-    case.check_all(&required, &["secret", "algs"], &["key"])?;
+    case.check_all(&required, &["secret", "algs", "reading"], &["key"])?;
     let parties = parties_in(alloc, case)?;
     let line = verdict_of(alloc, case, &parties);
     drop(parties);
@@ -21,7 +22,7 @@ pub(crate) fn verify(alloc: Global, case: &Case) -> Result<String, CaseError> {
 }
 
 fn verdict_of(alloc: Global, case: &Case, parties: &Parties) -> Result<String, CaseError> {
-    let token = token_of(alloc, case.value("token"))?;
+    let token = token_of(alloc, case.value("token"), reading_in(case)?)?;
     let line = verdict_on(alloc, case, parties, &token);
     drop(token);
     line
