@@ -9,6 +9,9 @@ use std::alloc::{AllocError, Global};
 use std::borrow::CowStr;
 use std::marker::Model;
 
+// How many pairs there is room for at once. Lines of scripts have at most as many.
+const ROOM: usize = 12;
+
 /// A name and its value, both decoded, each borrowed from its text where decoding changes nothing. Contracts see it
 /// as the pair of the two texts.
 #[derive(Drop)]
@@ -62,7 +65,7 @@ impl<'a> BorrowedPairs<'a> {
     pub fn parse(alloc: Global, text: &'a [u8]) -> Result<Self, AllocError>
         ensures { IfOk result (λ read. read ≡ pairs text.now) }
     {
-        let mut items = Vec::new(alloc);
+        let mut items = Vec::with_capacity(alloc, ROOM)?;
         let mut rest = text;
         while let Some((name, value, later)) = first_pair(rest) {
             let name = text_of(alloc, name)?;
