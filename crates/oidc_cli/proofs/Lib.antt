@@ -2,6 +2,7 @@ pub mod Listed
 pub mod Taking
 pub mod Writing
 pub mod Passing
+pub mod FirstPlaces
 pub mod Cuts
 pub mod Algorithms
 pub mod Numbers

@@ -16,6 +16,7 @@ use crate::script::answers::read_answers;
 use crate::script::values::{
     optional_demand, optional_text, optional_url, pair_algorithms, pair_moment, pair_text, pair_url,
 };
+use memchr::memchr;
 use oidc_pairs::BorrowedPairs;
 use oidc_types::{ClientId, ClientSecret, CsrfToken, Nonce, PkceCodeVerifier};
 use std::alloc::{AllocError, Global};
@@ -39,7 +40,7 @@ pub fn first_line(script: &[u8]) -> Option<(&[u8], &[u8])>
 fn line_feed(script: &[u8]) -> Option<usize>
     ensures { result ≡ position (λ b. b == 10) script.now }
 {
-    script.iter().position(|b| *b == b'\n')
+    memchr(b'\n', script)
 }
 
 /// What a line says, where it is an event. The only error is want of memory.
