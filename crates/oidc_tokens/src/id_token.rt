@@ -28,7 +28,8 @@ use std::marker::Model;
 
 /// An ID token that was read or issued. Contracts see it as a JSON Web Token whose payload is claims.
 ///
-/// It has no `Debug`, since its claims are about a person, and its text may serve as a hint.
+/// It has no `Debug`, since its claims are about a person, and its text may serve as a hint. It stands behind a
+/// pointer, so that it is moved as one word.
 #[derive(Drop)]
 pub struct IdToken<
     AC: AdditionalClaims,
@@ -36,7 +37,7 @@ pub struct IdToken<
     JE: JweContentEncryptionAlgorithm,
     JS: JwsSigningAlgorithm,
 > {
-    token: JsonWebToken<JE, JS, IdTokenClaims<AC, GC>>,
+    token: Box<JsonWebToken<JE, JS, IdTokenClaims<AC, GC>>>,
 }
 
 impl<
@@ -54,7 +55,7 @@ impl<
 
     ghost coded = { Prim.hlevel (codes, id_token_claims_code AC.code GC.code) };
 
-    ghost view = { λ t. t.token };
+    ghost view = { λ t. t.token.value };
 }
 
 impl<
@@ -78,7 +79,20 @@ impl<
             (id_token_claims_of AC.read_of GC.read_of reading) text.now) result }
     {
         let token = JsonWebToken::read_with(alloc, text, reading)?;
-        Ok(IdToken { token })
+        Ok(Self::of_token(alloc, token)?)
+    }
+
+    // The ID token that a JSON Web Token is.
+    fn of_token(
+        alloc: Global,
+        token: JsonWebToken<JE, JS, IdTokenClaims<AC, GC>>,
+    ) -> Result<Self, AllocError>
+        ensures { IfOk result (λ made. made ≡ token) }
+    {
+        match Box::new(alloc, token) {
+            Ok(token) => Ok(IdToken { token }),
+            Err(_) => Err(AllocError),
+        }
     }
 
     /// The text that was read or made. `AllocError` is want of memory, the one error.
@@ -92,7 +106,7 @@ impl<
     pub fn token(&self) -> &JsonWebToken<JE, JS, IdTokenClaims<AC, GC>>
         ensures token { result.now ≡ self.now }
     {
-        &self.token
+        &*self.token
     }
 
     /// The claims, where `verifier` accepts the token at `now` with a nonce that is allowed. It is refused
@@ -121,8 +135,9 @@ impl<
             JS.JwsSigningAlgorithm.own JS.ClosedVocabulary JS.KeyType.ClosedVocabulary in
             IfErr result (Cause k verifier.now (N.allows nonce) now.nanosecond self.now) }
     {
-        match verifier.check(&self.token, &nonce, now) {
-            Ok(()) => Ok(self.token.unverified_payload()),
+        let token = self.token();
+        match verifier.check(token, &nonce, now) {
+            Ok(()) => Ok(token.unverified_payload()),
             Err(refusal) => Err(refusal),
         }
     }
@@ -152,8 +167,8 @@ impl<
             JS.JwsSigningAlgorithm.own JS.ClosedVocabulary JS.KeyType.ClosedVocabulary in
             IfErr result (Cause k verifier.now (N.allows nonce) now.nanosecond self) }
     {
-        match verifier.check(&self.token, &nonce, now) {
-            Ok(()) => Ok(self.token.into_payload()),
+        match verifier.check(self.token(), &nonce, now) {
+            Ok(()) => Ok(Box::into_inner(self.token).into_payload()),
             Err(refusal) => {
                 drop(self);
                 Err(refusal)

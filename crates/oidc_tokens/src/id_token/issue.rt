@@ -107,7 +107,10 @@ impl<
         };
         let claims = with_hashes(alloc, claims, access_token, code, &alg, &checker)?;
         match JsonWebToken::new(alloc, claims, key, &alg) {
-            Ok(token) => Ok(IdToken { token }),
+            Ok(token) => match IdToken::of_token(alloc, token) {
+                Ok(token) => Ok(token),
+                Err(_) => Err(JsonWebTokenError::Memory),
+            },
             Err(error) => Err(error),
         }
     }

@@ -13,12 +13,12 @@ returns-in-Ok g c =
     let k = meanings g.K.JsonWebKey g.K.KeyUse.JsonWebKeyUse g.JS.JwsSigningAlgorithm g.JS.ClosedVocabulary g.JS.KeyType.ClosedVocabulary in
     let allows = g.N.NonceVerifier.allows c.args.nonce in
     let passed : first_failure k c.args.verifier.now allows c.args.now.nanosecond c.args.self ≡ None =
-    subst (λ token. first_failure k c.args.verifier.now allows c.args.now.nanosecond token ≡ None) c.self.view_is c.in-Ok.ensures in
+    subst (λ token. first_failure k c.args.verifier.now allows c.args.now.nanosecond token ≡ None) c.token.ensures.token c.in-Ok.ensures in
     record {
       judged = passed;
       accepted = accepts k c.args.verifier.now allows c.args.now.nanosecond c.args.self passed;
       refused = λ _. tt;
-      claims = c.into_payload.ensures.payload ∙ ap (λ t. t.payload) c.self.view_is;
+      claims = c.into_payload.ensures.payload ∙ ap (λ t. t.payload) (c.into_inner.ensures ∙ c.self.view_is);
       cause = tt;
     }
 
@@ -28,7 +28,7 @@ returns g c =
     let allows = g.N.NonceVerifier.allows c.args.nonce in
     let failure = first_failure k c.args.verifier.now allows c.args.now.nanosecond c.args.self in
     let judged : Judges {C = Unit {0}} failure (Err c.in-Err.refusal) =
-    subst (λ token. Judges {C = Unit {0}} (first_failure k c.args.verifier.now allows c.args.now.nanosecond token) (Err c.in-Err.refusal)) c.self.view_is c.in-Err.ensures in
+    subst (λ token. Judges {C = Unit {0}} (first_failure k c.args.verifier.now allows c.args.now.nanosecond token) (Err c.in-Err.refusal)) c.token.ensures.token c.in-Err.ensures in
     record {
       judged = judges_as (Unit {0}) (SeenIdTokenClaims g.row.AC.Denot g.row.GC.Denot) failure c.in-Err.refusal judged;
       accepted = tt;

@@ -11,8 +11,8 @@ use Rattle.oidc_tokens.proofs.IssuedAccepted.{DifferInHashes, hashes_differ, ran
 use Rattle.oidc_id_token_claims.proofs.Theorems.{comes_back, members_free}
 use Rattle.oidc_tokens.proofs.id_token.IdToken.new.Goals as goal
 
-pub returns-in-Ok-new : goal.returns-in-Ok-new
-returns-in-Ok-new g c =
+pub returns-in-Ok-of_token : goal.returns-in-Ok-of_token
+returns-in-Ok-of_token g c =
     let key = c.args.key.now in
     let alg = c.args.alg in
     let claims = c.args.claims in
@@ -32,7 +32,7 @@ returns-in-Ok-new g c =
     let law = g.met.AC.AdditionalClaims in
     let gender_law = g.met.GC.GenderClaim in
     let k = meanings keys g.S.VerificationKey.KeyUse.JsonWebKeyUse g.JS.JwsSigningAlgorithm g.JS.ClosedVocabulary g.JS.KeyType.ClosedVocabulary in
-    record {
+    rw c.in-Ok-of_token.ensures (record {
       issued = λ free.
           issues_after hashed c.in_ok-claims.claims (λ x. issued {JE = g.row.JE.Denot} alg_text (id_token_members additional.write_of gender.write_of) signs (keys.key_id checker) alg x) (Ok c.in-Ok-new.token) is
           (made.issued (members_free additional.write_of gender.write_of gender_law.written_is_value c.in_ok-claims.claims (ap (λ a. any_float (additional.write_of a)) differ.additional_claims ∙ free)));
@@ -49,7 +49,7 @@ returns-in-Ok-new g c =
       accepted = λ v allows now expects.
           accepts_issued k v allows now alg checker claims c.in-Ok-new.token expects (subst (λ p. DifferInHashes p claims) (sym made.payload) differ) made.header
           (g.met.S.PrivateSigningKey.signs_truly key alg _ _ made.signed);
-    }
+    })
 
 pub returns-clause-issued : goal.returns-clause-issued
 returns-clause-issued g c = λ free.
