@@ -1,6 +1,6 @@
 //! What a callback gives that signs a user in.
 
-ghost use Rattle.std.specs.Prelude.{◌≡◌, Bool, Some, is_some, true};
+ghost use Rattle.std.specs.Prelude.{◌≡◌, Bool, IfOk, Some, is_some, true};
 ghost use Rattle.std.specs.Option.{option_copied};
 ghost use Rattle.oidc_login.specs.Token.{SeenIdToken};
 ghost use Rattle.oidc_login.specs.SignedIn.{signed_by, with_user_info};
@@ -14,6 +14,7 @@ use oidc_types::{
     AccessToken, CoreJweContentEncryptionAlgorithm, CoreJwsSigningAlgorithm, RefreshToken,
 };
 use oidc_user_info::UserInfoClaims;
+use std::alloc::{AllocError, Global};
 use std::marker::Model;
 
 /// The ID token of a login, with these additional claims and genders.
@@ -39,15 +40,17 @@ pub(crate) type TokenResponse<AC, GC> = StandardTokenResponse<
 /// A user who is signed in: the accepted ID token, the access token and any refresh token that came beside it, and
 /// user info, where the login demands it. `AC` is the type of additional claims, `GC` that of genders.
 ///
-/// It has no `Debug`, since it holds tokens and what is known of a person.
+/// It has no `Debug`, since it holds tokens and what is known of a person. User info stands behind a pointer, so
+/// that a user is moved as few words.
 #[derive(Drop)]
 pub struct SignedIn<AC: AdditionalClaims, GC: GenderClaim> {
     tokens: TokenResponse<AC, GC>,
-    user_info: Option<UserInfoClaims<AC, GC>>,
+    user_info: Option<Box<UserInfoClaims<AC, GC>>>,
     ghost has_id_token: { is_some tokens.extra_fields.id_token ≡ Bool.true },
 }
 
 impl<AC: AdditionalClaims, GC: GenderClaim> Model for SignedIn<AC, GC> {
+    ghost use Rattle.std.specs.Prelude.{option_map};
     ghost use Rattle.std.specs.Coded.{codes};
     ghost use Rattle.oidc_id_token_claims.specs.Codes.{id_token_claims_code};
     ghost use Rattle.oidc_user_info.specs.Codes.{user_info_claims_code};
@@ -63,7 +66,7 @@ impl<AC: AdditionalClaims, GC: GenderClaim> Model for SignedIn<AC, GC> {
 
     ghost view = { λ s. record
         (signed_by (present s.tokens.extra_fields.id_token s.has_id_token) s.tokens)
-        { user_info = s.user_info } };
+        { user_info = option_map (λ found. found.value) s.user_info } };
 }
 
 impl<AC: AdditionalClaims, GC: GenderClaim> SignedIn<AC, GC> {
@@ -80,14 +83,24 @@ impl<AC: AdditionalClaims, GC: GenderClaim> SignedIn<AC, GC> {
     }
 
     // With this user info.
-    pub(crate) fn with_user_info(self, found: UserInfoClaims<AC, GC>) -> Self
-        ensures { result ≡ with_user_info self found }
+    pub(crate) fn with_user_info(
+        self,
+        alloc: Global,
+        found: UserInfoClaims<AC, GC>,
+    ) -> Result<Self, AllocError>
+        ensures { IfOk result (λ signed. signed ≡ with_user_info self found) }
     {
         let SignedIn { tokens, user_info } = self;
         drop(user_info);
-        SignedIn {
-            tokens,
-            user_info: Some(found),
+        match Box::new(alloc, found) {
+            Ok(found) => Ok(SignedIn {
+                tokens,
+                user_info: Some(found),
+            }),
+            Err(_) => {
+                drop(tokens);
+                Err(AllocError)
+            }
         }
     }
 
@@ -126,6 +139,9 @@ impl<AC: AdditionalClaims, GC: GenderClaim> SignedIn<AC, GC> {
     pub fn user_info(&self) -> Option<&UserInfoClaims<AC, GC>>
         ensures { option_copied result ≡ self.now.user_info }
     {
-        self.user_info.as_ref()
+        match &self.user_info {
+            None => None,
+            Some(found) => Some(&**found),
+        }
     }
 }

@@ -174,7 +174,10 @@ pub(crate) fn user_with_info<
         }
     };
     match info_of(alloc, ask, response) {
-        Ok(found) => Ok(user.with_user_info(found)),
+        Ok(found) => match user.with_user_info(alloc, found) {
+            Ok(user) => Ok(user),
+            Err(_) => Err(LoginError::Memory { spent: true }),
+        },
         Err(error) => {
             drop(user);
             Err(error)
