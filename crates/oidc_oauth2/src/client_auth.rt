@@ -9,7 +9,7 @@ ghost use Rattle.oidc_oauth2.specs.ClientAuth as spec;
 
 use base64::engine::general_purpose::STANDARD;
 use http_header::{HeaderValue, HeaderValueError};
-use oidc_pairs::{FormText, escaped_text};
+use oidc_pairs::{FormText, push_escaped};
 use oidc_types::{ClientId, ClientSecret};
 use std::alloc::{AllocError, Global};
 use thiserror::Error;
@@ -58,6 +58,9 @@ pub enum ConfigurationError {
     InsecureUrl(&'static str),
 }
 
+// How many bytes of credentials there is room for at once. Most have fewer.
+const ROOM: usize = 128;
+
 // Client ID and secret, form-coded, with a colon between them.
 fn plain_credentials(
     alloc: Global,
@@ -67,11 +70,20 @@ fn plain_credentials(
     ensures { IfOk result
         (λ plain. string_bytes plain ≡ escaped id.now ++ codes ":" ++ escaped secret.now) }
 {
-    let mut plain = escaped_text(alloc, id.as_str())?;
+    let mut plain = String::with_capacity(alloc, ROOM)?;
+    push_escaped(&mut plain, id.as_str().as_bytes())?;
     plain.push_str(":")?;
-    let secret = escaped_text(alloc, secret.secret())?;
-    plain.push_str(secret.as_str())?;
+    push_escaped(&mut plain, secret.secret().as_bytes())?;
     Ok(plain)
+}
+
+// The scheme and its space, with room for credentials.
+fn scheme_text(alloc: Global) -> Result<String, AllocError>
+    ensures ok { IfOk result (λ text. string_bytes text ≡ codes "Basic ") }
+{
+    let mut text = String::with_capacity(alloc, ROOM)?;
+    text.push_str("Basic ")?;
+    Ok(text)
 }
 
 // The Basic credentials of a client, which are a header's value.
@@ -84,7 +96,7 @@ fn credentials_text(
     ensures valid { IfOk result (λ text. IsFieldValue (string_bytes text)) }
 {
     let plain = plain_credentials(alloc, id, secret)?;
-    let mut text = String::from_str(alloc, "Basic ")?;
+    let mut text = scheme_text(alloc)?;
     STANDARD.encode_string(plain.as_str().as_bytes(), &mut text)?;
     Ok(text)
 }
