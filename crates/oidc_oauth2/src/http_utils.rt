@@ -122,11 +122,15 @@ pub fn check_content_type(headers: &HeaderMap, expected: &str) -> Result<(), Une
     }
 }
 
+// How many bytes of a header's value there is room for at once. Many tokens have fewer.
+const ROOM: usize = 64;
+
 // The text `Bearer`, a space and the token.
 fn bearer_text(alloc: Global, token: &str) -> Result<String, AllocError>
     ensures { IfOk result (λ text. string_bytes text ≡ spec.bearer_of token.now) }
 {
-    let mut text = String::from_str(alloc, BEARER)?;
+    let mut text = String::with_capacity(alloc, ROOM)?;
+    text.push_str(BEARER)?;
     text.push_str(" ")?;
     text.push_str(token)?;
     Ok(text)
