@@ -137,8 +137,13 @@ fn write_variant<M: Marker>(
         ≡ out.old.items ++ variant_member claim (option_copied tag.entry, text.now) ∷ []) }
     ensures texts { OnOk result (KeepsUtf8 out.old.items out.new.items) }
 {
-    let name = tagged_name(alloc, claim, tag)?;
-    put_text(alloc, out, name.as_str(), text.as_str())
+    match tag {
+        None => put_text(alloc, out, claim.name(), text.as_str()),
+        Some(tag) => {
+            let name = tagged_name(alloc, claim, tag)?;
+            put_text(alloc, out, name.as_str(), text.as_str())
+        }
+    }
 }
 
 fn write_flag(
@@ -208,20 +213,15 @@ fn write_moment(
 
 // ---- names and values
 
-// A claim's name, with its tag behind a `#`.
-fn tagged_name(alloc: Global, claim: Claim, tag: Option<&LanguageTag>) -> Result<String, AllocError>
+// A claim's name, with this tag behind a `#`.
+fn tagged_name(alloc: Global, claim: Claim, tag: &LanguageTag) -> Result<String, AllocError>
     ensures { IfOk result (λ name.
-        string_bytes name ≡ with_tag (name_of claim) (option_copied tag.entry)) }
+        string_bytes name ≡ with_tag (name_of claim) (Some tag.now)) }
 {
     let mut name = String::from_str(alloc, claim.name())?;
-    match tag {
-        None => Ok(name),
-        Some(tag) => {
-            name.push_str("#")?;
-            name.push_str(tag.as_str())?;
-            Ok(name)
-        }
-    }
+    name.push_str("#")?;
+    name.push_str(tag.as_str())?;
+    Ok(name)
 }
 
 fn text_value(alloc: Global, text: &str) -> Result<Value, AllocError>
