@@ -12,12 +12,15 @@ use oidc_readers::{put_optional_moment, put_optional_text, put_text, put_texts};
 use oidc_types::{Marker, Nonce, Text};
 use std::alloc::{AllocError, Global};
 
+// How many members there is room for at once: the own fields, and some claims behind them.
+const ROOM: usize = 16;
+
 // The fields in their order, absent ones left out.
 pub(crate) fn own_members(alloc: Global, own: &OwnClaims) -> Result<Vec<OutMember>, AllocError>
     ensures members { IfOk result (λ members. members.items ≡ members_of_own own.now) }
     ensures texts { IfOk result (λ members. All IsUtf8Member members.items) }
 {
-    let mut out = Vec::new(alloc);
+    let mut out = Vec::with_capacity(alloc, ROOM)?;
     put_text(alloc, &mut out, "iss", own.issuer.as_str())?;
     put_texts(alloc, &mut out, "aud", Some(own.audiences.as_slice()))?;
     put_optional_moment(alloc, &mut out, "exp", Some(own.expiration))?;

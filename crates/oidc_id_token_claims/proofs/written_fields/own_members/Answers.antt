@@ -15,4 +15,4 @@ returns-clause-texts c =
     (c.in_ok-put_optional_moment-2.ensures.texts
     (c.in_ok-put_optional_moment.ensures.texts
     (c.in_ok-put_texts.ensures.texts
-    (c.in_ok-put_text.ensures.texts (subst (All IsUtf8Member) (sym c.new-out.ensures.items) (All-nil IsUtf8Member))))))))))))
+    (c.in_ok-put_text.ensures.texts (subst (All IsUtf8Member) (sym c.in_ok-out.ensures.items) (All-nil IsUtf8Member))))))))))))
