@@ -223,6 +223,9 @@ impl<AC: AdditionalClaims, GC: GenderClaim> UserInfoClaims<AC, GC> {
     }
 }
 
+// How many members there is room for at once: these fields, and some claims behind them.
+const ROOM: usize = 8;
+
 // The fields that are no claims, as members, absent ones left out.
 fn issuer_and_audience_members(
     alloc: Global,
@@ -233,7 +236,7 @@ fn issuer_and_audience_members(
         (option_copied audiences.entry) in IfOk result (λ out. out.items ≡ members) }
     ensures texts { IfOk result (λ out. All IsUtf8Member out.items) }
 {
-    let mut out = Vec::new(alloc);
+    let mut out = Vec::with_capacity(alloc, ROOM)?;
     put_optional_text(alloc, &mut out, "iss", text_of(issuer))?;
     put_texts(alloc, &mut out, "aud", audiences)?;
     Ok(out)
