@@ -4,4 +4,5 @@ mod DecodedBytes
 mod Escapes
 mod FormTexts
 mod Lookups
+mod PlainTexts
 mod TextBytes

@@ -1,7 +1,11 @@
--- What an escape is, behind its percent sign. No clause of a public function cites it.
-use Rattle.std.specs.Prelude.{◌≡◌, ℕ, ◌<◌, List, ◌∷◌, length, Option, MatchOption}
+-- What an escape is, behind its percent sign, and which bytes are plain. No clause of a public function cites it.
+use Rattle.std.specs.Prelude.{◌≡◌, ℕ, ◌<◌, ◌==◌, ◌&&◌, not, nat_lt, Bool, List, ◌∷◌, length, Option, MatchOption}
 use Rattle.std.specs.Borrow.{Bor}
 use Rattle.form_urlencoded.specs.Form.{decode}
+
+-- the byte is ASCII, and neither a percent sign nor a plus sign
+abbrev pub is_plain_byte : ℕ → Bool
+is_plain_byte b = nat_lt b 128 && not (b == 37) && not (b == 43)
 
 -- the byte of the escape that the bytes behind a percent sign end, and what stands behind them; or the
 -- percent sign begins no escape and stands for itself

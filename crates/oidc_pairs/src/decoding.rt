@@ -1,14 +1,16 @@
 //! The texts that encoded names and values stand for.
-ghost use Rattle.std.specs.Prelude.{◌≡◌, ◌++◌, ◌∷◌, ◌<◌, ◌≤◌, [], length, take, IfOk, MatchOption};
+ghost use Rattle.std.specs.Prelude.{◌≡◌, ◌++◌, ◌∷◌, ◌<◌, ◌≤◌, [], length, take, true, IfOk, IsTrue, MatchOption};
 ghost use Rattle.std.specs.Char.{digit_value};
 ghost use Rattle.std.specs.Cow.{cow_str_bytes};
+ghost use Rattle.std.specs.List.{list_all};
 ghost use Rattle.std.specs.Option.{SomeIff};
 ghost use Rattle.form_urlencoded.specs.Form.{decode};
 ghost use Rattle.oidc_pairs.specs.Pairs.{text_of as text_of_bytes};
+ghost use Rattle.oidc_pairs.specs.Decoding as plain;
 ghost use Rattle.oidc_pairs.specs.Decoding.{IsEscape};
 
 use memchr::memchr2;
-use percent_encoding::decode_utf8_lossy;
+use percent_encoding::{ascii_str, decode_utf8_lossy};
 use std::alloc::{AllocError, Global};
 use std::borrow::{CowSlice, CowStr};
 
@@ -105,10 +107,36 @@ fn decoded_bytes(alloc: Global, encoded: &[u8]) -> Result<Vec<u8>, AllocError>
     Ok(bytes)
 }
 
+// How many bytes are looked at one by one for whether they are plain. Names and many values have fewer.
+const SHORT: usize = 16;
+
+fn is_plain_byte(byte: u8) -> bool
+    ensures { result ≡ plain.is_plain_byte byte }
+{
+    byte < 0x80 && byte != b'%' && byte != b'+'
+}
+
+// Whether bytes are ASCII and stand for themselves.
+fn is_plain(bytes: &[u8]) -> bool
+    ensures { result ≡ list_all plain.is_plain_byte bytes.now }
+{
+    bytes.iter().all(|byte| is_plain_byte(*byte))
+}
+
+// The same of bytes that are few.
+fn is_short_and_plain(bytes: &[u8]) -> bool
+    ensures plain { IsTrue result → list_all plain.is_plain_byte bytes.now ≡ true }
+{
+    bytes.len() <= SHORT && is_plain(bytes)
+}
+
 // The text that encoded bytes stand for, borrowed from them where decoding changes nothing.
 pub(crate) fn text_of(alloc: Global, encoded: &[u8]) -> Result<CowStr<'_, Global>, AllocError>
     ensures { IfOk result (λ text. cow_str_bytes text ≡ text_of_bytes encoded.now) }
 {
+    if is_short_and_plain(encoded) {
+        return Ok(CowStr::Borrowed(ascii_str(encoded)));
+    }
     match memchr2(b'%', b'+', encoded) {
         Some(_) => {
             let bytes = decoded_bytes(alloc, encoded)?;
