@@ -28,13 +28,29 @@ impl Model for FormText {
 }
 
 impl FormText {
+    // The form text without pairs, over an empty text.
+    fn over(text: String) -> Self
+        requires { string_bytes text ≡ [] }
+        ensures { result ≡ [] }
+    {
+        FormText {
+            text: Serializer::new(text),
+        }
+    }
+
     /// The form text without pairs, which is empty.
     pub fn new(alloc: Global) -> Self
         ensures { result ≡ [] }
     {
-        FormText {
-            text: Serializer::new(String::new(alloc)),
-        }
+        Self::over(String::new(alloc))
+    }
+
+    /// The same, with room for so many bytes. `AllocError` is want of memory, the one error.
+    pub fn with_capacity(alloc: Global, capacity: usize) -> Result<Self, AllocError>
+        ensures empty { IfOk result (λ form. form ≡ []) }
+    {
+        let text = String::with_capacity(alloc, capacity)?;
+        Ok(Self::over(text))
     }
 
     /// Adds a pair at the end. After an error nothing is added.
