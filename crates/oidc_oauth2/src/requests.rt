@@ -74,6 +74,9 @@ pub fn is_address(address: &str) -> bool
     address.len() <= MAX_ADDRESS && is_visible(address.as_bytes())
 }
 
+// How many bytes of a body there is room for at once. Most have fewer.
+const ROOM: usize = 256;
+
 // The headers of a request, with any credentials.
 fn headers_with(
     alloc: Global,
@@ -249,7 +252,7 @@ impl<'a, TE, TR> CodeTokenRequest<'a, TE, TR> {
     fn form(&self, alloc: Global) -> Result<FormText, AllocError>
         ensures { IfOk result (λ form. form ≡ spec.code_pairs self.now) }
     {
-        let mut form = FormText::new(alloc);
+        let mut form = FormText::with_capacity(alloc, ROOM)?;
         form.push("grant_type", "authorization_code")?;
         form.push("code", self.code.secret())?;
         push_optional(&mut form, "code_verifier", self.verifier_text())?;
