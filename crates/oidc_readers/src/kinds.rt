@@ -55,11 +55,7 @@ fn text_of(alloc: Global, member: &Member) -> Result<String, ParseError>
 impl<M: Marker> FieldValue for Text<M> {
     ghost read_of = { λ _. kinds.text_kind };
 
-    fn read(
-        alloc: Global,
-        member: &Member,
-        _reading: Reading,
-    ) -> Result<Text<M>, ParseError> {
+    fn read(alloc: Global, member: &Member, _reading: Reading) -> Result<Text<M>, ParseError> {
         Ok(Text::new(text_of(alloc, member)?))
     }
 }
@@ -68,11 +64,7 @@ impl<M: Marker> FieldValue for Text<M> {
 impl<M: Marker> FieldValue for Secret<M> {
     ghost read_of = { λ _. kinds.text_kind };
 
-    fn read(
-        alloc: Global,
-        member: &Member,
-        _reading: Reading,
-    ) -> Result<Secret<M>, ParseError> {
+    fn read(alloc: Global, member: &Member, _reading: Reading) -> Result<Secret<M>, ParseError> {
         Ok(Secret::new(text_of(alloc, member)?))
     }
 }
@@ -81,11 +73,7 @@ impl<M: Marker> FieldValue for Secret<M> {
 impl FieldValue for FieldName {
     ghost read_of = { λ _. kinds.text_kind };
 
-    fn read(
-        alloc: Global,
-        member: &Member,
-        _reading: Reading,
-    ) -> Result<FieldName, ParseError> {
+    fn read(alloc: Global, member: &Member, _reading: Reading) -> Result<FieldName, ParseError> {
         Ok(FieldName::new(text_of(alloc, member)?))
     }
 }
@@ -128,11 +116,7 @@ impl FieldValue for bool {
 impl FieldValue for u64 {
     ghost read_of = { λ _. kinds.whole_kind };
 
-    fn read(
-        alloc: Global,
-        member: &Member,
-        _reading: Reading,
-    ) -> Result<u64, ParseError> {
+    fn read(alloc: Global, member: &Member, _reading: Reading) -> Result<u64, ParseError> {
         match member.value().as_u64() {
             None => Err(refused(alloc, ParseKind::WrongType, member.name())),
             Some(number) => Ok(number),
@@ -144,11 +128,7 @@ impl FieldValue for u64 {
 impl<M: Marker> FieldValue for UrlText<M> {
     ghost read_of = { λ _. kinds.url_kind };
 
-    fn read(
-        alloc: Global,
-        member: &Member,
-        _reading: Reading,
-    ) -> Result<UrlText<M>, ParseError> {
+    fn read(alloc: Global, member: &Member, _reading: Reading) -> Result<UrlText<M>, ParseError> {
         let text = text_of(alloc, member)?;
         match UrlText::new(alloc, text) {
             Ok(url) => Ok(url),
@@ -232,11 +212,7 @@ impl<M: Marker> Texts<M> {
 impl<M: Marker> FieldValue for Texts<M> {
     ghost read_of = { λ _. kinds.texts_kind };
 
-    fn read(
-        alloc: Global,
-        member: &Member,
-        _reading: Reading,
-    ) -> Result<Texts<M>, ParseError> {
+    fn read(alloc: Global, member: &Member, _reading: Reading) -> Result<Texts<M>, ParseError> {
         match member.value().as_array() {
             Some(values) => texts_of(alloc, values, member),
             None => Err(refused(alloc, ParseKind::WrongType, member.name())),
@@ -325,11 +301,7 @@ pub struct Present;
 impl FieldValue for Present {
     ghost read_of = { λ _. kinds.any_kind (record {}) };
 
-    fn read(
-        _alloc: Global,
-        _member: &Member,
-        _reading: Reading,
-    ) -> Result<Present, ParseError> {
+    fn read(_alloc: Global, _member: &Member, _reading: Reading) -> Result<Present, ParseError> {
         Ok(Present)
     }
 }
@@ -338,11 +310,7 @@ impl FieldValue for Present {
 impl<T: FieldValue> FieldValue for Option<T> {
     ghost read_of = { λ reading. kinds.or_null (T.read_of reading) };
 
-    fn read(
-        alloc: Global,
-        member: &Member,
-        reading: Reading,
-    ) -> Result<Option<T>, ParseError> {
+    fn read(alloc: Global, member: &Member, reading: Reading) -> Result<Option<T>, ParseError> {
         if member.value().is_null() {
             return Ok(None);
         }
