@@ -79,7 +79,7 @@ ASIDE = {
 # The generated cases, by the crate in whose table they stand.
 GENERATED = {
     "vectors": [lambda: ["op=standard&text=" + text for text in plain_claims.texts()],
-                lambda: list(plain_claims.readings())],
+                plain_claims.readings],
     "vectors_requests": [],
     "vectors_tokens": [plain_tokens.cases, plain_info.cases, plain_urls.cases,
                        lambda: list(plain_tokens.readings()), lambda: list(plain_info.readings())],

@@ -35,7 +35,7 @@ ANSWERS = {layer + name for layer in ("token_", "info_") for name in ("status", 
 
 # What stands on each kind of line: the names that it needs, and those that it may have.
 NAMES = {
-    "client": ({"id", "issuer", "auth", "token", "algs"}, {"secret", "userinfo", "redirect"}),
+    "client": ({"id", "issuer", "auth", "token", "algs"}, {"secret", "userinfo", "redirect", "reading"}),
     "begin": ({"state", "nonce", "verifier"}, {"redirect", "userinfo"}),
     "callback": ({"now", "query"}, ANSWERS),
 }
@@ -71,6 +71,8 @@ def client_in(line):
     check_urls(client, ["issuer", "auth", "token", "userinfo", "redirect"])
     client["algs"] = client["algs"].split(" ") if client["algs"] else []
     check(all(alg in tokens.SIGNING for alg in client["algs"]))
+    check(client.get("reading", "lenient") == "lenient")
+    client["reading"] = plain_claims.READINGS["lenient"] if "reading" in client else plain_claims.STRICT
     return client
 
 
@@ -165,10 +167,10 @@ def token_request(client, login, code):
     return "request " + request_pairs(address, client, True, own, later)
 
 
-def tokens_answered(answer):
+def tokens_answered(client, answer):
     kind, response = answer
     deny("token request" if kind == "fault" else None)
-    found, refusal = tokens_in(*response, tokens.ID_TOKEN)
+    found, refusal = tokens_in(*response, tokens.id_token_fields(client["reading"]))
     deny(refusal)
     return found
 
@@ -176,7 +178,7 @@ def tokens_answered(answer):
 def accepted(client, login, now, found):
     """The ID token among the fields of a token response, which is the login's."""
     deny("no_id_token" if found.get("id_token") is None else None)
-    token = tokens.token_of(found["id_token"])
+    token = tokens.token_of(found["id_token"], client["reading"])
     # The issuer of a script has no keys of its own.
     verifier = {"id": client["id"], "issuer": client["issuer"], "secret": client.get("secret"),
                 "algs": client["algs"], "keys": []}
@@ -199,7 +201,7 @@ def info_answered(client, login, subject, answer):
     deny("user_info request" if kind == "fault" else None)
     verifier = {"id": client["id"], "issuer": client["issuer"], "subject": subject,
                 "signed": login["userinfo"] == "jwt", "issuer_match": True, "audience_match": True,
-                "secret": None, "algs": ["RS256"], "keys": []}
+                "reading": client["reading"], "secret": None, "algs": ["RS256"], "keys": []}
     try:
         members, refusal = plain_info.judged(verifier, *response)
     except Refused as refused:
@@ -213,7 +215,7 @@ def signed_in(client, logins, callback, sent):
     """What a callback signs in with. The requests that it sends are added to `sent`."""
     login = named_login(logins, callback["query"])
     sent.append(token_request(client, login, code_in(callback["query"])))
-    found = tokens_answered(callback["answers"][0])
+    found = tokens_answered(client, callback["answers"][0])
     token = accepted(client, login, callback["now"], found)
     shown = [("access_token", found["access_token"])]
     if found.get("refresh_token") is not None:

@@ -1,10 +1,11 @@
 #!/usr/bin/env python3
 """Reads the claims of an end user by looking back, and writes cases of crates/vectors of that.
 
-    tools/plain_claims.py cases      5,000 generated cases, a line each
-    tools/plain_claims.py answers    the line that answers each of them
-    tools/plain_claims.py read TEXT  what this reader says of one object
-    tools/plain_claims.py readings   cases of booleans and moments as texts, under each of the four readings
+    tools/plain_claims.py cases             5,000 generated cases, a line each
+    tools/plain_claims.py answers           the line that answers each of them
+    tools/plain_claims.py readings          cases of booleans and moments as texts, under each of the four readings
+    tools/plain_claims.py readings answers  the line that answers each of these
+    tools/plain_claims.py read TEXT         what this reader says of one object
 
 It is a second reader beside oidc_claims, which fills slots in one pass. This one judges each member of
 an object against all that stand before it, and then looks each claim up in the whole list (OpenID
@@ -180,8 +181,13 @@ DATE_TIME = re.compile(
 )
 
 
+class Moment(int):
+    """Seconds, rounded down, and whether a fraction stands behind them. Digits past the ninth are dropped."""
+    has_fraction = False
+
+
 def moment_of(text):
-    """The seconds of a text, rounded down, by Python's datetime; none where it is no date and time."""
+    """The moment of a text, by Python's datetime; none where it is no date and time."""
     parts = DATE_TIME.fullmatch(text)
     if not parts:
         return None
@@ -196,8 +202,9 @@ def moment_of(text):
     except ValueError:
         return None
     ahead = timedelta(hours=hours, minutes=minutes) * (-1 if parts[8] == "-" else 1)
-    # A fraction is added to whole seconds, and rounding down takes it away.
-    return (clock - EPOCH - ahead - timedelta(days=146_097 * cycles)) // timedelta(seconds=1)
+    moment = Moment((clock - EPOCH - ahead - timedelta(days=146_097 * cycles)) // timedelta(seconds=1))
+    moment.has_fraction = int((parts[7] or "0")[:9]) > 0
+    return moment
 
 
 def as_read(kind, value, reading):
@@ -507,19 +514,26 @@ def quoted(text):
     return json.dumps(text, ensure_ascii=False)
 
 
-def readings():
-    """Objects under each of the four readings."""
+def read_objects():
+    """Objects, and the name of a reading, which is each of the four."""
     members = ['"email_verified":' + value for value in FLAGS]
     members += ['"updated_at":' + value for value in NUMBERS + [quoted(text) for text in DATE_TIMES]]
     for beside in members + BESIDE:
         for reading in READINGS:
-            yield case("standard", reading, '{"sub":"a",' + beside + "}")
+            yield reading, '{"sub":"a",' + beside + "}"
+
+
+def readings():
+    return [case("standard", reading, text) for reading, text in read_objects()]
 
 
 def main(words):
     if words == ["readings"]:
         for line in readings():
             print(line)
+    elif words == ["readings", "answers"]:
+        for reading, text in read_objects():
+            print(answer_of(text, READINGS[reading]))
     elif words == ["cases"]:
         for text in texts():
             print("op=standard&text=" + text)

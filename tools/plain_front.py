@@ -10,29 +10,32 @@ It is a second reader beside `front_channel` of oidc_login: RFC 6749 sections 3.
 order of what is judged stands here.
 """
 import plain_tokens as tokens
+from plain_info import flag
 from plain_callback import LONGEST_QUERY, Denied, deny
-from plain_records import Refused, escaped, ok, pairs, read_case, run_reader, values
+from plain_records import Refused, escaped, ok, pairs, read_case, reading_in, run_reader, values
 
 # The hashes that an ID token may hold: its claim, the name of what that is a hash of, and the refusal of another.
 HASHES = [("at_hash", "access_token", "token_hash"), ("c_hash", "code", "code_hash")]
 
 
-def hash_failures(token, query):
-    """What is wrong with what stands beside an ID token, by the hashes that it has. One that it hasn't binds nothing."""
+def hash_failures(token, query, demanded):
+    """What is wrong with what stands beside an ID token, by the hashes that it has. One that it hasn't binds nothing,
+    but for the claims that are demanded."""
     alg, own = token.header["alg"], tokens.own_of(token.members)
-    beside = [(own.get(claim), values(query, name), refusal) for claim, name, refusal in HASHES]
+    beside = [(own.get(claim), values(query, name), refusal, claim in demanded) for claim, name, refusal in HASHES]
     has_hash = tokens.digest_by(alg) is not None
-    failures = ["signing unsupported_alg" for claimed, found, _ in beside
+    failures = ["signing unsupported_alg" for claimed, found, _, _ in beside
                 if claimed is not None and found and not has_hash]
-    for claimed, found, refusal in beside:
+    for claimed, found, refusal, is_demanded in beside:
         is_other = has_hash and claimed is not None and [tokens.half_hash(alg, text) for text in found] != [claimed]
-        if len(found) > 1 or found and is_other:
+        is_absent = is_demanded and claimed is None
+        if len(found) > 1 or found and (is_other or is_absent):
             failures.append(refusal)
     return failures
 
 
 def judged(client, state, nonce, now, text):
-    """The ID token of the form text of an answer, and the pairs of that."""
+    """The ID token of the form text of an answer, read under the client's reading, and the pairs of that."""
     deny("too_long" if len(text.encode()) > LONGEST_QUERY else None)
     query = pairs(text)
     deny("state" if values(query, "state") != [state] else None)
@@ -40,19 +43,21 @@ def judged(client, state, nonce, now, text):
     deny("provider " + escaped(errors[0]) if errors else None)
     deny("no_id_token" if len(found) != 1 else None)
     try:
-        token = tokens.token_of(found[0])
+        token = tokens.token_of(found[0], client["reading"])
     except Refused as refused:
         raise Denied("parse " + refused.words) from None
     failure = tokens.first_failure(client, nonce, now, token)
     deny("claims " + failure if failure else None)
-    deny(next(iter(hash_failures(token, query)), None))
+    deny(next(iter(hash_failures(token, query, client["demanded"])), None))
     return token, query
 
 
 def front(line):
     needed = {"query", "id", "issuer", "algs", "state", "nonce", "now"}
-    found, keys = read_case(line, needed, {"secret"}, "key")
+    found, keys = read_case(line, needed, {"secret", "reading", "code_hash"}, "key")
     client, now = tokens.client_in(found, keys), tokens.now_in(found["now"])
+    client["reading"] = reading_in(found)
+    client["demanded"] = ["c_hash"] if flag(found, "code_hash") else []
     try:
         token, query = judged(client, found["state"], found["nonce"], now, found["query"])
     except Denied as denied:

@@ -4,6 +4,7 @@
     tools/plain_info.py answers   reads cases of info_claims, info_request, info_answer and info_issue
                                   and answers each: a line each; any other line comes back as it came
     tools/plain_info.py cases     280 generated cases, a line each
+    tools/plain_info.py readings  cases of booleans and moments as texts, under each of the four readings
 
 It is a second reader, verifier and issuer beside oidc_user_info, over plain_tokens.py, plain_records.py and plain_claims.py:
 OpenID Connect Core 1.0 sections 5.1, 5.1.2 and 5.3, RFC 6750 section 2.1. Each member of an object is judged by
@@ -61,13 +62,13 @@ def subject_of(members):
 # ---- tokens
 
 
-def token_of(text):
+def token_of(text, reading=plain_claims.STRICT):
     parts = text.split(".")
     if len(parts) != 3:
         raise Refused("token")
     header, claims, signature = [plain_tokens.decoded(part) for part in parts]
     header = plain_tokens.header_of(header)
-    return plain_tokens.Token(header, claim_members(claims), parts[0] + "." + parts[1], signature)
+    return plain_tokens.Token(header, claim_members(claims, reading), parts[0] + "." + parts[1], signature)
 
 
 def first_failure(client, token):
@@ -105,7 +106,7 @@ def claims_in(client, body):
     """The members of an answer that is an object, or the words of its refusal."""
     if client["signed"]:
         return None, "claims no_signature"
-    members = claim_members(body)
+    members = claim_members(body, client["reading"])
     is_expected = client["subject"] in (None, subject_of(members))
     return (members, None) if is_expected else (None, "claims invalid_subject")
 
@@ -115,7 +116,7 @@ def claims_in_token(client, body):
         text = body.decode("utf-8")
     except UnicodeDecodeError:
         return None, "utf8"
-    token = token_of(text)
+    token = token_of(text, client["reading"])
     failure = first_failure(client, token)
     return (None, "claims " + failure) if failure else (token.members, None)
 
@@ -158,15 +159,15 @@ def flag(found, name):
 
 
 def info_answer(line):
-    optional = {"type", "subject", "signed", "any_issuer", "any_audience"}
+    optional = {"type", "subject", "signed", "any_issuer", "any_audience", "reading"}
     found, keys = read_case(line, {"status", "body", "id", "issuer"}, optional, "key")
     answer = answer_of(found)
     if answer is None or url_fault(found["issuer"]):
         raise NoCase
     client = {"id": found["id"], "issuer": found["issuer"], "subject": found.get("subject"),
               "signed": flag(found, "signed"), "issuer_match": not flag(found, "any_issuer"),
-              "audience_match": not flag(found, "any_audience"), "secret": None, "algs": ["RS256"],
-              "keys": [plain_tokens.key_in(key) for key in keys]}
+              "audience_match": not flag(found, "any_audience"), "reading": reading_in(found), "secret": None,
+              "algs": ["RS256"], "keys": [plain_tokens.key_in(key) for key in keys]}
     try:
         members, refusal = judged(client, *answer[1])
     except Refused as refused:
@@ -260,4 +261,4 @@ def cases():
 
 
 if __name__ == "__main__":
-    run_reader(__doc__, OPERATIONS, cases)
+    run_reader(__doc__, OPERATIONS, cases, readings)

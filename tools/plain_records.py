@@ -88,15 +88,18 @@ def answer_by(operations, line):
         return "refused " + refused.words
 
 
-def run_reader(page, operations, cases=None):
-    """Runs a reader for the program's words: `cases` prints the generated cases, where it has some, and `answers` the
-    answer to each line of standard input. With other words it prints its page."""
+def run_reader(page, operations, cases=None, readings=None):
+    """Runs a reader for the program's words: `cases` and `readings` print generated cases, where it has some, and
+    `answers` the answer to each line of standard input. With other words it prints its page."""
     words = sys.argv[1:]
     if words == ["answers"]:
         for line in sys.stdin.read().split("\n")[:-1]:
             print(answer_by(operations, line))
     elif words == ["cases"] and cases:
         for case in cases():
+            print(case)
+    elif words == ["readings"] and readings:
+        for case in readings():
             print(case)
     else:
         sys.exit(page)

@@ -19,7 +19,7 @@ import plain_tokens as tokens
 from plain_answers import DEVICE, INTROSPECTION, fits_address, request_pairs
 from plain_records import (
     ERROR, LONGEST_BODY, NoCase, Refused, answer_of, escaped, form, has_essence, members_of, ok, pairs, record,
-    run_reader, tokens_of, url_fault, values,
+    reading_in, run_reader, tokens_of, url_fault, values,
 )
 from plain_urls import asks_openid, pair_in
 
@@ -163,15 +163,17 @@ def written(body, further):
 
 
 def tokens_answer(line):
-    if dict(pairs(line)[1:]).get("request") not in ("code", "refresh", "password", "client_credentials"):
+    found = dict(pairs(line)[1:])
+    if found.get("request") not in ("code", "refresh", "password", "client_credentials"):
         raise NoCase
-    return answered(of_object(lambda body: ok(written(body, tokens.ID_TOKEN))), ["request"])(line)
+    further = tokens.id_token_fields(reading_in(found))
+    return answered(of_object(lambda body: ok(written(body, further))), ["request"], ["reading"])(line)
 
 
 def poll_answer(line):
     further = tokens.further_in(dict(pairs(line)[1:]))
     done = of_object(lambda body: ok([("step", "done")] + written(body, further)))
-    answer = answered(done, optional=["extra"])(line)
+    answer = answered(done, optional=["extra", "reading"])(line)
     told = {"refused server authorization_pending": "pending", "refused server slow_down": "slow_down"}
     return ok([("step", told[answer])]) if answer in told else answer
 

@@ -5,6 +5,7 @@
                                     token_response and token_answer from standard input, and answers each: a line
                                     each; any other line comes back as it came
     tools/plain_tokens.py cases     360 generated cases, a line each
+    tools/plain_tokens.py readings  cases of booleans and moments as texts, under each of the four readings
 
 It is a second reader, verifier and issuer beside oidc_tokens, over Python's json, base64, hashlib and hmac:
 RFC 7515 sections 2, 4.1, 5 and 7.1, RFC 7518 section 3.1, RFC 7519 sections 5 and 7, OpenID Connect Core 1.0
@@ -241,7 +242,8 @@ def first_failure(client, nonce, now, token):
     failure = signature_failure(client, token.header, token.message, token.signature)
     if failure:
         return failure
-    if now >= own["exp"]:
+    # The fraction of a second counts here, though it isn't written.
+    if now > own["exp"] or now == own["exp"] and not getattr(own["exp"], "has_fraction", False):
         return "expired"
     return None if own.get("nonce") == nonce else "invalid_nonce"
 
@@ -382,38 +384,38 @@ def issue(line):
 # ---- token responses, with an ID token or without
 
 
-def token_fault(value):
-    """A text that is a token. A refusal inside it has the kind and the field that it names."""
-    if is_text(value):
-        token_of(value)
-    return text_fault(value)
-
-
-ID_TOKEN = [("id_token", token_fault, False)]
+def id_token_fields(reading=plain_claims.STRICT):
+    """The field of an ID token, which is read under a reading. A refusal inside it has the kind and the field that it
+    names."""
+    def token_fault(value):
+        if is_text(value):
+            token_of(value, reading)
+        return text_fault(value)
+    return [("id_token", token_fault, False)]
 
 
 def further_in(found):
-    """The extra fields that a case asks for."""
-    if found.get("extra", "id_token") != "id_token":
+    """The extra fields that a case asks for. A reading stands beside these alone."""
+    if found.get("extra", "id_token") != "id_token" or "reading" in found and "extra" not in found:
         raise NoCase
-    return ID_TOKEN if "extra" in found else []
+    return id_token_fields(reading_in(found)) if "extra" in found else []
 
 
 def written_tokens(found):
     found = {**found, "token_type": token_type_of(found["token_type"])}
-    shown = dict(there(found, [field for field, _, _ in TOKENS + ID_TOKEN]))
+    shown = dict(there(found, [field for field, _, _ in TOKENS + id_token_fields()]))
     return json.dumps(shown, separators=(",", ":"), ensure_ascii=False)
 
 
 def token_response(line):
-    case, _ = read_case(line, {"text"}, {"extra"})
+    case, _ = read_case(line, {"text"}, {"extra", "reading"})
     found = tokens_of(members_of(case["text"].encode()), further_in(case))
     span = [("expires_in", str(value)) for _, value in there(found, ["expires_in"])]
     return ok([("written", written_tokens(found))] + span + cut_scopes(found))
 
 
 def token_answer(line):
-    case, _ = read_case(line, {"status", "body"}, {"type", "extra"})
+    case, _ = read_case(line, {"status", "body"}, {"type", "extra", "reading"})
     further = further_in(case)
     answer = answer_of(case)
     if answer is None:
@@ -551,4 +553,4 @@ def cases():
 
 
 if __name__ == "__main__":
-    run_reader(__doc__, OPERATIONS, cases)
+    run_reader(__doc__, OPERATIONS, cases, readings)

@@ -7,7 +7,7 @@ use crate::records::{Tokens, written};
 use crate::words::kind_word;
 use http::{Response, StatusCode};
 use http_header::{CONTENT_TYPE, HeaderMap};
-use oidc_members::Refusal;
+use oidc_members::{Reading, Refusal};
 use oidc_oauth2::{
     Body, CoreErrorResponseType, ExtraTokenFields, Fault, HttpRequest, HttpResponse, OtherCause,
     RequestTokenError, StandardErrorResponse,
@@ -47,12 +47,13 @@ fn push_header(
     }
 }
 
-/// What an answer to a request for tokens is worth where these extra fields are read.
+/// What an answer to a request for tokens is worth where these extra fields are read under a reading.
 pub fn token_answer_line<EF: ExtraTokenFields>(
     alloc: Global,
     response: HttpResponse,
+    reading: Reading,
 ) -> Result<String, CaseError> {
-    match oidc_oauth2::token_answer::<Fault, Refused, Tokens<EF>>(alloc, response) {
+    match oidc_oauth2::token_answer::<Fault, Refused, Tokens<EF>>(alloc, response, reading) {
         Ok(tokens) => ok_pair(alloc, "written", written(alloc, &tokens)?.as_str()),
         Err(refusal) => refused_line(alloc, &refusal),
     }

@@ -2,7 +2,7 @@
 
 use crate::answers::{ok_form, refused_reading, text_of};
 use crate::case::CaseError;
-use oidc_members::{Members, ParseError};
+use oidc_members::{Members, ParseError, Reading};
 use oidc_oauth2::{CoreTokenType, ExtraTokenFields, OAuth2TokenResponse, StandardTokenResponse};
 use oidc_pairs::FormText;
 use oidc_types::Scope;
@@ -11,19 +11,24 @@ use std::alloc::{AllocError, Global};
 /// A token response with these extra fields.
 pub type Tokens<EF> = StandardTokenResponse<EF, CoreTokenType>;
 
-/// A token response with these extra fields, written again.
+/// A token response with these extra fields, which are read under a reading, written again.
 pub fn token_response_line<EF: ExtraTokenFields>(
     alloc: Global,
     text: &str,
+    reading: Reading,
 ) -> Result<String, CaseError> {
-    match tokens_in::<EF>(alloc, text) {
+    match tokens_in::<EF>(alloc, text, reading) {
         Ok(tokens) => tokens_line(alloc, &tokens),
         Err(error) => refused_reading(alloc, &error),
     }
 }
 
-fn tokens_in<EF: ExtraTokenFields>(alloc: Global, text: &str) -> Result<Tokens<EF>, ParseError> {
-    let members = Members::split(alloc, text.as_bytes())?;
+fn tokens_in<EF: ExtraTokenFields>(
+    alloc: Global,
+    text: &str,
+    reading: Reading,
+) -> Result<Tokens<EF>, ParseError> {
+    let members = Members::split(alloc, text.as_bytes())?.with_reading(reading);
     Tokens::<EF>::read(alloc, &members)
 }
 

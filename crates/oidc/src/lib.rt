@@ -2,7 +2,7 @@
 //! crate `openidconnect`, and what a login starts from.
 //!
 //! - At the root stand the types of the protocol: texts and URLs, claims, keys, tokens, the client and its requests,
-//!   user info, and the transport.
+//!   user info, the request to a provider's logout, and the transport.
 //! - [`core_types`] has the types of the standards' own vocabularies, and the aliases over them. It is `core` in the
 //!   Rust crate, a name that stands here for the language's own library.
 //! - [`login`] has what that crate leaves to its callers: pending logins, from the URL that sends a user to the
@@ -41,7 +41,7 @@ pub use oidc_types::{
 
 // Why a text doesn't read, and the members of an object.
 pub use oidc_members::{
-    FieldName, Member, MemberName, Members, OutMember, ParseError, ParseKind, Reading, Refusal,
+    FieldName, Member, Members, OutMember, ParseError, ParseKind, Reading, Refusal,
 };
 
 // Claims.

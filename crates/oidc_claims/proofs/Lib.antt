@@ -2,7 +2,6 @@ mod Apart
 mod Bases
 mod Homes
 mod Kept
-mod Lengths
 mod LocalizedNames
 mod MayStand
 mod Moves

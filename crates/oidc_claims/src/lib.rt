@@ -3,7 +3,8 @@
 //!
 //! - [`StandardClaims`] are the claims of OpenID Connect Core 1.0 section 5.1, and [`AddressClaim`] is
 //!   the address among them (section 5.1.1).
-//!   [`read_standard`] reads them, [`write_standard`] writes them.
+//!   [`read_standard`] reads them, [`write_standard`] writes them. They are read under the
+//!   [`Reading`](oidc_members::Reading) of their members: a text may be a boolean or a moment where it says so.
 //! - [`GenderClaim`] is the type of the claim `gender`. A caller may bring one of its own: what it
 //!   writes isn't null and reads back, and a copy equals its source. `CoreGenderClaim` is a plain text.
 //! - [`AdditionalClaims`] is the type of the claims beside the standard ones (section 5.1.2):

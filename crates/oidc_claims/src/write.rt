@@ -19,14 +19,11 @@ use crate::claim::Claim;
 use crate::claims::{AddressClaim, StandardClaims};
 use crate::gender::GenderClaim;
 use jiff::Timestamp;
-use oidc_members::{MemberName, OutMember};
+use oidc_members::OutMember;
 use oidc_readers::{put, put_text, seconds_value};
 use oidc_types::{LanguageTag, LocalizedClaim, Marker, Text};
 use serde_json::{Map, Value};
 use std::alloc::{AllocError, Global};
-
-// How many members there is room for at once. Most sets of claims have fewer.
-const ROOM: usize = 12;
 
 /// The standard claims as members: in the order of the getters of [`StandardClaims`], which is that of
 /// the table in OpenID Connect Core 1.0 section 5.1, absent claims left out. The variants of a claim
@@ -47,7 +44,7 @@ pub fn write_standard<GC: GenderClaim>(
     ensures reads_back { IsInRange claims.now
         → IfOk result (λ out. GivesClaims GC.read_of out.items claims.now) }
 {
-    let mut out = Vec::with_capacity(alloc, ROOM)?;
+    let mut out = Vec::new(alloc);
     for claim in Claim::ALL {
         write_claim(alloc, &mut out, claim, claims)?;
     }
@@ -66,7 +63,7 @@ fn write_claim<GC: GenderClaim>(
     ensures texts { OnOk result (KeepsUtf8 out.old.items out.new.items) }
 {
     match claim {
-        Claim::Subject => put_text(alloc, out, claim.member_name(), claims.subject.as_str()),
+        Claim::Subject => put_text(alloc, out, claim.name(), claims.subject.as_str()),
         Claim::Name => write_variants(alloc, out, claim, &claims.name),
         Claim::GivenName => write_variants(alloc, out, claim, &claims.given_name),
         Claim::FamilyName => write_variants(alloc, out, claim, &claims.family_name),
@@ -104,7 +101,7 @@ fn write_text<M: Marker>(
 {
     match text {
         None => Ok(()),
-        Some(text) => put_text(alloc, out, claim.member_name(), text.as_str()),
+        Some(text) => put_text(alloc, out, claim.name(), text.as_str()),
     }
 }
 
@@ -141,10 +138,10 @@ fn write_variant<M: Marker>(
     ensures texts { OnOk result (KeepsUtf8 out.old.items out.new.items) }
 {
     match tag {
-        None => put_text(alloc, out, claim.member_name(), text.as_str()),
+        None => put_text(alloc, out, claim.name(), text.as_str()),
         Some(tag) => {
             let name = tagged_name(alloc, claim, tag)?;
-            put_text(alloc, out, MemberName::new(name), text.as_str())
+            put_text(alloc, out, name.as_str(), text.as_str())
         }
     }
 }
@@ -161,7 +158,7 @@ fn write_flag(
 {
     match flag {
         None => Ok(()),
-        Some(flag) => put(out, claim.member_name(), Value::Bool(flag)),
+        Some(flag) => put(alloc, out, claim.name(), Value::Bool(flag)),
     }
 }
 
@@ -177,7 +174,7 @@ fn write_gender<GC: GenderClaim>(
 {
     match gender {
         None => Ok(()),
-        Some(gender) => put(out, claim.member_name(), gender.write(alloc)?),
+        Some(gender) => put(alloc, out, claim.name(), gender.write(alloc)?),
     }
 }
 
@@ -193,7 +190,7 @@ fn write_address(
 {
     match address {
         None => Ok(()),
-        Some(address) => put(out, claim.member_name(), address_value(alloc, address)?),
+        Some(address) => put(alloc, out, claim.name(), address_value(alloc, address)?),
     }
 }
 
@@ -210,7 +207,7 @@ fn write_moment(
 {
     match moment {
         None => Ok(()),
-        Some(moment) => put(out, claim.member_name(), seconds_value(moment)),
+        Some(moment) => put(alloc, out, claim.name(), seconds_value(moment)),
     }
 }
 

@@ -8,7 +8,7 @@ use Rattle.serde_json.specs.Written.{has_float}
 use Rattle.oidc_members.specs.Seen.{SeenMember}
 use Rattle.oidc_members.specs.Objects.{split_of}
 use Rattle.oidc_members.specs.Write.{any_float}
-use Rattle.oidc_members.specs.declared.reading.TheConstants.Reading.{STRICT}
+use Rattle.oidc_members.specs.declared.reading.Reading.{Reading}
 use Rattle.oidc_members.specs.declared.refusal.Refusal.{Refusal}
 use Rattle.oidc_readers.specs.Kinds.{text_kind}
 use Rattle.oidc_readers.specs.Records.{faultless}
@@ -89,30 +89,30 @@ additional_stay ms = filtered (λ m. is_additional m.name) ms
 
 -- ---- claims of user info
 
-abbrev reads_claims : List SeenMember → Result SeenUserInfo Refusal
-reads_claims = user_info_claims_of read_others text_kind STRICT
+abbrev reads_claims : Reading → List SeenMember → Result SeenUserInfo Refusal
+reads_claims reading = user_info_claims_of read_others text_kind reading
 
-claims_free : (members : List SeenMember) (found : SeenUserInfo) → reads_claims members ≡ Ok found → IsFree members → any_float (list_of found.additional_claims) ≡ false
+claims_free : (reading : Reading) (members : List SeenMember) (found : SeenUserInfo) → reads_claims reading members ≡ Ok found → IsFree members → any_float (list_of found.additional_claims) ≡ false
 unfolding user_info_claims_of parts_in
-claims_free members found h free =
+claims_free reading members found h free =
     let among : List SeenMember = additional_among user_info_fields members in
-    after (faultless (user_info_rule text_kind STRICT) members) _ found h λ _ _ judged.
-    after (faultless_claims text_kind members) _ found judged λ _ _ standard.
+    after (faultless (user_info_rule text_kind reading) members) _ found h λ _ _ judged.
+    after (faultless_claims text_kind reading members) _ found judged λ _ _ standard.
     let own : others_of (map out_of among) ≡ found.additional_claims = ap (λ (f : SeenUserInfo). f.additional_claims) (same_ok _ found standard) in
     let kept = all_kept among (additional_stay members) in
     let same : others_of (map out_of among) ≡ kept.0 = same_ok (others_of (map out_of among)) kept.0 kept.1 in
     ap any_float (ap list_of (sym own ∙ same) ∙ kept.2) ∙ kept_free (λ m. is_additional_home (home_of m.name user_info_fields)) members free
 
 -- those of an object
-object_free : (body : List ℕ) (found : SeenUserInfo) → claims_in read_others text_kind STRICT body ≡ Ok found → any_float (list_of found.additional_claims) ≡ false
-object_free body found h =
-    let split = then_ok (split_of body) reads_claims found h in claims_free split.0 found split.2 (split_free body split.0 split.1)
+object_free : (reading : Reading) (body : List ℕ) (found : SeenUserInfo) → claims_in read_others text_kind reading body ≡ Ok found → any_float (list_of found.additional_claims) ≡ false
+object_free reading body found h =
+    let split = then_ok (split_of body) (reads_claims reading) found h in claims_free reading split.0 found split.2 (split_free body split.0 split.1)
 
 -- those of a token
-token_free : (text : List ℕ) (token : SeenToken CoreJweContentEncryptionAlgorithm CoreJwsSigningAlgorithm SeenUserInfo) → token_in types text ≡ Ok token
+token_free : (reading : Reading) (text : List ℕ) (token : SeenToken CoreJweContentEncryptionAlgorithm CoreJwsSigningAlgorithm SeenUserInfo) → token_in types reading text ≡ Ok token
     → any_float (list_of token.payload.additional_claims) ≡ false
-token_free text token h =
-    let said = payload_said types.encryption_named types.signing_named reads_claims text token h in claims_free said.0 token.payload said.2 said.1
+token_free reading text token h =
+    let said = payload_said types.encryption_named types.signing_named (reads_claims reading) text token h in claims_free reading said.0 token.payload said.2 said.1
 
 -- ---- an answer
 
@@ -120,23 +120,23 @@ of_object_free : (demand : Demand SymmetricKey) (body : List ℕ) (found : SeenU
     → any_float (list_of found.additional_claims) ≡ false
 unfolding of_object from_json
 of_object_free demand body found h =
-    let read = then_ok (claims_in read_others text_kind STRICT body or_as _) _ found (when_ok _ demand.signed _ found h) in
+    let read = then_ok (claims_in read_others text_kind demand.reading body or_as _) _ found (when_ok _ demand.signed _ found h) in
     let same = same_ok _ found (when_ok _ _ _ found read.2) in
     ap (λ (f : SeenUserInfo). any_float (list_of f.additional_claims)) (sym same)
-    ∙ object_free body read.0 (as_ok (claims_in read_others text_kind STRICT body) _ read.0 read.1)
+    ∙ object_free demand.reading body read.0 (as_ok (claims_in read_others text_kind demand.reading body) _ read.0 read.1)
 
-of_token_free : (demand : Demand SymmetricKey) (body : List ℕ) (found : SeenUserInfo) → of_token types demand.verifier body ≡ Ok found
+of_token_free : (demand : Demand SymmetricKey) (body : List ℕ) (found : SeenUserInfo) → of_token types demand.reading demand.verifier body ≡ Ok found
     → any_float (list_of found.additional_claims) ≡ false
 unfolding of_token
 of_token_free demand body found h =
-    let read = then_ok (token_in types body or_as _) _ found (when_ok _ (not (is_utf8 body)) _ found h) in
+    let read = then_ok (token_in types demand.reading body or_as _) _ found (when_ok _ (not (is_utf8 body)) _ found h) in
     let judged : Ok read.0.payload ≡ Ok found = later_ok _ _ found read.2 in
     ap (λ (f : SeenUserInfo). any_float (list_of f.additional_claims)) (sym (same_ok read.0.payload found judged))
-    ∙ token_free body read.0 (as_ok (token_in types body) _ read.0 read.1)
+    ∙ token_free demand.reading body read.0 (as_ok (token_in types demand.reading body) _ read.0 read.1)
 
 by_type : (json jwt : Bool) (demand : Demand SymmetricKey) (r : SeenResponse) (other : Result SeenUserInfo InfoRefusal) (found : SeenUserInfo)
     → ((x : SeenUserInfo) → other ≡ Ok x → ⊥)
-    → cond json (of_object read_others text_kind demand r.body) (cond jwt (of_token types demand.verifier r.body) other) ≡ Ok found
+    → cond json (of_object read_others text_kind demand r.body) (cond jwt (of_token types demand.reading demand.verifier r.body) other) ≡ Ok found
     → any_float (list_of found.additional_claims) ≡ false
 by_type true jwt demand r other found none h = of_object_free demand r.body found h
 by_type false true demand r other found none h = of_token_free demand r.body found h

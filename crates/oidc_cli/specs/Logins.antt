@@ -18,6 +18,7 @@ client_of line = record (new_client line.id line.provider.issuer []) {
   client_secret = line.secret;
   redirect_uri = line.redirect;
   allowed = Some line.algorithms;
+  reading = line.reading;
   auth_uri = Some line.provider.auth;
   token_uri = Some line.provider.token;
   user_info_url = line.provider.user_info;

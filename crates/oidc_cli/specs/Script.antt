@@ -4,7 +4,7 @@ use Rattle.std.specs.Str.{bytes_eq}
 use Rattle.std.specs.List.{slice_split, list_all, list_any}
 use Rattle.oidc_pairs.specs.Pairs.{pairs}
 use Rattle.oidc_oauth2.specs.Messages.{SeenResponse, SeenAnswer}
-use Rattle.oidc_cli.specs.Values.{◌>>=◌, url_of_text, pair_text, pair_value, lacks, optional_value, algorithms_of, demand_of, moment_of_text, status_code_of, content_type_of}
+use Rattle.oidc_cli.specs.Values.{◌>>=◌, url_of_text, pair_text, pair_value, lacks, optional_value, algorithms_of, demand_of, reading_on, moment_of_text, status_code_of, content_type_of}
 use Rattle.oidc_cli.specs.Events.{SeenProviderUrls, SeenClientLine, SeenCallbackLine}
 use Rattle.oidc_cli.specs.declared.events.BeginLine.{BeginLine}
 use Rattle.oidc_cli.specs.declared.events.LineKind.{LineKind}
@@ -45,6 +45,7 @@ names_of line_kind.Client =
     ∷ codes "userinfo"
     ∷ codes "algs"
     ∷ codes "redirect"
+    ∷ codes "reading"
     ∷ []
 names_of line_kind.Begin =
     codes "op"
@@ -78,8 +79,8 @@ has_each_name_once kind line =
 
 -- ---- events
 
--- A client line may lack `secret` and `redirect`, a begin line `redirect`, and both may lack `userinfo`; a callback line has
--- `now` and `query`, and may have answers.
+-- A client line may lack `secret`, `redirect` and `reading`, a begin line `redirect`, and both may lack `userinfo`; a
+-- callback line has `now` and `query`, and may have answers.
 
 unfoldable pub provider_urls : List (List ℕ × List ℕ) → Option SeenProviderUrls
 provider_urls line = do
@@ -91,12 +92,20 @@ provider_urls line = do
 
 abbrev pub client_values : List (List ℕ × List ℕ) → Option SeenClientLine
 client_values line = do
+  reading ← reading_on line
   id ← pair_text line (codes "id")
   secret ← optional_value Some line (codes "secret")
   redirect ← optional_value url_of_text line (codes "redirect")
   algorithms ← pair_value algorithms_of line (codes "algs")
   provider ← provider_urls line
-  Some (record { id = id; secret = secret; provider = provider; redirect = redirect; algorithms = algorithms })
+  Some (record {
+    id = id;
+    secret = secret;
+    provider = provider;
+    redirect = redirect;
+    algorithms = algorithms;
+    reading = reading;
+  })
 
 abbrev pub begin_values : List (List ℕ × List ℕ) → Option BeginLine
 begin_values line = do

@@ -5,6 +5,8 @@ use Rattle.std.specs.Str.{all_ascii_digits, bytes_eq}
 use Rattle.std.specs.Str.Parse.{digits_value}
 use Rattle.url.specs.Parser.{parse_url}
 use Rattle.http_header.specs.Token.{is_visible_or_blank}
+use Rattle.oidc_members.specs.declared.reading.Reading.{Reading}
+use Rattle.oidc_members.specs.declared.reading.TheConstants.Reading.{STRICT}
 use Rattle.oidc_types.specs.declared.core_algorithms.CoreJwsSigningAlgorithm.{CoreJwsSigningAlgorithm}
 use Rattle.oidc_types.specs.{TextAndUrl, find_word, signing_text, signing_algorithms}
 use Rattle.oidc_readers.specs.Moments.{moment_at}
@@ -57,6 +59,18 @@ all_algorithms (text ∷ texts) =
 unfoldable pub algorithms_of : List ℕ → Option (List CoreJwsSigningAlgorithm)
 algorithms_of [] = Some []
 algorithms_of (b ∷ text) = all_algorithms (slice_split (λ c. c == 32) (b ∷ text))
+
+-- ---- readings
+
+-- `lenient` takes texts for booleans and for moments
+abbrev pub reading_of : List ℕ → Option Reading
+reading_of text =
+    if bytes_eq text (codes "lenient") then Some (record { string_booleans = true; rfc3339_moments = true }) else None
+
+-- the reading of a line that names one, and else the strict one
+abbrev pub reading_on : List (List ℕ × List ℕ) → Option Reading
+reading_on line =
+    if lacks line (codes "reading") then Some STRICT else pair_value reading_of line (codes "reading")
 
 -- ---- demands
 

@@ -1,6 +1,7 @@
 //! What the lines of a script say.
 use jiff::Timestamp;
 use oidc_login::UserInfoDemand;
+use oidc_members::Reading;
 use oidc_oauth2::Answer;
 use oidc_types::{
     AuthUrl, ClientId, ClientSecret, CoreJwsSigningAlgorithm, CsrfToken, IssuerUrl,
@@ -41,6 +42,7 @@ pub struct ClientLine {
     pub provider: ProviderUrls,
     pub redirect: Option<RedirectUrl>,
     pub algorithms: Vec<CoreJwsSigningAlgorithm>,
+    pub reading: Reading,
 }
 
 impl Model for ClientLine {
@@ -54,6 +56,7 @@ impl Model for ClientLine {
       provider = c.provider;
       redirect = c.redirect;
       algorithms = c.algorithms.items;
+      reading = c.reading;
     } };
 }
 

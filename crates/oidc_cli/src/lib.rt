@@ -22,7 +22,8 @@
 //! line, and each later one a begin or a callback line. A name with a `?` may be left out.
 //!
 //! - `op=client`: `id`, `secret?`, and the URL texts `issuer`, `auth`, `token`, `userinfo?` and `redirect?`; `algs`,
-//!   the texts of signing algorithms with one space between them.
+//!   the texts of signing algorithms with one space between them; `reading?`, which is `lenient`, where texts are taken
+//!   for booleans and moments of ID tokens and user info.
 //! - `op=begin`: `state`, `nonce` and `verifier`; `redirect?`, a URL text; `userinfo?`, which is `json` or `jwt`, where
 //!   user info is asked for.
 //! - `op=callback`: `now`, whole seconds since the Unix epoch; `query`; and the answer to the token

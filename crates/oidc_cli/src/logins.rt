@@ -56,9 +56,11 @@ pub(crate) fn client_of(alloc: Global, line: ClientLine) -> LoginClient
         provider,
         redirect,
         algorithms,
+        reading,
     } = line;
     let provider = provider_of(alloc, provider, algorithms);
     let client: LoginClient = Client::from_provider_metadata(provider, id, secret);
+    let client = client.set_reading(reading);
     match redirect {
         None => client,
         Some(redirect) => client.set_redirect_uri(redirect),

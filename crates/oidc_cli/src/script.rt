@@ -14,7 +14,8 @@ use crate::events::{
 };
 use crate::script::answers::read_answers;
 use crate::script::values::{
-    optional_demand, optional_text, optional_url, pair_algorithms, pair_moment, pair_text, pair_url,
+    optional_demand, optional_text, optional_url, pair_algorithms, pair_moment, pair_text,
+    pair_url, reading_on,
 };
 use memchr::memchr;
 use oidc_pairs::BorrowedPairs;
@@ -86,7 +87,15 @@ fn is_client_name(name: &str) -> bool
 {
     matches!(
         name,
-        "op" | "id" | "secret" | "issuer" | "auth" | "token" | "userinfo" | "algs" | "redirect"
+        "op" | "id"
+            | "secret"
+            | "issuer"
+            | "auth"
+            | "token"
+            | "userinfo"
+            | "algs"
+            | "redirect"
+            | "reading"
     )
 }
 
@@ -191,6 +200,7 @@ fn read_urls(alloc: Global, line: &BorrowedPairs<'_>) -> Result<ProviderUrls, Li
 fn read_client(alloc: Global, line: &BorrowedPairs<'_>) -> Result<ClientLine, LineError>
     ensures { Reads (λ read. read) result (client_values line.now) }
 {
+    let reading = reading_on(line)?;
     let id = pair_text(alloc, line, "id")?;
     let with_secret = beside(id, read_secret(alloc, line))?;
     let with_redirect = beside(with_secret, optional_url(alloc, line, "redirect"))?;
@@ -203,6 +213,7 @@ fn read_client(alloc: Global, line: &BorrowedPairs<'_>) -> Result<ClientLine, Li
         provider,
         redirect,
         algorithms,
+        reading,
     })
 }
 

@@ -2,6 +2,8 @@
 -- 3.1.3.7 and 5.3), and when its type is right about its endpoints.
 use Rattle.std.specs.Prelude.{◌≡◌, ℕ, List, [], ◌∷◌, Bool, true, false, Option, None, Some, option_map, if◌then◌else◌, codes}
 use Rattle.url.specs.Parts.{serialize}
+use Rattle.oidc_members.specs.declared.reading.Reading.{Reading}
+use Rattle.oidc_members.specs.declared.reading.TheConstants.Reading.{STRICT}
 use Rattle.oidc_types.specs.{TextAndUrl}
 use Rattle.oidc_types.specs.declared.endpoint.Presence.{Presence}
 use Rattle.oidc_types.specs.declared.endpoint.Presence.TheVariants.{Set, NotSet, MaybeSet}
@@ -29,6 +31,10 @@ pub record SeenClient (Key Algorithm : Type 0) : Type 0 where
   pub redirect_uri : Option TextAndUrl
   -- whether its requests ask for the scope `openid`
   pub openid_scope : Bool
+  -- how it reads ID tokens and user info
+  pub reading : Reading
+  -- whether the ID token of a hybrid answer has to have the hash of its code
+  pub code_hash_required : Bool
   pub issuer : TextAndUrl
   pub keys : List Key
   -- the signing algorithms that it allows, where there is a list
@@ -40,7 +46,7 @@ pub record SeenClient (Key Algorithm : Type 0) : Type 0 where
   pub token_uri : Option TextAndUrl
   pub user_info_url : Option TextAndUrl
 
--- a client of whose provider nothing but issuer and keys is known
+-- a client of whose provider nothing but issuer and keys is known; it reads strictly, and demands no hash of a code
 abbrev pub new_client : {Key Algorithm : Type 0} → List ℕ → TextAndUrl → List Key → SeenClient Key Algorithm
 new_client client_id issuer keys = record {
   client_id = client_id;
@@ -48,6 +54,8 @@ new_client client_id issuer keys = record {
   auth_type = BasicAuth;
   redirect_uri = None;
   openid_scope = true;
+  reading = STRICT;
+  code_hash_required = false;
   issuer = issuer;
   keys = keys;
   allowed = None;
@@ -102,7 +110,7 @@ client_auth_of client = record {
   auth_type = client.auth_type;
 }
 
--- the exchange of a code at this endpoint, with the client's redirect, where it has one
+-- the exchange of a code at this endpoint, with the client's redirect, where it has one, under the client's reading
 abbrev pub code_request_at : {Key Algorithm : Type 0} → SeenClient Key Algorithm → List ℕ → TextAndUrl
     → SeenCodeRequest
 code_request_at client code endpoint = record {
@@ -112,12 +120,18 @@ code_request_at client code endpoint = record {
   verifier = None;
   redirect_uri = option_map (λ u. u.text) client.redirect_uri;
   extra = [];
+  reading = client.reading;
 }
 
 -- the request with these pairs of its own at this endpoint, without scopes and further pairs
 abbrev pub form_request_at : {Key Algorithm : Type 0} → SeenClient Key Algorithm → form.Pairs → TextAndUrl
     → SeenFormRequest
 form_request_at client own endpoint = form.new_request (serialize endpoint.url) (client_auth_of client) own
+
+-- the same for tokens, under the client's reading
+abbrev pub token_request_at : {Key Algorithm : Type 0} → SeenClient Key Algorithm → form.Pairs → TextAndUrl
+    → SeenFormRequest
+token_request_at client own endpoint = record (form_request_at client own endpoint) { reading = client.reading }
 
 -- the scopes of a new request that has any
 abbrev pub first_scopes : {Key Algorithm : Type 0} → SeenClient Key Algorithm → List (List ℕ)
@@ -138,14 +152,18 @@ introspection_at client token endpoint =
 abbrev pub IsSecure : TextAndUrl → Type 0
 IsSecure endpoint = endpoint.url.scheme ≡ codes "https"
 
--- the request for user info at this endpoint, for answers that needn't be signed
+-- the request for user info at this endpoint, for answers that needn't be signed, under the client's reading
 abbrev pub info_request_at : {Key Algorithm : Type 0} → SeenClient Key Algorithm → List ℕ → Option (List ℕ)
     → TextAndUrl → SeenInfoRequest Key
 info_request_at client token subject endpoint = record {
   address = endpoint.text;
   access_token = token;
   response_type = Json;
-  demand = record { signed = false; verifier = user_info_verifier_of client subject };
+  demand = record {
+    signed = false;
+    reading = client.reading;
+    verifier = user_info_verifier_of client subject;
+  };
 }
 
 -- the error says that the endpoint of this name isn't set

@@ -12,6 +12,7 @@ mod settings;
 use crate::provider_metadata::ProviderMetadata;
 use oidc_claims::EmptyAdditionalClaims;
 use oidc_keys::{CoreJsonWebKey, JsonWebKey, JsonWebKeySet};
+use oidc_members::Reading;
 use oidc_oauth2::{
     AuthType, CoreErrorResponseType, CoreRevocableToken, CoreRevocationErrorResponse,
     CoreTokenIntrospectionResponse, StandardErrorResponse,
@@ -34,6 +35,8 @@ struct OwnValues<K: JsonWebKey> {
     auth_type: AuthType,
     redirect_uri: Option<RedirectUrl>,
     openid_scope: bool,
+    reading: Reading,
+    code_hash_required: bool,
     issuer: IssuerUrl,
     jwks: JsonWebKeySet<K>,
     allowed_algs: Option<Vec<K::SigningAlgorithm>>,
@@ -166,6 +169,8 @@ impl<
       auth_type = c.own.auth_type;
       redirect_uri = c.own.redirect_uri;
       openid_scope = c.own.openid_scope;
+      reading = c.own.reading;
+      code_hash_required = c.own.code_hash_required;
       issuer = c.own.issuer;
       keys = c.own.jwks;
       allowed = option_map (λ algs. algs.items) c.own.allowed_algs;
@@ -207,7 +212,7 @@ impl<AC, AD, GC, JE, K: JsonWebKey, P, TE, TR, TIR, RT, TRE> Client<
 > {
     /// A client with this ID of the provider with this issuer and these keys. It has no secret, no redirect, no
     /// list of algorithms and no endpoint; it authenticates as `AuthType::BasicAuth` says once it has a secret,
-    /// and its requests ask for the scope `openid`. It takes no memory.
+    /// its requests ask for the scope `openid`, it reads strictly and demands no hash of a code. It takes no memory.
     pub fn new(client_id: ClientId, issuer: IssuerUrl, jwks: JsonWebKeySet<K>) -> Self
         ensures kept { result ≡ new_client client_id issuer jwks }
     {
@@ -218,6 +223,8 @@ impl<AC, AD, GC, JE, K: JsonWebKey, P, TE, TR, TIR, RT, TRE> Client<
                 auth_type: AuthType::BasicAuth,
                 redirect_uri: None,
                 openid_scope: true,
+                reading: Reading::STRICT,
+                code_hash_required: false,
                 issuer,
                 jwks,
                 allowed_algs: None,
@@ -272,6 +279,8 @@ impl<AC, AD, GC, JE, K: JsonWebKey, P, TE, TR, TIR, RT, TRE> Client<
                 auth_type: AuthType::BasicAuth,
                 redirect_uri: None,
                 openid_scope: true,
+                reading: Reading::STRICT,
+                code_hash_required: false,
                 issuer: metadata.issuer,
                 jwks: metadata.jwks,
                 allowed_algs: Some(metadata.signing_algorithms),

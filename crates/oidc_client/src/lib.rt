@@ -8,6 +8,9 @@
 //! - `exchange_code`, `user_info` and `id_token_verifier` of a client make the request for tokens, the request for
 //!   user info, and what the client expects of an ID token. Its other exchanges, `introspect` and `revoke_token` make
 //!   the requests of `oidc_oauth2_requests`.
+//! - `set_reading` says how ID tokens and user info are read, for a provider that writes booleans or moments as texts;
+//!   `require_code_hash` that the ID token beside a code has to have its hash, for a site that exchanges the codes of
+//!   hybrid answers. At first a client reads strictly and demands none.
 //!
 //! What it promises. A client whose type says `EndpointSet` has that URL, and one whose type says
 //! `EndpointNotSet` has none. A setter changes its own field and no other. A new request has the client's values,

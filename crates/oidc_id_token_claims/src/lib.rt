@@ -2,7 +2,8 @@
 //! Connect Core 1.0 sections 2, 5.1 and 5.1.2).
 //!
 //! - [`IdTokenClaims`] are fields of the token's own, the standard claims, and additional claims of a caller's
-//!   type. They are a [`Payload`](oidc_jwt::Payload) of a JSON Web Token.
+//!   type. They are a [`Payload`](oidc_jwt::Payload) of a JSON Web Token, and are read under the
+//!   [`Reading`](oidc_members::Reading) of their members: a text may be a boolean or a moment where it says so.
 //! - [`additional_copies`] are the members that are neither a field nor a standard claim.
 //! - [`laws`] says what holds of the claims as a whole.
 //!

@@ -151,7 +151,8 @@ impl<JE: ClosedVocabulary, JS: ClosedVocabulary, P: Payload> JsonWebToken<JE, JS
         JsonWebToken::read_with(alloc, text, Reading::STRICT)
     }
 
-    /// The same, with the payload read under that reading.
+    /// The token that a text is, its payload read under this reading. It is refused as by
+    /// [`JsonWebToken::read`], the payload as it is under this reading.
     #[tactic(auto, unfolding(crate::specs::Tokens::token_of))]
     pub fn read_with(alloc: Global, text: &str, reading: Reading) -> Result<Self, ParseError>
         ensures answer { let payload_read = P.read_of reading in

@@ -2,7 +2,8 @@
 //!
 //! - [`JsonWebToken`] is a token in the compact serialization (RFC 7515 section 7.1, RFC 7519 section
 //!   3), over any [`Payload`]. [`TokenHeader`] is its header. [`JsonWebToken::read`] is the token that a text is,
-//!   and [`JsonWebToken::new`] issues one.
+//!   and [`JsonWebToken::new`] issues one. [`JsonWebToken::read_with`] reads the payload under a
+//!   [`Reading`](oidc_members::Reading): a text may be a boolean or a moment where it says so; `read` reads it strictly.
 //! - A payload is written by the writers of `oidc_readers`, `put` and those beside it.
 //!
 //! What it promises. A text is read exactly as `token_of` says, with the refusal that comes first: the

@@ -1,6 +1,7 @@
 -- What a response is worth is never a fault of the transport, a request that isn't made, want of memory, or
 -- too long; and what the steps answer by it.
 use Rattle.std.proofs.Common.{◌≡◌, ℕ, List, Bool, true, false, Result, Ok, Err, refl, ap, subst}
+use Rattle.oidc_members.specs.declared.reading.Reading.{Reading}
 use Rattle.oidc_oauth2.specs.Messages.{SeenResponse}
 use Rattle.oidc_oauth2.specs.ErrorResponse.{SeenError, error_response_of}
 use Rattle.oidc_oauth2.specs.Words.{error_of}
@@ -80,36 +81,36 @@ module _ {E : Type 0} where
 
 -- ---- the step on a response
 
-module _ {AC GC Key Use : Type 0} (types : SiteTypes AC GC Key Use) (r : SeenResponse) where
-  pub judged : IsJudged (Tokens AC GC) CoreError (tokens_or_refusal types r)
+module _ {AC GC Key Use : Type 0} (types : SiteTypes AC GC Key Use) (reading : Reading) (r : SeenResponse) where
+  pub judged : IsJudged (Tokens AC GC) CoreError (tokens_or_refusal types reading r)
   unfolding tokens_or_refusal
-  judged = status_worth-judged (Tokens AC GC) CoreError (error_response_of error_of) (tokens_read types) r
+  judged = status_worth-judged (Tokens AC GC) CoreError (error_response_of error_of) (tokens_read types reading) r
 
   -- what a response rests on, by the rows on it, and back
-  pub rests : StatusRests error_read (tokens_read types) r (tokens_or_refusal types r)
+  pub rests : StatusRests error_read (tokens_read types reading) r (tokens_or_refusal types reading r)
   unfolding tokens_or_refusal
-  rests = status-rests error_read (tokens_read types) r
+  rests = status-rests error_read (tokens_read types reading) r
 
-  pub tokens_back : (tokens : Tokens AC GC) → HoldsTokens error_read (tokens_read types) r tokens → tokens_or_refusal types r ≡ Ok tokens
+  pub tokens_back : (tokens : Tokens AC GC) → HoldsTokens error_read (tokens_read types reading) r tokens → tokens_or_refusal types reading r ≡ Ok tokens
   unfolding tokens_or_refusal
-  tokens_back tokens held = tokens_worth error_read (tokens_read types) r tokens held
+  tokens_back tokens held = tokens_worth error_read (tokens_read types reading) r tokens held
 
-  pub refusal_back : (e : TokenError) → StatusCause error_read (tokens_read types) r e → tokens_or_refusal types r ≡ Err e
+  pub refusal_back : (e : TokenError) → StatusCause error_read (tokens_read types reading) r e → tokens_or_refusal types reading r ≡ Err e
   unfolding tokens_or_refusal
-  refusal_back e cause = refusal_worth error_read (tokens_read types) r e cause
+  refusal_back e cause = refusal_worth error_read (tokens_read types reading) r e cause
 
-  pub tokens_given : (tokens : Tokens AC GC) → token_answer (error_response_of error_of) (tokens_read types) r ≡ Ok tokens → tokens_of types r ≡ Ok tokens
+  pub tokens_given : (tokens : Tokens AC GC) → token_answer (error_response_of error_of) (tokens_read types reading) r ≡ Ok tokens → tokens_of types reading r ≡ Ok tokens
   unfolding token_answer tokens_of tokens_or_refusal
-  tokens_given tokens is = ok_row (is_over_long r.body) r.body (tokens_or_refusal types r) tokens is
+  tokens_given tokens is = ok_row (is_over_long r.body) r.body (tokens_or_refusal types reading r) tokens is
 
   module _ {E : Type 0} where
     abbrev Answered : Result (Tokens AC GC) (RequestTokenError E CoreError) → Type 0
-    Answered result = Gives token_errors result (token_answer (error_response_of error_of) (tokens_read types) r)
+    Answered result = Gives token_errors result (token_answer (error_response_of error_of) (tokens_read types reading) r)
 
-    pub refusal_given : (e : RequestTokenError E CoreError) → Answered (Err e) → Gives login_errors {A = Tokens AC GC} (Err (of_token e)) (tokens_of types r)
+    pub refusal_given : (e : RequestTokenError E CoreError) → Answered (Err e) → Gives login_errors {A = Tokens AC GC} (Err (of_token e)) (tokens_of types reading r)
     unfolding token_answer tokens_of tokens_or_refusal
-    refusal_given e is = err_row (is_over_long r.body) r.body (tokens_or_refusal types r) e judged is
+    refusal_given e is = err_row (is_over_long r.body) r.body (tokens_or_refusal types reading r) e judged is
 
     pub no_fault_given : (e : RequestTokenError E CoreError) → Answered (Err e) → faulted (of_token e) ≡ false
     unfolding token_answer tokens_or_refusal
-    no_fault_given e is = no_fault (is_over_long r.body) r.body (tokens_or_refusal types r) e judged is
+    no_fault_given e is = no_fault (is_over_long r.body) r.body (tokens_or_refusal types reading r) e judged is

@@ -79,7 +79,7 @@ module _ {AC GC Key Use : Type 0} (types : SiteTypes AC GC Key Use) (a : Attempt
   by_tokens l worth = (worth or_as login.Token) >>= λ tokens. by_id_token l tokens tokens.extra_fields.id_token
 
   abbrev by_size : SeenLogin → SeenResponse → Bool → Meant (SeenSignedIn AC GC)
-  by_size l r long = (login.TooLong place.TokenAnswer when long) >> by_tokens l (tokens_or_refusal types r)
+  by_size l r long = (login.TooLong place.TokenAnswer when long) >> by_tokens l (tokens_or_refusal types a.client.reading r)
 
   abbrev by_answer : SeenLogin → SeenAnswer → Meant (SeenSignedIn AC GC)
   by_answer l answer = (answer or login.Token (token_error.Request tt)) >>= λ r. by_size l r (is_over_long r.body)
@@ -90,19 +90,19 @@ module _ {AC GC Key Use : Type 0} (types : SiteTypes AC GC Key Use) (a : Attempt
 
   -- by what its response holds
   next_worth : (l : SeenLogin) (r : SeenResponse) (worth : Result (Tokens AC GC) TokenError) → first_answer answers ≡ Some r → is_over_long r.body ≡ false
-      → tokens_or_refusal types r ≡ worth → next l ≡ by_tokens l worth
+      → tokens_or_refusal types a.client.reading r ≡ worth → next l ≡ by_tokens l worth
   next_worth l r worth came short is = next_sized l r false came short ∙ ap (by_tokens l) is
 
   refused_tokens : (e : TokenError) → HasNoTokens types a answers e → reply ≡ Err (login.Token e)
   refused_tokens e c =
       let x = c.answered in
       token_refused c.login x.request _ x.asked
-      (next_worth c.login c.response (Err e) x.response_came x.not_too_long (refusal_back types c.response e c.cause))
+      (next_worth c.login c.response (Err e) x.response_came x.not_too_long (refusal_back types a.client.reading c.response e c.cause))
 
   next_tokens : (l : SeenLogin) (tokens : Tokens AC GC) → Reads types a answers l tokens → next l ≡ by_id_token l tokens tokens.extra_fields.id_token
   next_tokens l tokens reads =
       let x = reads.answered in
-      next_worth l reads.response (Ok tokens) x.response_came x.not_too_long (tokens_back types reads.response tokens reads.tokens_held)
+      next_worth l reads.response (Ok tokens) x.response_came x.not_too_long (tokens_back types a.client.reading reads.response tokens reads.tokens_held)
 
   -- ---- the rows on the ID token
 

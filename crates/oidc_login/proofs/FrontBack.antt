@@ -5,7 +5,7 @@ use Rattle.std.specs.Option.{ok_or}
 use Rattle.std.specs.Str.{bytes_eq}
 use Rattle.std.proofs.lemmas.Slice.Eq.{bytes_eq-Decides}
 use Rattle.oidc_members.specs.declared.refusal.Refusal.{Refusal}
-use Rattle.oidc_pairs.specs.Pairs.{pairs, values, first_of}
+use Rattle.oidc_pairs.specs.Pairs.{pairs, values, first_of, only_of}
 use Rattle.oidc_types.specs.{signing_text}
 use Rattle.oidc_types.specs.declared.core_algorithms.CoreJwsSigningAlgorithm.{CoreJwsSigningAlgorithm}
 use Rattle.oidc_types.specs.declared.core_authorization.CoreAuthErrorResponseType.{CoreAuthErrorResponseType}
@@ -19,9 +19,9 @@ use Rattle.oidc_tokens.specs.Signatures.{key_for}
 use Rattle.oidc_tokens.specs.declared.verification.refusals.ClaimsVerificationError.{ClaimsVerificationError}
 use Rattle.oidc_login.specs.Types.{SiteTypes}
 use Rattle.oidc_login.specs.BeforeRequest.{error_word, state_in, error_in}
-use Rattle.oidc_login.specs.Token.{SeenIdToken, id_token_of, KeyVerifier, verifier_of, is_sent, IsAcceptedBy, failure_for, claimed_hash, claimed_code_hash, refusal_of_claim, claims_another, refusal_beside, is_another_beside}
+use Rattle.oidc_login.specs.Token.{SeenIdToken, id_token_of, KeyVerifier, verifier_of, is_sent, IsAcceptedBy, failure_for, claimed_hash, claimed_code_hash, refusal_of_claim, claims_another, refusal_beside, is_another_beside, lacks_claim}
 use Rattle.oidc_login.specs.FrontChannel.{FrontReply, FrontAttempt, SeenFrontAnswer, front_answer, front, id_token_in, access_tokens_in, codes_in, is_several, token_hash_refusal, code_hash_refusal, has_other_token, has_other_code}
-use Rattle.oidc_login.specs.FrontCauses.{IsClaimed, IsAnotherHash, FitsValues, MisfitsValues, HasState, HasNoError, HasIdToken, ReadsIdToken, AcceptsIdToken, own_hash_function, HasHashes, IsFrontAnswer, FrontCause}
+use Rattle.oidc_login.specs.FrontCauses.{IsClaimed, LacksClaim, IsAnotherHash, FitsValues, MisfitsValues, HasState, HasNoError, HasIdToken, ReadsIdToken, AcceptsIdToken, own_hash_function, HasHashes, IsFrontAnswer, FrontCause}
 use Rattle.oidc_login.specs.declared.front.FrontError.{FrontError}
 use Rattle.oidc_login.specs.declared.front.FrontError.TheVariants as refusal
 use Rattle.oidc_login.proofs.Verification.{accepted}
@@ -41,6 +41,18 @@ sent_back own state is = ap (λ s. not (is_sent own s)) is ∙ same_as_sent own
 not_sent_back : (own : List ℕ) (state : Option (List ℕ)) → state ≢ Some own → not (is_sent own state) ≡ true
 not_sent_back own None other = refl
 not_sent_back own (Some state) other = ap not (differ state own (λ same. other (ap Some same)))
+
+-- ---- a test of three parts
+
+or_more : (a b c : Bool) → (a || b) ≡ true → (a || (b || c)) ≡ true
+or_more true b c is = refl
+or_more false true c is = refl
+or_more false false c is = absurd cc
+
+all_false : (a b c : Bool) → (a || b) ≡ false → c ≡ false → (a || (b || c)) ≡ false
+all_false true b c is none = is
+all_false false true c is none = is
+all_false false false c is none = none
 
 -- ---- a claim and the values that stand for it
 
@@ -103,6 +115,35 @@ module _ {AC GC Key Use : Type 0} (types : SiteTypes AC GC Key Use) (v : KeyVeri
   fits_back (Some claim) (text ∷ []) x = another_by claim text (Some claim) (x claim refl) ∙ same_as_sent claim
   fits_back claim (text ∷ next ∷ others) x = absurd x
 
+  -- ---- the same where a hash may be demanded
+
+  lacking : (demanded : Bool) (claim : Option (List ℕ)) (found : List (List ℕ)) → LacksClaim demanded claim found
+      → (is_several found || (is_another_beside types v token claim (first_of found) || lacks_claim demanded claim (first_of found))) ≡ true
+  lacking demanded claim [] x = let there : false ≡ true = x.has_value in absurd cc
+  lacking demanded None (text ∷ []) x = x.is_demanded
+  lacking demanded (Some claim) (text ∷ []) x = let none = x.no_claim in absurd cc
+  lacking demanded claim (text ∷ next ∷ others) x = refl
+
+  pub misfits_demanded : (demanded : Bool) (claim : Option (List ℕ)) (found : List (List ℕ)) → MisfitsValues types claim key alg found ⊎ LacksClaim demanded claim found
+      → (is_several found || (is_another_beside types v token claim (first_of found) || lacks_claim demanded claim (first_of found))) ≡ true
+  misfits_demanded demanded claim found misfit =
+      ⊎_elim
+      (λ x. or_more (is_several found) (is_another_beside types v token claim (first_of found)) (lacks_claim demanded claim (first_of found)) (misfits_back claim found x))
+      (lacking demanded claim found) misfit
+
+  nothing_lacks : (demanded : Bool) (claim : Option (List ℕ)) (found : List (List ℕ)) → FitsValues types claim key alg found → (demanded ≡ true → IsSome (only_of found) → IsSome claim)
+      → lacks_claim demanded claim (first_of found) ≡ false
+  nothing_lacks demanded claim [] x has = refl
+  nothing_lacks true None (text ∷ []) x has = let there : false ≡ true = has refl refl in absurd cc
+  nothing_lacks false None (text ∷ []) x has = refl
+  nothing_lacks demanded (Some claim) (text ∷ []) x has = refl
+  nothing_lacks demanded claim (text ∷ next ∷ others) x has = absurd x
+
+  pub fits_demanded : (demanded : Bool) (claim : Option (List ℕ)) (found : List (List ℕ)) → FitsValues types claim key alg found → (demanded ≡ true → IsSome (only_of found) → IsSome claim)
+      → (is_several found || (is_another_beside types v token claim (first_of found) || lacks_claim demanded claim (first_of found))) ≡ false
+  fits_demanded demanded claim found x has =
+      all_false (is_several found) (is_another_beside types v token claim (first_of found)) (lacks_claim demanded claim (first_of found)) (fits_back claim found x) (nothing_lacks demanded claim found x has)
+
   there_by : (own : Option (List ℕ → List ℕ)) (claim text : List ℕ) → hash_text own text ≡ Some claim → IsSome own
   there_by None claim text is = absurd cc
   there_by (Some hashes) claim text is = refl
@@ -141,7 +182,7 @@ module _ {AC GC Key Use : Type 0} (types : SiteTypes AC GC Key Use) (a : FrontAt
   other_token token = has_other_token types v token query
 
   abbrev other_code : SeenIdToken AC GC → Bool
-  other_code token = has_other_code types v token query
+  other_code token = has_other_code types v token query a.client.code_hash_required
 
   abbrev by_check : SeenIdToken AC GC → Option ClaimsVerificationError → FrontReply (SeenFrontAnswer AC GC)
   by_check token failure = (refusal.Claims for failure) >> by_hashes (of_token token) (of_code token) (other_token token) (other_code token) (front_answer token query)
@@ -150,7 +191,7 @@ module _ {AC GC Key Use : Type 0} (types : SiteTypes AC GC Key Use) (a : FrontAt
   by_reading read = (read or_as refusal.Parse) >>= λ token. by_check token (failure_for types a.client a.nonce a.now token)
 
   abbrev by_text : Option (List ℕ) → FrontReply (SeenFrontAnswer AC GC)
-  by_text text = (text or refusal.NoIdToken) >>= λ t. by_reading (id_token_of types t)
+  by_text text = (text or refusal.NoIdToken) >>= λ t. by_reading (id_token_of types a.client.reading t)
 
   abbrev by_error : Option CoreAuthErrorResponseType → FrontReply (SeenFrontAnswer AC GC)
   by_error code = (refusal.Provider for code) >> by_text (id_token_in query)
@@ -177,7 +218,7 @@ module _ {AC GC Key Use : Type 0} (types : SiteTypes AC GC Key Use) (a : FrontAt
   texted : (text : Option (List ℕ)) → HasNoError a → id_token_in query ≡ text → reply ≡ by_text text
   texted text x is = denied None x.has_state (no_error x.no_error) ∙ ap by_text is
 
-  read : (text : List ℕ) (reading : Result (SeenIdToken AC GC) Refusal) → HasIdToken a text → id_token_of types text ≡ reading → reply ≡ by_reading reading
+  read : (text : List ℕ) (reading : Result (SeenIdToken AC GC) Refusal) → HasIdToken a text → id_token_of types a.client.reading text ≡ reading → reply ≡ by_reading reading
   read text reading x is = texted (Some text) x.has_no_error x.one_id_token ∙ ap by_reading is
 
   checked : (token : SeenIdToken AC GC) (failure : Option ClaimsVerificationError) → ReadsIdToken types a token → failure_for types a.client a.nonce a.now token ≡ failure → reply ≡ by_check token failure
@@ -236,17 +277,20 @@ module _ {AC GC Key Use : Type 0} (types : SiteTypes AC GC Key Use) (a : FrontAt
         by_rows token x.accepted None None true (other_code token) token_hashed code_hashed
         (misfits_back types v token k.alg k.key k.signed k.chosen (claimed_hash token) (access_tokens_in query) other) refl
 
-    code_row : FitsValues types (claimed_hash token) k.key k.alg (access_tokens_in query) → MisfitsValues types (claimed_code_hash token) k.key k.alg (codes_in query) → reply ≡ Err refusal.CodeHash
+    code_row : FitsValues types (claimed_hash token) k.key k.alg (access_tokens_in query)
+        → MisfitsValues types (claimed_code_hash token) k.key k.alg (codes_in query) ⊎ LacksClaim a.client.code_hash_required (claimed_code_hash token) (codes_in query)
+        → reply ≡ Err refusal.CodeHash
     code_row fits other =
         by_rows token x.accepted None None false true token_hashed code_hashed
         (fits_back types v token k.alg k.key k.signed k.chosen (claimed_hash token) (access_tokens_in query) fits)
-        (misfits_back types v token k.alg k.key k.signed k.chosen (claimed_code_hash token) (codes_in query) other)
+        (misfits_demanded types v token k.alg k.key k.signed k.chosen a.client.code_hash_required (claimed_code_hash token) (codes_in query) other)
 
-    answer_row : FitsValues types (claimed_hash token) k.key k.alg (access_tokens_in query) → FitsValues types (claimed_code_hash token) k.key k.alg (codes_in query) → reply ≡ Ok (front_answer token query)
-    answer_row fits_token fits_code =
+    answer_row : FitsValues types (claimed_hash token) k.key k.alg (access_tokens_in query) → FitsValues types (claimed_code_hash token) k.key k.alg (codes_in query)
+        → (a.client.code_hash_required ≡ true → IsSome (only_of (codes_in query)) → IsSome (claimed_code_hash token)) → reply ≡ Ok (front_answer token query)
+    answer_row fits_token fits_code has =
         by_rows token x.accepted None None false false token_hashed code_hashed
         (fits_back types v token k.alg k.key k.signed k.chosen (claimed_hash token) (access_tokens_in query) fits_token)
-        (fits_back types v token k.alg k.key k.signed k.chosen (claimed_code_hash token) (codes_in query) fits_code)
+        (fits_demanded types v token k.alg k.key k.signed k.chosen a.client.code_hash_required (claimed_code_hash token) (codes_in query) fits_code has)
 
   -- ---- each row
 
@@ -276,4 +320,4 @@ module _ {AC GC Key Use : Type 0} (types : SiteTypes AC GC Key Use) (a : FrontAt
         of_code = fits_hashed types v token k.alg k.key k.signed k.chosen (claimed_code_hash token) (codes_in query) is.fits_code;
       } in
       let same : front_answer token query ≡ answer = λ i. record { id_token = token; access_token = sym is.own_access_token i; code = sym is.own_code i } in
-      answer_row token has_hashes is.fits_token is.fits_code ∙ ap Ok same
+      answer_row token has_hashes is.fits_token is.fits_code (λ wanted there. is.has_code_hash wanted (subst (λ o. IsSome o) (sym is.own_code) there)) ∙ ap Ok same

@@ -1,6 +1,6 @@
 -- What the table of `front_channel` says of its result, clause by clause.
 use Rattle.std.proofs.Common.{◌≡◌, ℕ, List, [], ◌∷◌, false, Option, Some, Result, Ok, Err, refl, sym, ap, subst, ◌∙◌}
-use Rattle.std.specs.Prelude.{IfOk, IfErr, IfSome, OnOk}
+use Rattle.std.specs.Prelude.{true, IfOk, IfErr, IfSome, IsSome, OnOk}
 use Rattle.oidc_pairs.specs.Pairs.{pairs, only_of}
 use Rattle.oidc_types.specs.declared.signing_error.SigningError.{SigningError}
 use Rattle.oidc_types.specs.declared.signing_error.SigningError.TheVariants as signing
@@ -102,6 +102,10 @@ module _ {AC GC Key Use : Type 0} (types : SiteTypes AC GC Key Use) (a : FrontAt
 
     pub ok_code_hash : IfOk result (λ answer. IfSome answer.code (HasOwnCodeHash types a.client answer.id_token))
     ok_code_hash = says {P = λ answer. IfSome answer.code (HasOwnCodeHash types a.client answer.id_token)} code_fits result answered
+
+    pub ok_demanded : a.client.code_hash_required ≡ true → IfOk result (λ answer. IsSome answer.code → IsSome (claimed_code_hash answer.id_token))
+    ok_demanded wanted =
+        says {P = λ answer. IsSome answer.code → IsSome (claimed_code_hash answer.id_token)} (λ answer is. is.has_code_hash wanted) result answered
 
     hides_by : NeverWants types → (r : Result (SeenFrontAnswer AC GC) FrontError) → IfErr r (λ e. Unless (is_memory e) (FrontCause types a e)) → IfErr r (λ e. holds_memory e ≡ false)
     hides_by law (Ok answer) c = tt

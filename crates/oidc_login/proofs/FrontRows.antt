@@ -1,8 +1,8 @@
 -- Each row of the table of `front_channel` has its cause: one line for each row, in the order of the table.
-use Rattle.std.proofs.Common.{◌≡◌, ◌≢◌, ℕ, List, [], ◌∷◌, true, false, Option, None, Some, Ok, refl, sym, ap, ◌∙◌, inl, inr}
-use Rattle.std.specs.Prelude.{not, ◌||◌, codes, IsSome}
+use Rattle.std.proofs.Common.{◌≡◌, ◌≢◌, ℕ, List, [], ◌∷◌, Bool, true, false, Option, None, Some, Ok, refl, sym, ap, ◌∙◌, inl, inr}
+use Rattle.std.specs.Prelude.{◌⊎◌, not, ◌||◌, codes, IsSome}
 use Rattle.std.specs.Option.{ok_or}
-use Rattle.oidc_pairs.specs.Pairs.{pairs, values, first_of}
+use Rattle.oidc_pairs.specs.Pairs.{pairs, values, first_of, only_of}
 use Rattle.oidc_types.specs.{signing_text}
 use Rattle.oidc_types.specs.declared.core_algorithms.CoreJwsSigningAlgorithm.{CoreJwsSigningAlgorithm}
 use Rattle.oidc_types.specs.declared.signing_error.SigningError.{SigningError}
@@ -15,9 +15,9 @@ use Rattle.oidc_tokens.specs.Signatures.{key_for}
 use Rattle.oidc_tokens.proofs.Theorems.{failure_cause}
 use Rattle.oidc_login.specs.Types.{SiteTypes}
 use Rattle.oidc_login.specs.BeforeRequest.{state_in, error_in}
-use Rattle.oidc_login.specs.Token.{SeenIdToken, id_token_of, KeyVerifier, verifier_of, is_sent, failure_for, claimed_hash, claimed_code_hash, FitsClaim, refusal_of_claim, claims_another, refusal_beside, is_another_beside}
+use Rattle.oidc_login.specs.Token.{SeenIdToken, id_token_of, KeyVerifier, verifier_of, is_sent, failure_for, claimed_hash, claimed_code_hash, FitsClaim, refusal_of_claim, claims_another, refusal_beside, is_another_beside, lacks_claim}
 use Rattle.oidc_login.specs.FrontChannel.{FrontAttempt, SeenFrontAnswer, front, id_token_in, access_tokens_in, codes_in, is_several, token_hash_refusal, code_hash_refusal, has_other_token, has_other_code}
-use Rattle.oidc_login.specs.FrontCauses.{IsClaimed, FitsValues, MisfitsValues, HasState, HasNoError, HasIdToken, ReadsIdToken, AcceptsIdToken, HasHashes, FitsToken, IsFrontAnswer, FrontCause}
+use Rattle.oidc_login.specs.FrontCauses.{IsClaimed, LacksClaim, FitsValues, MisfitsValues, HasState, HasNoError, HasIdToken, ReadsIdToken, AcceptsIdToken, HasHashes, FitsToken, IsFrontAnswer, FrontCause}
 use Rattle.oidc_login.specs.declared.front.FrontError.{FrontError}
 use Rattle.oidc_login.proofs.Walks.{Walk, at_or, at_or_as, at_when, at_for}
 use Rattle.oidc_login.proofs.Rows.{no_value}
@@ -36,6 +36,17 @@ not_sent own (Some state) other = λ is. differ_back state own other (same_some 
 sent : (own : List ℕ) (state : Option (List ℕ)) → not (is_sent own state) ≡ false → state ≡ Some own
 sent own None is = cc
 sent own (Some state) is = ap Some (same_back state own is)
+
+-- ---- parts of a test that fails, or doesn't
+
+without_false : (b : Bool) → (b || false) ≡ true → b ≡ true
+without_false true is = refl
+without_false false is = is
+
+first_false : (a b c : Bool) → (a || (b || c)) ≡ false → (a || b) ≡ false
+first_false true b c is = is
+first_false false true c is = is
+first_false false false c is = refl
 
 -- ---- a claim and the values that stand for it, by the hash function of the algorithm under its key, where there is one
 
@@ -113,6 +124,31 @@ module _ {AC GC Key Use : Type 0} (types : SiteTypes AC GC Key Use) (v : KeyVeri
   fits claim (text ∷ []) hashes is = claim_by claim text hashes is
   fits claim (text ∷ next ∷ others) hashes is = absurd cc
 
+  -- ---- the same where a hash may be demanded
+
+  -- one that isn't claimed, though it is demanded, or another, or several values
+  pub misfits_demanded : (demanded : Bool) (claim : Option (List ℕ)) (found : List (List ℕ))
+      → (is_several found || (is_another_beside types v token claim (first_of found) || lacks_claim demanded claim (first_of found))) ≡ true
+      → MisfitsValues types claim key alg found ⊎ LacksClaim demanded claim found
+  misfits_demanded demanded claim [] is = absurd cc
+  misfits_demanded demanded None (text ∷ []) is = inr (record { is_demanded = is; has_value = refl; no_claim = refl })
+  misfits_demanded demanded (Some claim) (text ∷ []) is =
+      inl (misfits (Some claim) (text ∷ []) (without_false (is_another_beside types v token (Some claim) (Some text)) is))
+  misfits_demanded demanded claim (text ∷ next ∷ others) is = inl tt
+
+  pub fits_demanded : (demanded : Bool) (claim : Option (List ℕ)) (found : List (List ℕ)) → (IsClaimed claim found → IsSome (types.keys.keys.hash_of key alg))
+      → (is_several found || (is_another_beside types v token claim (first_of found) || lacks_claim demanded claim (first_of found))) ≡ false → FitsValues types claim key alg found
+  fits_demanded demanded claim found hashes is =
+      fits claim found hashes (first_false (is_several found) (is_another_beside types v token claim (first_of found)) (lacks_claim demanded claim (first_of found)) is)
+
+  pub has_demanded : (demanded : Bool) (claim : Option (List ℕ)) (found : List (List ℕ))
+      → (is_several found || (is_another_beside types v token claim (first_of found) || lacks_claim demanded claim (first_of found))) ≡ false
+      → demanded ≡ true → IsSome (only_of found) → IsSome claim
+  has_demanded demanded claim [] is wanted there = absurd cc
+  has_demanded demanded None (text ∷ []) is wanted there = let no : true ≡ false = sym wanted ∙ is in absurd cc
+  has_demanded demanded (Some claim) (text ∷ []) is wanted there = refl
+  has_demanded demanded claim (text ∷ next ∷ others) is wanted there = absurd cc
+
 -- ---- the rows
 
 module _ {AC GC Key Use : Type 0} (types : SiteTypes AC GC Key Use) (a : FrontAttempt Key) where
@@ -139,7 +175,7 @@ module _ {AC GC Key Use : Type 0} (types : SiteTypes AC GC Key Use) (a : FrontAt
       let has_no_error : HasNoError a = record { has_state = has_state; no_error = no_value (values a.query (codes "error")) none } in
       at_or P Q (id_token_in query) _ _ (λ not_one. record { has_no_error = has_no_error; not_one_id_token = not_one }) (λ text one.
       let has_id_token : HasIdToken a text = record { has_no_error = has_no_error; one_id_token = one } in
-      at_or_as P Q (id_token_of types text) _ _ (λ why is. record { text = text; has_id_token = has_id_token; unread = is }) (λ token read.
+      at_or_as P Q (id_token_of types a.client.reading text) _ _ (λ why is. record { text = text; has_id_token = has_id_token; unread = is }) (λ token read.
       let reads : ReadsIdToken types a token = record { text = text; has_id_token = has_id_token; read = read } in
       at_for P Q (failure_for types a.client a.nonce a.now token) _ _ (λ kind is. record {
         token = token;
@@ -169,10 +205,10 @@ module _ {AC GC Key Use : Type 0} (types : SiteTypes AC GC Key Use) (a : FrontAt
         has_hashes = has_hashes;
         fits_token = fits types v token x.alg x.key x.signed x.chosen (claimed_hash token) (access_tokens_in query) has_hashes.of_token same_token;
       } in
-      at_when P Q (has_other_code types v token query) _ _ (λ other. record {
+      at_when P Q (has_other_code types v token query a.client.code_hash_required) _ _ (λ other. record {
         token = token;
         fits = fits_token;
-        other_code = misfits types v token x.alg x.key x.signed x.chosen (claimed_code_hash token) (codes_in query) other;
+        other_code = misfits_demanded types v token x.alg x.key x.signed x.chosen a.client.code_hash_required (claimed_code_hash token) (codes_in query) other;
       }) (λ same_code. record {
         short_query = short;
         own_state = has_state.own_state;
@@ -182,7 +218,8 @@ module _ {AC GC Key Use : Type 0} (types : SiteTypes AC GC Key Use) (a : FrontAt
         read = read;
         accepted = x;
         fits_token = fits_token.fits_token;
-        fits_code = fits types v token x.alg x.key x.signed x.chosen (claimed_code_hash token) (codes_in query) has_hashes.of_code same_code;
+        fits_code = fits_demanded types v token x.alg x.key x.signed x.chosen a.client.code_hash_required (claimed_code_hash token) (codes_in query) has_hashes.of_code same_code;
+        has_code_hash = has_demanded types v token x.alg x.key x.signed x.chosen a.client.code_hash_required (claimed_code_hash token) (codes_in query) same_code;
         own_access_token = refl;
         own_code = refl;
       }))))))))))

@@ -12,7 +12,7 @@ use Rattle.oidc_tokens.specs.declared.verification.refusals.ClaimsVerificationEr
 use Rattle.oidc_tokens.specs.Verification.{first_failure, Judges}
 use Rattle.oidc_login.specs.Types.{SeenLoginClient, SiteTypes}
 use Rattle.oidc_login.specs.BeforeRequest.{state_in, error_in}
-use Rattle.oidc_login.specs.Token.{SeenIdToken, id_token_of, KeyVerifier, verifier_of, is_sent, failure_for, claimed_hash, claimed_code_hash, refusal_beside, is_another_beside}
+use Rattle.oidc_login.specs.Token.{SeenIdToken, id_token_of, KeyVerifier, verifier_of, is_sent, failure_for, claimed_hash, claimed_code_hash, refusal_beside, is_another_beside, lacks_claim}
 use Rattle.oidc_login.specs.Steps.{RefusesAs}
 use Rattle.oidc_login.specs.FrontChannel.{FrontReply, FrontAttempt, SeenFrontAnswer, front_answer, front, front_errors, is_memory, id_token_in, access_tokens_in, codes_in, is_several, token_hash_refusal, code_hash_refusal, has_other_token, has_other_code}
 use Rattle.oidc_login.specs.FrontSteps.{of_signing, of_check, checked_state, checked_fits, token_in, checked_hashes, checked_token, answer_with, answer_in}
@@ -54,21 +54,21 @@ refused_hash meant rows row (signing.UnsupportedAlg name) is = row (signing.Unsu
 refused_hash meant rows row (signing.Other name) is = row (signing.Other name) is
 refused_hash meant rows row signing.Memory is = tt
 
-module _ {AC GC Key Use : Type 0} (types : SiteTypes AC GC Key Use) (v : KeyVerifier Key) (token : SeenIdToken AC GC) (query : List (List ℕ × List ℕ)) where
+module _ {AC GC Key Use : Type 0} (types : SiteTypes AC GC Key Use) (v : KeyVerifier Key) (demanded : Bool) (token : SeenIdToken AC GC) (query : List (List ℕ × List ℕ)) where
   abbrev rows : Option SigningError → Option SigningError → Bool → Bool → FrontReply (Unit {0})
   rows of_token of_code other_token other_code =
       (refusal.Signing for of_token) >> ((refusal.Signing for of_code) >> ((refusal.TokenHash when other_token) >> (refusal.CodeHash when other_code)))
 
   abbrev own : FrontReply (Unit {0})
-  own = checked_hashes types v token query
+  own = checked_hashes types v demanded token query
 
   -- the first row, where the access token has no hash
   token_row : (e : SigningError) → token_hash_refusal types v token query ≡ Some e → own ≡ Err (refusal.Signing e)
   unfolding checked_hashes
-  token_row e is = ap (λ r. rows r (code_hash_refusal types v token query) (has_other_token types v token query) (has_other_code types v token query)) is
+  token_row e is = ap (λ r. rows r (code_hash_refusal types v token query) (has_other_token types v token query) (has_other_code types v token query demanded)) is
 
   pub token_refused : (text : Option (List ℕ)) → text ≡ first_of (access_tokens_in query) → (e : SigningError) → RefusesAs (refusal_beside types v token (claimed_hash token) text) e
-      → Gives front_errors {A = Unit {0}} (Err (of_signing e)) (checked_hashes types v token query)
+      → Gives front_errors {A = Unit {0}} (Err (of_signing e)) (checked_hashes types v demanded token query)
   token_refused text first e is =
       refused_hash (token_hash_refusal types v token query) own token_row e (subst (λ t. RefusesAs (refusal_beside types v token (claimed_hash token) t) e) first is)
 
@@ -76,20 +76,24 @@ module _ {AC GC Key Use : Type 0} (types : SiteTypes AC GC Key Use) (v : KeyVeri
   code_row : token_hash_refusal types v token query ≡ None → (e : SigningError) → code_hash_refusal types v token query ≡ Some e → own ≡ Err (refusal.Signing e)
   unfolding checked_hashes
   code_row none e is =
-      ap (λ r. rows r (code_hash_refusal types v token query) (has_other_token types v token query) (has_other_code types v token query)) none
-      ∙ ap (λ r. rows None r (has_other_token types v token query) (has_other_code types v token query)) is
+      ap (λ r. rows r (code_hash_refusal types v token query) (has_other_token types v token query) (has_other_code types v token query demanded)) none
+      ∙ ap (λ r. rows None r (has_other_token types v token query) (has_other_code types v token query demanded)) is
 
   pub code_refused : (token_text : Option (List ℕ)) → token_text ≡ first_of (access_tokens_in query) → refusal_beside types v token (claimed_hash token) token_text ≡ None
       → (text : Option (List ℕ)) → text ≡ first_of (codes_in query) → (e : SigningError) → RefusesAs (refusal_beside types v token (claimed_code_hash token) text) e
-      → Gives front_errors {A = Unit {0}} (Err (of_signing e)) (checked_hashes types v token query)
+      → Gives front_errors {A = Unit {0}} (Err (of_signing e)) (checked_hashes types v demanded token query)
   code_refused token_text first_token none text first e is =
       let no_refusal : token_hash_refusal types v token query ≡ None = subst (λ t. refusal_beside types v token (claimed_hash token) t ≡ None) first_token none in
       refused_hash (code_hash_refusal types v token query) own (code_row no_refusal) e (subst (λ t. RefusesAs (refusal_beside types v token (claimed_code_hash token) t) e) first is)
 
+  -- a code whose hash isn't the one that is claimed, or of which none is, though it is demanded
+  abbrev pub misfits_code : Option (List ℕ) → Bool
+  misfits_code text = is_another_beside types v token (claimed_code_hash token) text || lacks_claim demanded (claimed_code_hash token) text
+
   -- the others, by whether they fit
   fitting : (of_token of_code : Bool) → token_hash_refusal types v token query ≡ None → code_hash_refusal types v token query ≡ None
       → is_another_beside types v token (claimed_hash token) (first_of (access_tokens_in query)) ≡ not of_token
-      → is_another_beside types v token (claimed_code_hash token) (first_of (codes_in query)) ≡ not of_code
+      → misfits_code (first_of (codes_in query)) ≡ not of_code
       → own ≡ checked_fits query of_token of_code
   unfolding checked_hashes
   fitting of_token of_code no_token no_code token_other code_other =
@@ -102,24 +106,24 @@ module _ {AC GC Key Use : Type 0} (types : SiteTypes AC GC Key Use) (v : KeyVeri
     pub token_hash : refusal_beside types v token (claimed_hash token) token_text ≡ None
     pub code_hash : refusal_beside types v token (claimed_code_hash token) code_text ≡ None
     pub token_other : is_another_beside types v token (claimed_hash token) token_text ≡ not of_token
-    pub code_other : is_another_beside types v token (claimed_code_hash token) code_text ≡ not of_code
+    pub code_other : misfits_code code_text ≡ not of_code
 
   pub fits_given : (token_text code_text : Option (List ℕ)) (of_token of_code : Bool) → AreJudged token_text code_text of_token of_code → (result : Result (Unit {0}) FrontError)
-      → Gives front_errors result (checked_fits query of_token of_code) → Gives front_errors result (checked_hashes types v token query)
+      → Gives front_errors result (checked_fits query of_token of_code) → Gives front_errors result (checked_hashes types v demanded token query)
   fits_given token_text code_text of_token of_code x result gives =
       subst (Gives front_errors result)
       (sym (fitting of_token of_code
       (subst (λ t. refusal_beside types v token (claimed_hash token) t ≡ None) x.first_token x.token_hash)
       (subst (λ t. refusal_beside types v token (claimed_code_hash token) t ≡ None) x.first_code x.code_hash)
       (subst (λ t. is_another_beside types v token (claimed_hash token) t ≡ not of_token) x.first_token x.token_other)
-      (subst (λ t. is_another_beside types v token (claimed_code_hash token) t ≡ not of_code) x.first_code x.code_other)))
+      (subst (λ t. misfits_code t ≡ not of_code) x.first_code x.code_other)))
       gives
 
 -- ---- the checks of an ID token
 
 module _ {AC GC Key Use : Type 0} (types : SiteTypes AC GC Key Use) (client : SeenLoginClient Key) (nonce : List ℕ) (now : ℤ) (query : List (List ℕ × List ℕ)) (token : SeenIdToken AC GC) where
   abbrev hashes_meant : FrontReply (Unit {0})
-  hashes_meant = checked_hashes types (verifier_of types client) token query
+  hashes_meant = checked_hashes types (verifier_of types client) client.code_hash_required token query
 
   checking_by : (failure : Option ClaimsVerificationError) → failure_for types client nonce now token ≡ failure
       → checked_token types client nonce now query token ≡ ((refusal.Claims for failure) >> hashes_meant)
@@ -132,11 +136,11 @@ module _ {AC GC Key Use : Type 0} (types : SiteTypes AC GC Key Use) (client : Se
   same_failure verifier is = ap (λ v. first_failure types.keys v (is_sent nonce) now token) is
 
   pub passed : (result : Result (Unit {0}) FrontError) (verifier : KeyVerifier Key) → verifier ≡ verifier_of types client
-      → first_failure types.keys verifier (is_sent nonce) now token ≡ None → Gives front_errors result (checked_hashes types verifier token query)
+      → first_failure types.keys verifier (is_sent nonce) now token ≡ None → Gives front_errors result (checked_hashes types verifier client.code_hash_required token query)
       → Gives front_errors result (checked_token types client nonce now query token)
   passed result verifier is none gives =
       subst (Gives front_errors result) (sym (checking_by None (sym (same_failure verifier is) ∙ none)))
-      (subst (λ v. Gives front_errors result (checked_hashes types v token query)) is gives)
+      (subst (λ v. Gives front_errors result (checked_hashes types v client.code_hash_required token query)) is gives)
 
   failed : (kind : ClaimsVerificationError) → failure_for types client nonce now token ≡ Some kind → checked_token types client nonce now query token ≡ Err (refusal.Claims kind)
   failed kind is = checking_by (Some kind) is
@@ -197,12 +201,12 @@ module _ {AC GC Key Use : Type 0} (types : SiteTypes AC GC Key Use) (a : FrontAt
       >> ((refusal.Signing for token_hash_refusal types (verifier_of types a.client) token query)
       >> ((refusal.Signing for code_hash_refusal types (verifier_of types a.client) token query)
       >> ((refusal.TokenHash when has_other_token types (verifier_of types a.client) token query)
-      >> ((refusal.CodeHash when has_other_code types (verifier_of types a.client) token query) >> Ok (front_answer token query))))))
+      >> ((refusal.CodeHash when has_other_code types (verifier_of types a.client) token query a.client.code_hash_required) >> Ok (front_answer token query))))))
       ≡ next token
   unfolding checked_token checked_hashes
   by_token token =
       by_rows (failure_for types a.client a.nonce a.now token) (token_hash_refusal types (verifier_of types a.client) token query) (code_hash_refusal types (verifier_of types a.client) token query)
-      (has_other_token types (verifier_of types a.client) token query) (has_other_code types (verifier_of types a.client) token query) (Ok (front_answer token query))
+      (has_other_token types (verifier_of types a.client) token query) (has_other_code types (verifier_of types a.client) token query a.client.code_hash_required) (Ok (front_answer token query))
 
   -- the rows behind the size of the query
   abbrev rest : FrontReply (SeenFrontAnswer AC GC)
@@ -214,8 +218,8 @@ module _ {AC GC Key Use : Type 0} (types : SiteTypes AC GC Key Use) (a : FrontAt
       let long = refusal.TooLong when is_over_long a.query in
       let other = refusal.State when not (is_sent a.state (state_in query)) in
       let denied = refusal.Provider for error_in query in
-      (λ i. long >> (other >> (denied >> ((id_token_in query or refusal.NoIdToken) >>= λ text. (id_token_of types text or_as refusal.Parse) >>= λ token. by_token token i))))
-      ∙ ap (λ m. long >> (other >> (denied >> m))) (by_text (id_token_in query) refusal.NoIdToken (λ text. id_token_of types text or_as refusal.Parse) next)
+      (λ i. long >> (other >> (denied >> ((id_token_in query or refusal.NoIdToken) >>= λ text. (id_token_of types a.client.reading text or_as refusal.Parse) >>= λ token. by_token token i))))
+      ∙ ap (λ m. long >> (other >> (denied >> m))) (by_text (id_token_in query) refusal.NoIdToken (λ text. id_token_of types a.client.reading text or_as refusal.Parse) next)
       ∙ ap (λ m. long >> m) (then_row other denied (answer_in types a.client a.nonce a.now query))
 
   behind_size : is_over_long a.query ≡ false → front types a ≡ rest

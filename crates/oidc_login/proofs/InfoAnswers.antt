@@ -3,7 +3,6 @@
 use Rattle.std.proofs.Common.{◌≡◌, ◌==◌, ℕ, List, Bool, true, false, Option, None, Some, Result, Ok, Err, refl, sym, ap, subst, ◌∙◌}
 use Rattle.std.specs.Prelude.{not, if◌then◌else◌, codes}
 use Rattle.std.specs.Str.{is_utf8}
-use Rattle.oidc_members.specs.declared.reading.TheConstants.Reading.{STRICT}
 use Rattle.oidc_members.specs.declared.refusal.Refusal.{Refusal}
 use Rattle.oidc_oauth2.specs.Messages.{SeenRequest, SeenResponse, SeenAnswer}
 use Rattle.oidc_oauth2.specs.Transport.{first_answer}
@@ -74,10 +73,10 @@ module _ {AC GC Key Use : Type 0} (types : SiteTypes AC GC Key Use) (demand : De
   abbrev pub Own : Result (SeenUserInfoClaims AC GC) InfoRefusal → Type 0
   Own = IsOwn IsAbout
 
-  json_own : (body : List ℕ) → Own (from_json types.additional types.gender STRICT demand.verifier.expected_subject body)
+  json_own : (body : List ℕ) → Own (from_json types.additional types.gender demand.reading demand.verifier.expected_subject body)
   unfolding from_json
   json_own body =
-      own_read IsAbout (claims_in types.additional types.gender STRICT body) _ (λ found.
+      own_read IsAbout (claims_in types.additional types.gender demand.reading body) _ (λ found.
       own_when IsAbout _ (not (is_expected_subject demand.verifier.expected_subject found.standard_claims.subject)) _ tt (λ passes.
       about demand.verifier.expected_subject found.standard_claims.subject (not_false _ passes)))
 
@@ -85,11 +84,11 @@ module _ {AC GC Key Use : Type 0} (types : SiteTypes AC GC Key Use) (demand : De
   unfolding of_object
   object_own body = own_when IsAbout _ demand.signed _ tt (λ unsigned. json_own body)
 
-  token_own : (body : List ℕ) → Own (of_token types demand.verifier body)
+  token_own : (body : List ℕ) → Own (of_token types demand.reading demand.verifier body)
   unfolding of_token
   token_own body =
       own_when IsAbout _ (not (is_utf8 body)) _ tt (λ text.
-      own_read IsAbout (token_in types body) _ (λ token.
+      own_read IsAbout (token_in types demand.reading body) _ (λ token.
       own_for IsAbout (failure_of types demand.verifier token) token.payload
       (λ none. (info_accepts types.keys demand.verifier token (parties_of token.payload) none).subject)))
 

@@ -49,19 +49,19 @@ module _ {AC GC Key Use : Type 0} (types : SiteTypes AC GC Key Use) (client : Se
       let another = refusal.TokenHash when has_another_hash types client token tokens.access_token in
       ap (λ m. check >> m) (then_row none another (Ok (signed_by token tokens))) ∙ then_row check (none >> another) (Ok (signed_by token tokens))
 
-  by_response : (r : SeenResponse) → user_of_answer types client now l (Some r) ≡ (tokens_of types r >>= λ tokens. user_of_tokens types client now l tokens)
+  by_response : (r : SeenResponse) → user_of_answer types client now l (Some r) ≡ (tokens_of types client.reading r >>= λ tokens. user_of_tokens types client now l tokens)
   unfolding user_of_answer tokens_of user_of_tokens
   by_response r =
-      then_value (refusal.TooLong place.TokenAnswer when is_over_long r.body) (tokens_or_refusal types r or_as refusal.Token) _
-      ∙ (λ i. tokens_of types r >>= λ tokens. (tokens.extra_fields.id_token or refusal.NoIdToken) >>= λ token. by_id_token tokens token i)
+      then_value (refusal.TooLong place.TokenAnswer when is_over_long r.body) (tokens_or_refusal types client.reading r or_as refusal.Token) _
+      ∙ (λ i. tokens_of types client.reading r >>= λ tokens. (tokens.extra_fields.id_token or refusal.NoIdToken) >>= λ token. by_id_token tokens token i)
 
   module _ {E : Type 0} (r : SeenResponse) where
-    pub by_tokens : (tokens : Tokens AC GC) (result : Result (SeenSignedIn AC GC) (LoginError E)) → tokens_of types r ≡ Ok tokens
+    pub by_tokens : (tokens : Tokens AC GC) (result : Result (SeenSignedIn AC GC) (LoginError E)) → tokens_of types client.reading r ≡ Ok tokens
         → Gives login_errors result (user_of_tokens types client now l tokens) → Gives login_errors result (user_of_answer types client now l (Some r))
     by_tokens tokens result is gives =
         subst (Gives login_errors result) (sym (by_response r ∙ ap (λ m. m >>= λ tokens. user_of_tokens types client now l tokens) is)) gives
 
-    pub without_tokens : (e : LoginError E) → Gives login_errors {A = Tokens AC GC} (Err e) (tokens_of types r)
+    pub without_tokens : (e : LoginError E) → Gives login_errors {A = Tokens AC GC} (Err e) (tokens_of types client.reading r)
         → Gives login_errors {A = SeenSignedIn AC GC} (Err e) (user_of_answer types client now l (Some r))
     without_tokens e gives =
         unless_map (wants_memory e) (λ is. by_response r ∙ ap (λ m. m >>= λ tokens. user_of_tokens types client now l tokens) is) gives

@@ -79,7 +79,7 @@ module _ {AC GC Key Use : Type 0} (types : SiteTypes AC GC Key Use) (a : Attempt
 
   -- ---- behind it
 
-  token_row : (l : SeenLogin) (r : SeenResponse) (e : TokenError) → Answered types a answers l r → StatusCause error_read (tokens_read types) r e → TokenCause types a answers e
+  token_row : (l : SeenLogin) (r : SeenResponse) (e : TokenError) → Answered types a answers l r → StatusCause error_read (tokens_read types a.client.reading) r e → TokenCause types a answers e
   token_row l r (token_error.Request cause) answered why = absurd why
   token_row l r (token_error.Other other.Uri) answered why = absurd why
   token_row l r (token_error.TooLong body) answered why = absurd why
@@ -90,7 +90,7 @@ module _ {AC GC Key Use : Type 0} (types : SiteTypes AC GC Key Use) (a : Attempt
   token_row l r (token_error.Parse refusal body) answered why = record { login = l; response = r; answered = answered; cause = why }
 
   abbrev IsHeldBy : SeenResponse → Result (Tokens AC GC) TokenError → Type 0
-  IsHeldBy r worth = StatusRests error_read (tokens_read types) r worth
+  IsHeldBy r worth = StatusRests error_read (tokens_read types a.client.reading) r worth
 
   abbrev pub held : SeenLogin → Tokens AC GC → SeenIdToken AC GC → Held AC GC
   held l ts token = record { login = l; tokens = ts; token = token }
@@ -152,9 +152,9 @@ module _ {AC GC Key Use : Type 0} (types : SiteTypes AC GC Key Use) (a : Attempt
       at_when _ _ (is_over_long r.body) _ _
       (λ long. record { login = l; request = request; asked = asked; response = r; response_came = came; too_long = long }) (λ short.
       let answered : Answered types a answers l r = record { request = request; asked = asked; response_came = came; not_too_long = short } in
-      at_or_as _ _ (tokens_or_refusal types r) _ _
-      (λ e is. token_row l r e answered (subst (IsHeldBy r) is (rests types r))) (λ ts is.
-      let reads : Reads types a answers l ts = record { response = r; answered = answered; tokens_held = subst (IsHeldBy r) is (rests types r) } in
+      at_or_as _ _ (tokens_or_refusal types a.client.reading r) _ _
+      (λ e is. token_row l r e answered (subst (IsHeldBy r) is (rests types a.client.reading r))) (λ ts is.
+      let reads : Reads types a answers l ts = record { response = r; answered = answered; tokens_held = subst (IsHeldBy r) is (rests types a.client.reading r) } in
       at_or _ _ ts.extra_fields.id_token _ _
       (λ none. record { login = l; tokens = ts; reads = reads; no_id_token = none }) (λ token own.
       check-walk (held l ts token) (record { reads = reads; own_id_token = own })))))

@@ -1,6 +1,7 @@
 -- A valid login signs in.
 use Rattle.std.proofs.Common.{◌≡◌, ℕ, List, drop, false, Option, None, Some, refl, sym, ap, ◌∙◌, inl, ⊎_elim}
 use Rattle.std.specs.Prelude.{option_map}
+use Rattle.oidc_members.specs.declared.reading.Reading.{Reading}
 use Rattle.oidc_oauth2.specs.Messages.{SeenResponse, SeenAnswer}
 use Rattle.oidc_oauth2.specs.Transport.{first_answer}
 use Rattle.oidc_oauth2.specs.AnswerCauses.{HoldsTokens}
@@ -21,14 +22,14 @@ use Rattle.oidc_login.proofs.Asked.{made}
 module _ {AC GC Key Use : Type 0} (types : SiteTypes AC GC Key Use) where
   -- ---- what the two answers hold
 
-  tokens_held : (tokens : Tokens AC GC) (r : SeenResponse) → IsValidTokenAnswer types tokens r → HoldsTokens error_read (tokens_read types) r tokens
-  tokens_held tokens r x = record { holds = record { success = x.success; json = x.json; some_body = x.some_body }; read = x.read }
+  tokens_held : (reading : Reading) (tokens : Tokens AC GC) (r : SeenResponse) → IsValidTokenAnswer types reading tokens r → HoldsTokens error_read (tokens_read types reading) r tokens
+  tokens_held reading tokens r x = record { holds = record { success = x.success; json = x.json; some_body = x.some_body }; read = x.read }
 
   same_text : (x y : List ℕ) → ◌≡◌ {A = Option (List ℕ)} (Some x) (Some y) → x ≡ y
   same_text x y e = cc
 
   info_held : (ask : SeenInfoRequest Key) (answers : List SeenAnswer) (subject : List ℕ) (found : SeenUserInfoClaims AC GC) (r : SeenResponse)
-      → IsAsked ask → first_answer answers ≡ Some r → IsValidInfoAnswer types subject found r → ask.demand.signed ≡ false
+      → IsAsked ask → first_answer answers ≡ Some r → IsValidInfoAnswer types ask.demand.reading subject found r → ask.demand.signed ≡ false
       → ask.demand.verifier.expected_subject ≡ Some subject → IsUserInfo ask answers types found
   info_held ask answers subject found r asked came x unsigned expected =
       let fits : FitsAnswer ask answers r = record { came = record { asked = asked; response_came = came }; not_too_long = x.not_too_long } in
@@ -51,7 +52,7 @@ module _ {AC GC Key Use : Type 0} (types : SiteTypes AC GC Key Use) where
         let answered : Answered types a answers v.login v.response =
         record { request = v.request; asked = asked; response_came = v.response_came; not_too_long = v.token_answer.not_too_long } in
         let reads : Reads types a answers v.login v.tokens =
-        record { response = v.response; answered = answered; tokens_held = tokens_held v.tokens v.response v.token_answer } in
+        record { response = v.response; answered = answered; tokens_held = tokens_held a.client.reading v.tokens v.response v.token_answer } in
         let holds : Holds types a answers (held v) = record { reads = reads; own_id_token = v.own_id_token } in
         let accepted : Accepted types a answers (held v) = record { holds = holds; accepts = v.accepted } in
         record { accepted = accepted; fits_hash = v.fits_hash }

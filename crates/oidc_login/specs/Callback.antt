@@ -62,7 +62,7 @@ unfoldable pub user_of_answer : {AC GC Key Use : Type 0} → SiteTypes AC GC Key
 user_of_answer types client now login answer = do
   response ← answer or Token (token_error.Request tt)
   TooLong place.TokenAnswer when is_over_long response.body
-  tokens ← tokens_or_refusal types response or_as Token
+  tokens ← tokens_or_refusal types client.reading response or_as Token
   token ← tokens.extra_fields.id_token or NoIdToken
   Claims for failure_for types client login.nonce now token
   Signing for hash_refusal types client token tokens.access_token

@@ -102,7 +102,7 @@ module _ {AC GC Key Use : Type 0} (types : SiteTypes AC GC Key Use) (a : Attempt
   pub record Reads (login : SeenLogin) (tokens : Tokens AC GC) : Type 0 where
     pub response : SeenResponse
     pub answered : Answered login response
-    pub tokens_held : HoldsTokens error_read (tokens_read types) response tokens
+    pub tokens_held : HoldsTokens error_read (tokens_read types a.client.reading) response tokens
 
   -- with this ID token among them
   pub record Holds (h : Held AC GC) : Type 0 where
@@ -201,7 +201,7 @@ module _ {AC GC Key Use : Type 0} (types : SiteTypes AC GC Key Use) (a : Attempt
     pub login : SeenLogin
     pub response : SeenResponse
     pub answered : Answered login response
-    pub cause : StatusCause error_read (tokens_read types) response e
+    pub cause : StatusCause error_read (tokens_read types a.client.reading) response e
 
   -- the tokens have no ID token among them
   pub record LacksIdToken : Type 0 where

@@ -1,5 +1,5 @@
 -- What each answer of `front_channel` rests on, said without its table.
-use Rattle.std.specs.Prelude.{◌≡◌, ◌≢◌, ◌⊎◌, ℕ, List, [], ◌∷◌, Option, None, Some, IsSome, false, true, Ok, Err, codes}
+use Rattle.std.specs.Prelude.{◌≡◌, ◌≢◌, ◌⊎◌, ℕ, List, [], ◌∷◌, Bool, Option, None, Some, IsSome, false, true, Ok, Err, codes}
 use Rattle.oidc_pairs.specs.Pairs.{pairs, values, first_of, only_of}
 use Rattle.oidc_members.specs.declared.refusal.Refusal.{Refusal}
 use Rattle.oidc_types.specs.{signing_text}
@@ -22,6 +22,12 @@ use Rattle.oidc_login.specs.declared.front.FrontError.TheVariants as refusal
 pub record IsClaimed (claim : Option (List ℕ)) (found : List (List ℕ)) : Type 0 where
   pub has_claim : IsSome claim
   pub has_value : IsSome (first_of found)
+
+-- a hash is demanded, a value is there, and none is claimed
+pub record LacksClaim (demanded : Bool) (claim : Option (List ℕ)) (found : List (List ℕ)) : Type 0 where
+  pub is_demanded : demanded ≡ true
+  pub has_value : IsSome (first_of found)
+  pub no_claim : claim ≡ None
 
 module _ {AC GC Key Use : Type 0} (types : SiteTypes AC GC Key Use) (claim : Option (List ℕ)) (key : Key)
     (alg : CoreJwsSigningAlgorithm) where
@@ -85,7 +91,7 @@ module _ {AC GC Key Use : Type 0} (types : SiteTypes AC GC Key Use) (a : FrontAt
   pub record ReadsIdToken (token : SeenIdToken AC GC) : Type 0 where
     pub text : List ℕ
     pub has_id_token : HasIdToken a text
-    pub read : id_token_of types text ≡ Ok token
+    pub read : id_token_of types a.client.reading text ≡ Ok token
 
   -- which is accepted with the request's nonce at this moment
   pub record AcceptsIdToken (token : SeenIdToken AC GC) : Type 0 where
@@ -115,19 +121,21 @@ module _ {AC GC Key Use : Type 0} (types : SiteTypes AC GC Key Use) (a : FrontAt
   -- An answer that is accepted: the query has the request's state, no error, one ID token, which the client accepts with
   -- the request's nonce at this moment, and at most one access token and one code. The `at_hash` is absent, or there is
   -- no access token, or it is the hash of the one, by the algorithm and under the key of the acceptance; and so the
-  -- `c_hash` and the code. (It rests on no record before, so that it can be read alone.)
+  -- `c_hash` and the code, where it isn't absent if the client demands it. (It rests on no record before, so that it can be read alone.)
   pub record IsFrontAnswer (answer : SeenFrontAnswer AC GC) : Type 0 where
     pub short_query : is_over_long a.query ≡ false
     pub own_state : only_of (values a.query (codes "state")) ≡ Some a.state
     pub no_error : values a.query (codes "error") ≡ []
     pub text : List ℕ
     pub one_id_token : only_of (values a.query (codes "id_token")) ≡ Some text
-    pub read : id_token_of types text ≡ Ok answer.id_token
+    pub read : id_token_of types a.client.reading text ≡ Ok answer.id_token
     pub accepted : IsAcceptedBy types a.client a.nonce a.now answer.id_token
     pub fits_token : FitsValues types (claimed_hash answer.id_token) accepted.key accepted.alg
         (values a.query (codes "access_token"))
     pub fits_code : FitsValues types (claimed_code_hash answer.id_token) accepted.key accepted.alg
         (values a.query (codes "code"))
+    pub has_code_hash : a.client.code_hash_required ≡ true → IsSome answer.code
+        → IsSome (claimed_code_hash answer.id_token)
     pub own_access_token : answer.access_token ≡ only_of (values a.query (codes "access_token"))
     pub own_code : answer.code ≡ only_of (values a.query (codes "code"))
 
@@ -137,7 +145,7 @@ module _ {AC GC Key Use : Type 0} (types : SiteTypes AC GC Key Use) (a : FrontAt
   pub record HasUnreadToken (why : Refusal) : Type 0 where
     pub text : List ℕ
     pub has_id_token : HasIdToken a text
-    pub unread : id_token_of types text ≡ Err why
+    pub unread : id_token_of types a.client.reading text ≡ Err why
 
   -- this check of the ID token is the first that fails
   pub record FailsFrontCheck (kind : ClaimsVerificationError) : Type 0 where
@@ -163,12 +171,13 @@ module _ {AC GC Key Use : Type 0} (types : SiteTypes AC GC Key Use) (a : FrontAt
     pub other_token : MisfitsValues types (claimed_hash token) has_hashes.accepted.accepts.key
         has_hashes.accepted.accepts.alg (values a.query (codes "access_token"))
 
-  -- there are several codes, or one whose hash isn't the `c_hash`
+  -- there are several codes, or one whose hash isn't the `c_hash`, or one without that where the client demands it
   pub record HasOtherCode : Type 0 where
     pub token : SeenIdToken AC GC
     pub fits : FitsToken token
     pub other_code : MisfitsValues types (claimed_code_hash token) fits.has_hashes.accepted.accepts.key
         fits.has_hashes.accepted.accepts.alg (values a.query (codes "code"))
+        ⊎ LacksClaim a.client.code_hash_required (claimed_code_hash token) (values a.query (codes "code"))
 
   -- ---- the cause of each refusal
 

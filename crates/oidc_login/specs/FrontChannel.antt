@@ -8,7 +8,7 @@ use Rattle.oidc_oauth2.specs.Replies.{◌>>=◌, ◌>>◌, ◌when◌, ◌for◌
 use Rattle.oidc_oauth2.specs.TokenAnswers.{is_over_long}
 use Rattle.oidc_login.specs.Types.{SeenLoginClient, SiteTypes}
 use Rattle.oidc_login.specs.BeforeRequest.{state_in, error_in}
-use Rattle.oidc_login.specs.Token.{SeenIdToken, id_token_of, KeyVerifier, verifier_of, is_sent, failure_for, claimed_hash, claimed_code_hash, refusal_beside, is_another_beside}
+use Rattle.oidc_login.specs.Token.{SeenIdToken, id_token_of, KeyVerifier, verifier_of, is_sent, failure_for, claimed_hash, claimed_code_hash, refusal_beside, is_another_beside, lacks_claim}
 use Rattle.oidc_login.specs.Errors.{is_wanting}
 use Rattle.oidc_login.specs.declared.front.FrontError.{FrontError}
 use Rattle.oidc_login.specs.declared.front.FrontError.TheVariants as refusal
@@ -60,7 +60,7 @@ front_answer token query = record {
   code = only_of (codes_in query);
 }
 
--- ---- the hashes that the ID token holds of what stands beside it; an absent one binds nothing
+-- ---- the hashes that the ID token holds of what stands beside it; an absent one binds nothing, but where it is demanded
 
 module _ {AC GC Key Use : Type 0} (types : SiteTypes AC GC Key Use) (v : KeyVerifier Key) (token : SeenIdToken AC GC)
     (query : List (List ℕ × List ℕ)) where
@@ -78,11 +78,12 @@ module _ {AC GC Key Use : Type 0} (types : SiteTypes AC GC Key Use) (v : KeyVeri
       is_several (access_tokens_in query)
       || is_another_beside types v token (claimed_hash token) (first_of (access_tokens_in query))
 
-  -- there are several codes, or one whose hash isn't the `c_hash`
-  abbrev pub has_other_code : Bool
-  has_other_code =
+  -- there are several codes, or one whose hash isn't the `c_hash`, or one without that where it is demanded
+  abbrev pub has_other_code : Bool → Bool
+  has_other_code demanded =
       is_several (codes_in query)
-      || is_another_beside types v token (claimed_code_hash token) (first_of (codes_in query))
+      || (is_another_beside types v token (claimed_code_hash token) (first_of (codes_in query))
+      || lacks_claim demanded (claimed_code_hash token) (first_of (codes_in query)))
 
 -- ---- the rows
 
@@ -99,7 +100,7 @@ front types a = do
   -- 3.2.2.5, 3.3.2.5
   text ← id_token_in (pairs a.query) or NoIdToken
   -- section 2; RFC 7515 section 7.1
-  token ← id_token_of types text or_as Parse
+  token ← id_token_of types a.client.reading text or_as Parse
   -- 3.2.2.11, 3.3.2.12; 3.1.3.7
   Claims for failure_for types a.client a.nonce a.now token
   -- 3.2.2.9, 3.3.2.9, 3.3.2.10
@@ -107,8 +108,8 @@ front types a = do
   Signing for code_hash_refusal types (verifier_of types a.client) token (pairs a.query)
   -- 3.2.2.9, 3.3.2.9; once each by RFC 6749 section 3.1
   TokenHash when has_other_token types (verifier_of types a.client) token (pairs a.query)
-  -- 3.3.2.10
-  CodeHash when has_other_code types (verifier_of types a.client) token (pairs a.query)
+  -- 3.3.2.10; a hash may be demanded by 3.3.2.11
+  CodeHash when has_other_code types (verifier_of types a.client) token (pairs a.query) a.client.code_hash_required
   Ok (front_answer token (pairs a.query))
 
 -- ---- what a result says of this

@@ -1,6 +1,7 @@
 -- What single functions of `front_channel` answer, between the rows of its table (`FrontChannel.antt`). No public clause
 -- cites this.
 use Rattle.std.specs.Prelude.{ℕ, ℤ, List, Bool, not, ◌||◌, Ok}
+use Rattle.oidc_members.specs.declared.reading.Reading.{Reading}
 use Rattle.oidc_types.specs.declared.signing_error.SigningError.{SigningError}
 use Rattle.oidc_types.specs.declared.signing_error.SigningError.TheVariants as signing
 use Rattle.oidc_oauth2.specs.Replies.{◌>>=◌, ◌>>◌, ◌when◌, ◌for◌, ◌or◌, ◌or_as◌}
@@ -39,26 +40,26 @@ checked_fits query token_fits code_fits = do
   CodeHash when is_several (codes_in query) || not code_fits
 
 module _ {AC GC Key Use : Type 0} (types : SiteTypes AC GC Key Use) where
-  -- those on its ID token
-  unfoldable pub token_in : List (List ℕ × List ℕ) → FrontReply (SeenIdToken AC GC)
-  token_in query = do
+  -- those on its ID token, under a reading
+  unfoldable pub token_in : Reading → List (List ℕ × List ℕ) → FrontReply (SeenIdToken AC GC)
+  token_in reading query = do
     text ← id_token_in query or NoIdToken
-    id_token_of types text or_as Parse
+    id_token_of types reading text or_as Parse
 
-  -- those on the hashes of what stands beside it
-  unfoldable pub checked_hashes : KeyVerifier Key → SeenIdToken AC GC → List (List ℕ × List ℕ) → FrontReply (Unit {0})
-  checked_hashes v token query = do
+  -- those on the hashes of what stands beside it, where that of a code may be demanded
+  unfoldable pub checked_hashes : KeyVerifier Key → Bool → SeenIdToken AC GC → List (List ℕ × List ℕ) → FrontReply (Unit {0})
+  checked_hashes v demanded token query = do
     Signing for token_hash_refusal types v token query
     Signing for code_hash_refusal types v token query
     TokenHash when has_other_token types v token query
-    CodeHash when has_other_code types v token query
+    CodeHash when has_other_code types v token query demanded
 
   -- those on an ID token that was read
   unfoldable pub checked_token : SeenLoginClient Key → List ℕ → ℤ → List (List ℕ × List ℕ) → SeenIdToken AC GC
       → FrontReply (Unit {0})
   checked_token client nonce now query token = do
     Claims for failure_for types client nonce now token
-    checked_hashes (verifier_of types client) token query
+    checked_hashes (verifier_of types client) client.code_hash_required token query
 
   -- and the answer with it
   abbrev pub answer_with : SeenLoginClient Key → List ℕ → ℤ → List (List ℕ × List ℕ) → SeenIdToken AC GC
@@ -71,5 +72,5 @@ module _ {AC GC Key Use : Type 0} (types : SiteTypes AC GC Key Use) where
   unfoldable pub answer_in : SeenLoginClient Key → List ℕ → ℤ → List (List ℕ × List ℕ)
       → FrontReply (SeenFrontAnswer AC GC)
   answer_in client nonce now query = do
-    token ← token_in query
+    token ← token_in client.reading query
     answer_with client nonce now query token

@@ -13,6 +13,7 @@ use Rattle.oidc_oauth2.specs.declared.token_answers.RequestTokenError.TheVariant
 use Rattle.oidc_tokens.specs.declared.verification.refusals.ClaimsVerificationError.{ClaimsVerificationError}
 use Rattle.oidc_tokens.specs.declared.verification.refusals.ClaimsVerificationError.TheVariants as check
 use Rattle.oidc_user_info.specs.UserInfoClaims.{SeenUserInfoClaims}
+use Rattle.oidc_members.specs.declared.reading.Reading.{Reading}
 use Rattle.oidc_user_info.specs.InfoAnswers.{Demand, info_answer}
 use Rattle.oidc_user_info.specs.InfoRequests.{SeenInfoRequest, info_request}
 use Rattle.oidc_user_info.specs.InfoRuns.{unmade}
@@ -75,11 +76,11 @@ checked_hash claim hash = do
   TokenHash when claims_another claim hash
 
 module _ {AC GC Key Use : Type 0} (types : SiteTypes AC GC Key Use) where
-  -- those on the response to the token request
-  unfoldable pub tokens_of : SeenResponse → Meant (Tokens AC GC)
-  tokens_of response = do
+  -- those on the response to the token request, with the ID token under a reading
+  unfoldable pub tokens_of : Reading → SeenResponse → Meant (Tokens AC GC)
+  tokens_of reading response = do
     TooLong place.TokenAnswer when is_over_long response.body
-    tokens_or_refusal types response or_as Token
+    tokens_or_refusal types reading response or_as Token
 
   -- those on the ID token, which came beside this access token
   unfoldable pub accepted_token : SeenLoginClient Key → ℤ → SeenLogin → SeenIdToken AC GC → List ℕ → Meant (Unit {0})

@@ -4,7 +4,7 @@ use Rattle.std.specs.Prelude.{◌≡◌, ℕ, ℤ, List, [], Bool, false, not, O
 use Rattle.std.specs.Option.{option_map_or}
 use Rattle.std.specs.Str.{bytes_eq}
 use Rattle.oidc_members.specs.Seen.{SeenMember}
-use Rattle.oidc_members.specs.declared.reading.TheConstants.Reading.{STRICT}
+use Rattle.oidc_members.specs.declared.reading.Reading.{Reading}
 use Rattle.oidc_members.specs.declared.refusal.Refusal.{Refusal}
 use Rattle.oidc_types.specs.{signing_text}
 use Rattle.oidc_types.specs.declared.signing_error.SigningError.{SigningError}
@@ -43,9 +43,9 @@ abbrev pub subject_of : {AC GC : Type 0} → SeenIdToken AC GC → List ℕ
 subject_of token = token.payload.standard_claims.subject
 
 module _ {AC GC Key Use : Type 0} (types : SiteTypes AC GC Key Use) where
-  -- the ID token that a text is, or why it is none
-  abbrev pub id_token_of : List ℕ → Result (SeenIdToken AC GC) Refusal
-  id_token_of = token_of types.encryption_named types.signing_named (id_token_claims_of types.additional types.gender STRICT)
+  -- the ID token that a text is under a reading, or why it is none
+  abbrev pub id_token_of : Reading → List ℕ → Result (SeenIdToken AC GC) Refusal
+  id_token_of reading = token_of types.encryption_named types.signing_named (id_token_claims_of types.additional types.gender reading)
 
 -- ---- the answer to the token request
 
@@ -68,16 +68,16 @@ abbrev pub TokenError : Type 0
 TokenError = TokenRefusal (SeenError CoreErrorResponseType)
 
 module _ {AC GC Key Use : Type 0} (types : SiteTypes AC GC Key Use) where
-  abbrev pub fields_of : List SeenMember → Result (Fields AC GC) Refusal
-  fields_of = response_fields_of (id_token_of types) no_others
+  abbrev pub fields_of : Reading → List SeenMember → Result (Fields AC GC) Refusal
+  fields_of reading = response_fields_of (id_token_of types reading) no_others
 
-  -- the tokens that the members of an object are
-  abbrev pub tokens_read : List SeenMember → Result (Tokens AC GC) Refusal
-  tokens_read = tokens_among token_type_of fields_of
+  -- the tokens that the members of an object are, with the ID token under a reading
+  abbrev pub tokens_read : Reading → List SeenMember → Result (Tokens AC GC) Refusal
+  tokens_read reading = tokens_among token_type_of (fields_of reading)
 
   -- the tokens that a response holds whose body isn't too long, or why it is refused
-  unfoldable pub tokens_or_refusal : SeenResponse → Result (Tokens AC GC) TokenError
-  tokens_or_refusal = status_worth error_read tokens_read
+  unfoldable pub tokens_or_refusal : Reading → SeenResponse → Result (Tokens AC GC) TokenError
+  tokens_or_refusal reading = status_worth error_read (tokens_read reading)
 
 -- ---- what is expected of the ID token
 
@@ -180,6 +180,12 @@ abbrev pub claims_another : Option (List ℕ) → Result (List ℕ) SigningError
 claims_another None hash = false
 claims_another (Some claim) (Ok hash) = not (bytes_eq hash claim)
 claims_another (Some claim) (Err refusal) = false
+
+-- a claim is demanded for a text that is there, and there is none
+abbrev pub lacks_claim : Bool → Option (List ℕ) → Option (List ℕ) → Bool
+lacks_claim demanded claim None = false
+lacks_claim demanded None (Some text) = demanded
+lacks_claim demanded (Some claim) (Some text) = false
 
 module _ {AC GC Key Use : Type 0} (types : SiteTypes AC GC Key Use) (v : KeyVerifier Key) (token : SeenIdToken AC GC) where
   -- why there is none of a text beside an ID token, where the text is there and a hash of it is claimed

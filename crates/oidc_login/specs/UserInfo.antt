@@ -11,7 +11,7 @@ module _ {Key : Type 0} where
   abbrev pub demanded : UserInfoDemand → SeenInfoRequest Key → SeenInfoRequest Key
   demanded demand ask = record ask {
     response_type = demand.response_type;
-    demand = record {
+    demand = record ask.demand {
       signed = demand.signed;
       verifier = record ask.demand.verifier {
         issuer_match = demand.issuer_match;

@@ -3,7 +3,7 @@
 use Rattle.std.specs.Prelude.{◌≡◌, ◌⊎◌, ℕ, List, [], drop, None, Some, false, true, Ok, codes}
 use Rattle.http_header.specs.FieldValue.{is_visible_text}
 use Rattle.oidc_pairs.specs.Pairs.{pairs, values, only_of}
-use Rattle.oidc_members.specs.declared.reading.TheConstants.Reading.{STRICT}
+use Rattle.oidc_members.specs.declared.reading.Reading.{Reading}
 use Rattle.oidc_oauth2.specs.Messages.{SeenRequest, SeenResponse, SeenAnswer}
 use Rattle.oidc_oauth2.specs.Requests.{is_address}
 use Rattle.oidc_oauth2.specs.Transport.{first_answer}
@@ -19,21 +19,22 @@ use Rattle.oidc_login.specs.Callback.{Attempt}
 use Rattle.oidc_login.specs.declared.types.UserInfoDemand.{UserInfoDemand}
 
 module _ {AC GC Key Use : Type 0} (types : SiteTypes AC GC Key Use) where
-  -- a response of status 200 and media type JSON, or none, whose body of 1 to 1,048,576 bytes reads as these tokens
-  pub record IsValidTokenAnswer (tokens : Tokens AC GC) (response : SeenResponse) : Type 0 where
+  -- a response of status 200 and media type JSON, or none, whose body of 1 to 1,048,576 bytes reads as these tokens under
+  -- the client's reading
+  pub record IsValidTokenAnswer (reading : Reading) (tokens : Tokens AC GC) (response : SeenResponse) : Type 0 where
     pub success : response.status ≡ 200
     pub json : may_be_json response ≡ true
     pub some_body : is_empty response.body ≡ false
     pub not_too_long : is_over_long response.body ≡ false
-    pub read : record_in (tokens_read types) response.body ≡ Ok tokens
+    pub read : record_in (tokens_read types reading) response.body ≡ Ok tokens
 
-  -- the same for user info, whose members read as these claims, about this subject
-  pub record IsValidInfoAnswer (subject : List ℕ) (found : SeenUserInfoClaims AC GC)
+  -- the same for user info, whose members read so as these claims, about this subject
+  pub record IsValidInfoAnswer (reading : Reading) (subject : List ℕ) (found : SeenUserInfoClaims AC GC)
       (response : SeenResponse) : Type 0 where
     pub success : response.status ≡ 200
     pub json : may_be_json response ≡ true
     pub not_too_long : is_over_long response.body ≡ false
-    pub read : claims_in types.additional types.gender STRICT response.body ≡ Ok found
+    pub read : claims_in types.additional types.gender reading response.body ≡ Ok found
     pub about : found.standard_claims.subject ≡ subject
 
   module _ (a : Attempt Key) (answers : List SeenAnswer) where
@@ -47,7 +48,7 @@ module _ {AC GC Key Use : Type 0} (types : SiteTypes AC GC Key Use) where
       pub response : SeenResponse
       pub response_came : first_answer (drop 1 answers) ≡ Some response
       pub found : SeenUserInfoClaims AC GC
-      pub info_answer : IsValidInfoAnswer subject found response
+      pub info_answer : IsValidInfoAnswer a.client.reading subject found response
 
     pub record IsValidLogin : Type 0 where
       -- the query has one `state` of a pending login, one `code`, and no `error`
@@ -63,7 +64,7 @@ module _ {AC GC Key Use : Type 0} (types : SiteTypes AC GC Key Use) where
       pub response : SeenResponse
       pub response_came : first_answer answers ≡ Some response
       pub tokens : Tokens AC GC
-      pub token_answer : IsValidTokenAnswer tokens response
+      pub token_answer : IsValidTokenAnswer a.client.reading tokens response
       pub token : SeenIdToken AC GC
       pub own_id_token : tokens.extra_fields.id_token ≡ Some token
       -- which is accepted, and any `at_hash` in it is that of the access token

@@ -1,6 +1,6 @@
 //! The answer of an implicit or a hybrid flow, which comes in the query itself.
 
-ghost use Rattle.std.specs.Prelude.{◌≡◌, false, true, Err, IfErr, IfOk, IfSome, Ok, OnOk, Some};
+ghost use Rattle.std.specs.Prelude.{◌≡◌, false, true, Err, IfErr, IfOk, IfSome, IsSome, Ok, OnOk, Some};
 ghost use Rattle.std.specs.Option.{option_copied};
 ghost use Rattle.oidc_pairs.specs.Pairs.{pairs, values_in, first_of, only_of};
 ghost use Rattle.oidc_oauth2.specs.TokenAnswers.{is_over_long};
@@ -8,7 +8,7 @@ ghost use Rattle.oidc_oauth2.specs.Replies.{Gives, Unless};
 ghost use Rattle.oidc_login.specs.Types.{site_types};
 ghost use Rattle.oidc_login.specs.BeforeRequest as request;
 ghost use Rattle.oidc_login.specs.BeforeRequest.{state_in};
-ghost use Rattle.oidc_login.specs.Token.{is_sent, IsAcceptedBy, HasOwnHash, HasOwnCodeHash};
+ghost use Rattle.oidc_login.specs.Token.{claimed_code_hash, is_sent, IsAcceptedBy, HasOwnHash, HasOwnCodeHash};
 ghost use Rattle.oidc_login.specs.FrontChannel.{front, front_attempt, front_errors, is_memory, holds_memory, is_several, access_tokens_in, codes_in, SeenFrontAnswer};
 ghost use Rattle.oidc_login.specs.FrontCauses.{FrontCause, IsFrontAnswer};
 ghost use Rattle.oidc_login.specs.FrontSteps as steps;
@@ -21,7 +21,7 @@ use crate::types::MetadataClient;
 use jiff::Timestamp;
 use oidc_claims::{AdditionalClaims, GenderClaim};
 use oidc_keys::JsonWebKey;
-use oidc_members::{ParseError, Refusal};
+use oidc_members::{ParseError, Reading, Refusal};
 use oidc_pairs::Pairs;
 use oidc_tokens::{ClaimsVerificationError, IdTokenVerifier};
 use oidc_types::{
@@ -61,7 +61,8 @@ pub enum FrontError {
     /// There are several access tokens, or the hash in the ID token isn't that of the one.
     #[error("another access token than the ID token's")]
     TokenHash,
-    /// There are several codes, or the hash in the ID token isn't that of the one.
+    /// There are several codes, or the hash in the ID token isn't that of the one, or is absent though the client
+    /// demands it.
     #[error("another code than the ID token's")]
     CodeHash,
     /// There was no memory.
@@ -154,7 +155,7 @@ impl<AC: AdditionalClaims, GC: GenderClaim> FrontAnswer<AC, GC> {
         self.access_token.as_ref()
     }
 
-    /// The code, where one came. The ID token may have no hash of it.
+    /// The code, where one came. The ID token may have no hash of it, unless the client demands one.
     pub fn code(&self) -> Option<&AuthorizationCode>
         ensures { option_copied result ≡ self.now.code }
     {
@@ -207,15 +208,15 @@ fn token_in<
     AC: AdditionalClaims,
     GC: GenderClaim,
     K: JsonWebKey<SigningAlgorithm = CoreJwsSigningAlgorithm>,
->(alloc: Global, query: &Pairs) -> Result<LoginIdToken<AC, GC>, FrontError>
+>(alloc: Global, query: &Pairs, reading: Reading) -> Result<LoginIdToken<AC, GC>, FrontError>
     ensures { let types = site_types AC.read_of GC.read_of
         K.JsonWebKey K.KeyUse.JsonWebKeyUse in
-        Gives front_errors result (steps.token_in types query.now) }
+        Gives front_errors result (steps.token_in types reading query.now) }
 {
     let Some(text) = query.only("id_token") else {
         return Err(FrontError::NoIdToken);
     };
-    match LoginIdToken::<AC, GC>::from_str(alloc, text) {
+    match LoginIdToken::<AC, GC>::from_str_with(alloc, text, reading) {
         Ok(token) => Ok(token),
         Err(ParseError::Refused(refusal)) => Err(FrontError::Parse(refusal)),
         Err(ParseError::Memory) => Err(FrontError::Memory),
@@ -276,7 +277,7 @@ fn checked_fits(query: &Pairs, token_fits: bool, code_fits: bool) -> Result<(), 
     Ok(())
 }
 
-// The rows on the hashes of what stands beside an ID token.
+// The rows on the hashes of what stands beside an ID token, where that of a code may be demanded.
 fn checked_hashes<
     AC: AdditionalClaims,
     GC: GenderClaim,
@@ -287,12 +288,14 @@ fn checked_hashes<
     token: &LoginIdToken<AC, GC>,
     query: &Pairs,
     beside: &Beside,
+    demanded: bool,
 ) -> Result<(), FrontError>
     requires access_token { beside.now.access_token ≡ first_of (access_tokens_in query.now) }
     requires code { beside.now.code ≡ first_of (codes_in query.now) }
     ensures gives { let types = site_types AC.read_of GC.read_of
         K.JsonWebKey K.KeyUse.JsonWebKeyUse in
-        Gives front_errors result (steps.checked_hashes types verifier.now token.now query.now) }
+        let meant = steps.checked_hashes types verifier.now demanded token.now in
+        Gives front_errors result (meant query.now) }
     ensures one_token { OnOk result
         (only_of (access_tokens_in query.now) ≡ first_of (access_tokens_in query.now)) }
     ensures one_code { OnOk result
@@ -302,7 +305,7 @@ fn checked_hashes<
         Ok(fits) => fits,
         Err(refusal) => return Err(FrontError::of_signing(refusal)),
     };
-    let of_code = match code_fits(alloc, verifier, token, beside.code.as_ref()) {
+    let of_code = match code_fits(alloc, verifier, token, beside.code.as_ref(), demanded) {
         Ok(fits) => fits,
         Err(refusal) => return Err(FrontError::of_signing(refusal)),
     };
@@ -338,7 +341,10 @@ fn checked_token<
         return Err(FrontError::Memory);
     };
     match token.claims(alloc, &verifier, nonce, now) {
-        Ok(_) => checked_hashes(alloc, &verifier, token, query, beside),
+        Ok(_) => {
+            let demanded = client.code_hash_required();
+            checked_hashes(alloc, &verifier, token, query, beside, demanded)
+        }
         Err(error) => Err(FrontError::of_check(error)),
     }
 }
@@ -395,7 +401,7 @@ fn answer_in<
         let meant = steps.answer_in types client.now nonce.now now.nanosecond in
         Gives front_errors result (meant query.now) }
 {
-    match token_in::<AC, GC, K>(alloc, query) {
+    match token_in::<AC, GC, K>(alloc, query, client.reading()) {
         Ok(token) => answer_with(alloc, client, query, nonce, now, token),
         Err(error) => Err(error),
     }
@@ -444,10 +450,11 @@ fn front_reply<
 /// fails, that of its nonce by `nonce`; `Signing`, where it has an `at_hash` and there is an `access_token`, or a
 /// `c_hash` and there is a `code`, and no hash goes with its algorithm; `TokenHash`, where there are several access
 /// tokens, or one whose hash isn't the `at_hash`; `CodeHash`, where there are several codes, or one whose hash isn't
-/// the `c_hash`. `Memory` may come at any point.
+/// the `c_hash`, or one without a `c_hash` where the client demands it. `Memory` may come at any point.
 ///
-/// An `at_hash` or a `c_hash` that isn't there binds nothing, though sections 3.2.2.10 and 3.3.2.11 want one beside an
-/// access token and beside a code.
+/// The ID token is read under the client's reading. An `at_hash` that isn't there binds nothing, though section 3.2.2.10
+/// wants one beside an access token; nor does a `c_hash`, which section 3.3.2.11 wants beside a code, unless the client
+/// demands it (`Client::require_code_hash`).
 pub fn front_channel<
     AC: AdditionalClaims,
     GC: GenderClaim,
@@ -490,7 +497,8 @@ pub fn front_channel<
         → Gives front_errors result (Ok answer) }
 
     // Of an Ok: the query has the state. The ID token is accepted at this moment with the nonce. Any `at_hash` in it
-    // is the hash of the access token, where there is one, and any `c_hash` that of the code.
+    // is the hash of the access token, where there is one, and any `c_hash` that of the code. A code has a `c_hash`
+    // where the client demands it.
     ensures own_state { OnOk result (state_in (pairs query.now) ≡ Some state.now) }
     ensures accepted { let types = site_types AC.read_of GC.read_of
         K.JsonWebKey K.KeyUse.JsonWebKeyUse in
@@ -504,6 +512,9 @@ pub fn front_channel<
         K.JsonWebKey K.KeyUse.JsonWebKeyUse in
         IfOk result (λ answer. IfSome answer.code
         (HasOwnCodeHash types client.now answer.id_token)) }
+    ensures demanded { client.now.code_hash_required ≡ true
+        → IfOk result (λ answer. IsSome answer.code
+        → IsSome (claimed_code_hash answer.id_token)) }
 {
     front_reply(alloc, client, query, state, nonce, now)
 }

@@ -1,13 +1,13 @@
 // The hashes of an access token and of a code that the ID token beside them may hold.
 
-ghost use Rattle.std.specs.Prelude.{◌≡◌, [], None, not, IfErr, IfOk, MatchOption, OnOk};
+ghost use Rattle.std.specs.Prelude.{◌≡◌, ◌||◌, [], None, not, IfErr, IfOk, MatchOption, OnOk};
 ghost use Rattle.std.specs.Option.{option_copied};
 ghost use Rattle.oidc_types.specs.{signing_text};
 ghost use Rattle.oidc_types.specs.declared.signing_error.SigningError.TheVariants.{UnsupportedAlg};
 ghost use Rattle.oidc_tokens.specs.Hashes.{hashing, GivesHash};
 ghost use Rattle.oidc_login.specs.Types.{site_types};
 ghost use Rattle.oidc_login.specs.Token as hashes;
-ghost use Rattle.oidc_login.specs.Token.{claimed_hash, claimed_code_hash, hashing_found, or_no_hash, refusal_beside, is_another_beside};
+ghost use Rattle.oidc_login.specs.Token.{claimed_hash, claimed_code_hash, hashing_found, or_no_hash, refusal_beside, is_another_beside, lacks_claim};
 ghost use Rattle.oidc_login.specs.Steps.{RefusesAs};
 
 use crate::signed_in::LoginIdToken;
@@ -139,7 +139,8 @@ pub(crate) fn token_fits<
     }
 }
 
-// Whether the `c_hash` of an ID token is the hash of the code beside it, where both are there.
+// Whether the `c_hash` of an ID token is the hash of the code beside it, where both are there. One that is absent beside a
+// code fits unless it is demanded.
 pub(crate) fn code_fits<
     AC: AdditionalClaims,
     GC: GenderClaim,
@@ -149,6 +150,7 @@ pub(crate) fn code_fits<
     verifier: &IdTokenVerifier<'_, K>,
     token: &LoginIdToken<AC, GC>,
     code: Option<&AuthorizationCode>,
+    demanded: bool,
 ) -> Result<bool, SigningError>
     ensures hash { let types = site_types AC.read_of GC.read_of
         K.JsonWebKey K.KeyUse.JsonWebKeyUse in
@@ -160,7 +162,7 @@ pub(crate) fn code_fits<
         let text = option_copied code.entry in
         let claim = claimed_code_hash token.now in
         let another = is_another_beside types verifier.now token.now claim text in
-        IfOk result (λ fits. another ≡ not fits) }
+        IfOk result (λ fits. (another || lacks_claim demanded claim text) ≡ not fits) }
     ensures refused { let types = site_types AC.read_of GC.read_of
         K.JsonWebKey K.KeyUse.JsonWebKeyUse in
         let text = option_copied code.entry in
@@ -171,7 +173,7 @@ pub(crate) fn code_fits<
         return Ok(true);
     };
     let Some(claim) = token.token().unverified_payload().code_hash() else {
-        return Ok(true);
+        return Ok(!demanded);
     };
     match code_hash_beside(alloc, verifier, token, code) {
         Ok(hash) => Ok(hash.as_str() == claim.as_str()),

@@ -35,10 +35,10 @@ pub fn valid_signs_in<
         ValidSignsIn types }
 {}
 
-/// Each login's run is the run of its own events. Whatever begins and callbacks of others come before an accepted begin,
-/// between its callbacks and behind them, repeated, mixed up or hostile: in the run of it and its callbacks alone it is
-/// accepted too, each callback gets the same reply and sends the same requests, and behind each its state is pending in
-/// both runs or in neither. No run here wants for memory.
+/// Each login's run is the run of its own events. Whatever other begins and callbacks of other states come before an
+/// accepted begin, between its callbacks and behind them, repeated, mixed up or hostile: in the run of it and its
+/// callbacks alone, with the same answers and moments, it is accepted too, each callback gets the same reply and sends
+/// the same requests, and behind each its state is pending in both runs or in neither. No run here wants for memory.
 pub fn isolation<
     AC: AdditionalClaims,
     GC: GenderClaim,
@@ -50,8 +50,9 @@ pub fn isolation<
 {}
 
 /// A site may run many processes, each with a store of its own, behind a balancer that routes by state: where all events
-/// of one state go to one store, each event gets the reply and sends the requests that it would in one store that gets
-/// all events, and behind it its state is pending in both or in neither. A callback that hasn't one state may go to any.
+/// of one state go to one store, each event gets the reply and sends the requests that it would, with the same answers
+/// and moments, in one store that gets all events, and behind it its state is pending in both or in neither. A callback
+/// that hasn't one state may go to any. No run here wants for memory.
 pub fn shards<
     AC: AdditionalClaims,
     GC: GenderClaim,

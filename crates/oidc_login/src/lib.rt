@@ -28,8 +28,12 @@
 //! several, in `specs/Isolation.antt`.
 //!
 //! Of `front_channel` each refusal but want of memory has its cause too, and each cause its refusal: its table stands in
-//! `specs/FrontChannel.antt`, what each of its answers rests on in `specs/FrontCauses.antt`. An answer is accepted only with the state and the nonce that are handed
-//! in; an `at_hash` or a `c_hash` that is absent binds nothing.
+//! `specs/FrontChannel.antt`, what each of its answers rests on in `specs/FrontCauses.antt`. An answer is accepted only
+//! with the state and the nonce that are handed in. An `at_hash` that is absent binds nothing, nor does a `c_hash`, unless
+//! the client demands it beside a code (`Client::require_code_hash`).
+//!
+//! The claims of ID tokens and of user info are read under the client's reading (`Client::set_reading`), which is strict
+//! at first.
 //!
 //! `Ran` says all this for some answers. Where the transport keeps a log, they are those that came.
 //! Of one that keeps none, as over a network, a contract can't say what came; `callback` is one

@@ -23,7 +23,7 @@ OnRefused kind (Ok value) Fact = Unit {0}
 OnRefused kind (Err (Refused refusal)) Fact = refusal.kind ≡ kind → Fact
 OnRefused kind (Err Memory) Fact = Unit {0}
 
--- an answer of members as one of their list
+-- the answer, with the list alone in the place of the members
 abbrev pub listed : Result SeenMembers ParseError → Result (List SeenMember) ParseError
 listed (Ok members) = Ok members.list
 listed (Err error) = Err error

@@ -14,15 +14,13 @@ use std::marker::Model;
 /// the white space around them. A contract sees it as the record of these three.
 #[derive(Drop)]
 pub struct Member {
+    name: String,
     value: Value,
-    // the bytes of the value, and behind them those of the name: one piece of memory for both
-    bytes: Vec<u8>,
-    text_len: usize,
+    text: Vec<u8>,
 }
 
 impl Model for Member {
-    ghost use Rattle.std.specs.Prelude.{◌≤◌, length, take, drop};
-    ghost use Rattle.std.specs.Str.{IsUtf8};
+    ghost use Rattle.std.specs.String.{string_bytes};
     ghost use Rattle.serde_json.specs.View.{view as data_of};
     ghost use Rattle.oidc_members.specs.Seen.{SeenMember};
     ghost use Rattle.oidc_members.specs.Codes.{seen_member_code};
@@ -32,13 +30,10 @@ impl Model for Member {
     ghost coded = { seen_member_code };
 
     ghost view = { λ m. record {
-      name = drop m.text_len m.bytes.items;
+      name = string_bytes m.name;
       value = data_of m.value;
-      text = take m.text_len m.bytes.items;
+      text = m.text.items;
     } };
-
-    ghost invariant = { λ m. (m.text_len ≤ length m.bytes.items)
-        × IsUtf8 (drop m.text_len m.bytes.items) };
 }
 
 impl Member {
@@ -54,30 +49,15 @@ impl Member {
         let Some(value) = value_of(alloc, item.value, text)? else {
             return Ok(None);
         };
-        Ok(Some(Member::of_parts(alloc, name.as_str(), value, text)?))
-    }
-
-    // The member of these parts.
-    fn of_parts(alloc: Global, name: &str, value: Value, text: &[u8]) -> Result<Member, AllocError>
-        ensures { IfOk result (λ member. member
-            ≡ record { name = name.now; value = view value; text = text.now }) }
-    {
-        let mut bytes = Vec::with_capacity(alloc, text.len() + name.len())?;
-        bytes.extend_from_slice(text)?;
-        bytes.extend_from_slice(name.as_bytes())?;
-        Ok(Member {
-            value,
-            bytes,
-            text_len: text.len(),
-        })
+        let text = Vec::from_slice(alloc, text)?;
+        Ok(Some(Member { name, value, text }))
     }
 
     /// The name, with its escapes read.
     pub fn name(&self) -> &str
         ensures { result.now ≡ self.now.name }
     {
-        // Its bytes came from a `str`, so they need not be looked at again.
-        unsafe { str::from_utf8_unchecked(&self.bytes[self.text_len..]) }
+        self.name.as_str()
     }
 
     /// The value that `serde_json` reads.
@@ -91,19 +71,16 @@ impl Member {
     pub fn text(&self) -> &[u8]
         ensures { result.now ≡ self.now.text }
     {
-        &self.bytes[..self.text_len]
+        self.text.as_slice()
     }
 
     /// A copy of the member, which equals it.
     pub fn clone_in(&self, alloc: Global) -> Result<Self, AllocError>
         ensures { IfOk result (λ copy. copy ≡ self.now) }
     {
+        let name = String::from_str(alloc, self.name.as_str())?;
         let value = self.value.clone()?;
-        let bytes = Vec::from_slice(alloc, self.bytes.as_slice())?;
-        Ok(Member {
-            value,
-            bytes,
-            text_len: self.text_len,
-        })
+        let text = Vec::from_slice(alloc, self.text.as_slice())?;
+        Ok(Member { name, value, text })
     }
 }

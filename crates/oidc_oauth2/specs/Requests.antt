@@ -5,6 +5,7 @@ use Rattle.std.specs.List.{list_all}
 use Rattle.http_header.specs.HeaderMap.{Entries}
 use Rattle.http_header.specs.FieldValue.{FieldValue, plain_value}
 use Rattle.oidc_pairs.specs.Form.{form}
+use Rattle.oidc_members.specs.declared.reading.Reading.{Reading}
 use Rattle.oidc_oauth2.specs.Messages.{SeenRequest}
 use Rattle.oidc_oauth2.specs.ClientAuth.{SeenClientAuth, authorization_of, client_pairs, pair_if}
 use Rattle.oidc_oauth2.specs.declared.requests.PrepareError.{PrepareError}
@@ -51,7 +52,7 @@ posted address client pairs = if is_address address then Some (post_of address c
 -- ---- the request that exchanges a code
 
 -- the address of the token endpoint, the client, the code, its verifier, the redirect of its
--- authorization request, and further pairs
+-- authorization request, and further pairs; and the reading of an ID token in the answer
 pub record SeenCodeRequest : Type 0 where
   pub address : List ℕ
   pub client : SeenClientAuth
@@ -59,6 +60,7 @@ pub record SeenCodeRequest : Type 0 where
   pub verifier : Option (List ℕ)
   pub redirect_uri : Option (List ℕ)
   pub extra : List (List ℕ × List ℕ)
+  pub reading : Reading
 
 abbrev pub grant_pairs : SeenCodeRequest → List (List ℕ × List ℕ)
 grant_pairs r =

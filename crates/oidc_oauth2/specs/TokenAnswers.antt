@@ -67,9 +67,9 @@ abbrev pub members_in : {TE : Type 0} → List ℕ → Result (List SeenMember �
 members_in body = read_in body (split_of body) >>= (λ members. Ok (members, body))
 
 -- an answer of members and a body, as one of their list and the body
-abbrev pub listed : {E : Type 0} → Result (SeenMembers × List ℕ) E → Result (List SeenMember × List ℕ) E
-listed (Ok object) = Ok (object.0.list, object.1)
-listed (Err e) = Err e
+abbrev pub listed_with_body : {E : Type 0} → Result (SeenMembers × List ℕ) E → Result (List SeenMember × List ℕ) E
+listed_with_body (Ok object) = Ok (object.0.list, object.1)
+listed_with_body (Err e) = Err e
 
 -- the object that a response of status 200 is
 unfoldable pub object_in : {TE : Type 0} → SeenResponse → Result (List SeenMember × List ℕ) (TokenRefusal TE)

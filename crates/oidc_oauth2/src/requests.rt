@@ -6,7 +6,6 @@ ghost use Rattle.std.specs.Option.{option_copied};
 ghost use Rattle.std.specs.String.{string_bytes};
 ghost use Rattle.url.specs.Parts.{serialize};
 ghost use Rattle.http_header.specs.FieldValue.{plain_value};
-ghost use Rattle.oidc_members.specs.declared.reading.TheConstants.Reading.{STRICT};
 ghost use Rattle.oidc_oauth2.specs.ClientAuth.{seen_client};
 ghost use Rattle.oidc_oauth2.specs.Replies.{Gives};
 ghost use Rattle.oidc_oauth2.specs.TokenAnswers.{is_fault, token_errors};
@@ -23,6 +22,7 @@ use crate::token_answers::{OtherCause, RequestTokenError, token_answer};
 use crate::transport::{HttpRequest, HttpResponse, SyncHttpClient};
 use http::Method;
 use http_header::{ACCEPT, AUTHORIZATION, CONTENT_TYPE, HeaderMap, HeaderMapError, HeaderValue};
+use oidc_members::Reading;
 use oidc_pairs::FormText;
 use oidc_types::{AuthorizationCode, Body, PkceCodeVerifier, RedirectUrl, TokenUrl};
 use std::alloc::{AllocError, Global};
@@ -154,7 +154,7 @@ pub fn push_all(form: &mut FormText, pairs: &[(String, String)]) -> Result<(), A
 
 /// The request that exchanges a code for tokens. `TE` is the error response, `TR` the token
 /// response. Contracts see its address, which is the text of the endpoint's parsed URL, the client,
-/// the code, its verifier, the text of the redirect, and the extra pairs.
+/// the code, its verifier, the text of the redirect, the extra pairs, and the reading.
 #[derive(Drop)]
 pub struct CodeTokenRequest<'a, TE, TR> {
     endpoint: &'a TokenUrl,
@@ -163,6 +163,7 @@ pub struct CodeTokenRequest<'a, TE, TR> {
     verifier: Option<PkceCodeVerifier>,
     redirect_uri: Option<&'a RedirectUrl>,
     extra_params: Vec<(String, String)>,
+    reading: Reading,
     of: PhantomData<(TE, TR)>,
 }
 
@@ -183,11 +184,13 @@ impl<'a, TE, TR> Model for CodeTokenRequest<'a, TE, TR> {
       verifier = r.verifier;
       redirect_uri = option_map (λ u. u.text) (option_copied r.redirect_uri);
       extra = map (λ p. (string_bytes p.0, string_bytes p.1)) r.extra_params.items;
+      reading = r.reading;
     } };
 }
 
 impl<'a, TE, TR> CodeTokenRequest<'a, TE, TR> {
-    /// The request for a code, without verifier, redirect and extra pairs. It takes no memory.
+    /// The request for a code, without verifier, redirect and extra pairs, under the strict reading. It takes no
+    /// memory.
     pub fn new(
         alloc: Global,
         endpoint: &'a TokenUrl,
@@ -201,6 +204,7 @@ impl<'a, TE, TR> CodeTokenRequest<'a, TE, TR> {
           verifier = None;
           redirect_uri = None;
           extra = [];
+          reading = Reading.STRICT;
         } }
     {
         CodeTokenRequest {
@@ -210,6 +214,7 @@ impl<'a, TE, TR> CodeTokenRequest<'a, TE, TR> {
             verifier: None,
             redirect_uri: None,
             extra_params: Vec::new(alloc),
+            reading: Reading::STRICT,
             of: PhantomData,
         }
     }
@@ -235,6 +240,14 @@ impl<'a, TE, TR> CodeTokenRequest<'a, TE, TR> {
         ensures set { result ≡ record self.entry { redirect_uri = None } }
     {
         self.redirect_uri = None;
+        self
+    }
+
+    /// With this reading of an ID token in the answer.
+    pub fn set_reading(mut self, reading: Reading) -> Self
+        ensures set { result ≡ record self.entry { reading = reading } }
+    {
+        self.reading = reading;
         self
     }
 
@@ -291,22 +304,23 @@ impl<'a, TE, TR> CodeTokenRequest<'a, TE, TR> {
     }
 }
 
-// The reply by what came of a request.
-fn judge_answer<RE, TE: ErrorResponse, TR: OAuth2TokenResponse>(
-    alloc: Global,
-    answer: Result<HttpResponse, RE>,
-) -> Result<TR, RequestTokenError<RE, TE>>
-    ensures gives { let reply = code_reply TE.read_of (TR.read_of STRICT) in
-        Gives token_errors result (reply (answer_of answer)) }
-    ensures fault { IfErr result (λ e. is_fault e ≡ true → answer_of answer ≡ None) }
-{
-    match answer {
-        Err(error) => Err(RequestTokenError::Request(error)),
-        Ok(response) => token_answer(alloc, response),
-    }
-}
-
 impl<'a, TE: ErrorResponse, TR: OAuth2TokenResponse> CodeTokenRequest<'a, TE, TR> {
+    // The reply by what came of a request.
+    fn judge_answer<RE>(
+        &self,
+        alloc: Global,
+        answer: Result<HttpResponse, RE>,
+    ) -> Result<TR, RequestTokenError<RE, TE>>
+        ensures gives { let reply = code_reply TE.read_of (TR.read_of self.now.reading) in
+            Gives token_errors result (reply (answer_of answer)) }
+        ensures fault { IfErr result (λ e. is_fault e ≡ true → answer_of answer ≡ None) }
+    {
+        match answer {
+            Err(error) => Err(RequestTokenError::Request(error)),
+            Ok(response) => token_answer(alloc, response, self.reading),
+        }
+    }
+
     // Hands the request over, and judges the response.
     fn exchange<C: SyncHttpClient>(
         self,
@@ -315,7 +329,7 @@ impl<'a, TE: ErrorResponse, TR: OAuth2TokenResponse> CodeTokenRequest<'a, TE, TR
     ) -> Result<TR, RequestTokenError<C::Error, TE>>
         requires { C.ready http.old }
         ensures again { C.ready http.new }
-        ensures follows { let run = code_run TE.read_of (TR.read_of STRICT) self.entry in
+        ensures follows { let run = code_run TE.read_of (TR.read_of self.entry.reading) self.entry in
             let before = known (C.log http.old) (C.script http.old) in
             let after = known (C.log http.new) (C.script http.new) in
             Follows token_errors run before after result }
@@ -328,7 +342,7 @@ impl<'a, TE: ErrorResponse, TR: OAuth2TokenResponse> CodeTokenRequest<'a, TE, TR
             Err(PrepareError::Memory) => Err(RequestTokenError::Memory),
             Ok(request) => {
                 let answer = exchange(alloc, http, request)?;
-                judge_answer(alloc, answer)
+                self.judge_answer(alloc, answer)
             }
         }
     }
@@ -344,7 +358,7 @@ impl<'a, TE: ErrorResponse, TR: OAuth2TokenResponse> CodeTokenRequest<'a, TE, TR
         ensures again { C.ready http.new }
         ensures ran { let before = known (C.log http.old) (C.script http.old) in
             let after = known (C.log http.new) (C.script http.new) in
-            RanTokenRequest TE.read_of (TR.read_of STRICT) self.entry before after result }
+            RanTokenRequest TE.read_of (TR.read_of self.entry.reading) self.entry before after result }
         ensures never_falls { C.faults http.old ≤ C.faults http.new }
         ensures blamed { let before = C.faults http.old in
             IsRequestBlamed token_errors before (C.faults http.new) result }

@@ -15,7 +15,7 @@ use crate::error_types::CoreErrorResponseType;
 use crate::http_utils::{MIME_TYPE_JSON, check_content_type};
 use crate::token::OAuth2TokenResponse;
 use crate::transport::HttpResponse;
-use oidc_members::{Members, ParseError, Refusal};
+use oidc_members::{Members, ParseError, Reading, Refusal};
 use oidc_types::Body;
 use std::alloc::{AllocError, Global};
 use thiserror::Error;
@@ -138,7 +138,7 @@ fn members_in<RE, TE>(
     alloc: Global,
     body: Body,
 ) -> Result<(Members, Body), RequestTokenError<RE, TE>>
-    ensures object { Gives token_errors (spec.listed result) (spec.members_in body) }
+    ensures object { Gives token_errors (spec.listed_with_body result) (spec.members_in body) }
     ensures strict { IfOk result (λ object. object.0.reading ≡ STRICT) }
 {
     match Members::split(alloc, body.as_slice()) {
@@ -154,7 +154,7 @@ fn object_in<RE, TE>(
     alloc: Global,
     response: HttpResponse,
 ) -> Result<(Members, Body), RequestTokenError<RE, TE>>
-    ensures object { Gives token_errors (spec.listed result)
+    ensures object { Gives token_errors (spec.listed_with_body result)
         (spec.object_in (seen_response response)) }
     ensures strict { IfOk result (λ object. object.0.reading ≡ STRICT) }
 {
@@ -175,7 +175,7 @@ pub fn object_answer<RE, TE: ErrorResponse>(
     alloc: Global,
     response: HttpResponse,
 ) -> Result<(Members, Body), RequestTokenError<RE, TE>>
-    ensures object { Gives token_errors (spec.listed result)
+    ensures object { Gives token_errors (spec.listed_with_body result)
         (spec.object_answer TE.read_of (seen_response response)) }
     ensures strict { IfOk result (λ object. object.0.reading ≡ STRICT) }
 {
@@ -204,30 +204,34 @@ pub fn record_or_refusal<RE, TE, A>(
 fn judge<RE, TE: ErrorResponse, TR: OAuth2TokenResponse>(
     alloc: Global,
     response: HttpResponse,
+    reading: Reading,
 ) -> Result<TR, RequestTokenError<RE, TE>>
-    ensures { let worth = spec.token_answer TE.read_of (TR.read_of STRICT) in
+    ensures { let worth = spec.token_answer TE.read_of (TR.read_of reading) in
         Gives token_errors result (worth (seen_response response)) }
 {
     let (members, body) = object_answer(alloc, response)?;
+    let members = members.with_reading(reading);
     record_or_refusal(TR::read(alloc, &members), body)
 }
 
-/// What a response to a token request is worth: the token response, or the first of these that holds.
+/// What a response to a token request is worth: the token response, whose ID token is read under `reading`, or the
+/// first of these that holds.
 /// `TooLong`: the body has more than 1,048,576 bytes. On another status than 200: `EmptyBody`; then
 /// `ServerResponse`, where the body reads as an error response; else `Parse`. On status 200:
 /// `MediaType`, where a media type is there and isn't `application/json`; `EmptyBody`; `Parse`.
 pub fn token_answer<RE, TE: ErrorResponse, TR: OAuth2TokenResponse>(
     alloc: Global,
     response: HttpResponse,
+    reading: Reading,
 ) -> Result<TR, RequestTokenError<RE, TE>>
-    ensures answer { let worth = spec.token_answer TE.read_of (TR.read_of STRICT) in
+    ensures answer { let worth = spec.token_answer TE.read_of (TR.read_of reading) in
         Gives token_errors result (worth (seen_response response)) }
     // Each refusal has its cause, want of memory aside, and each cause its refusal.
     ensures cause { let seen = seen_response response in
-        IfErr result (Because TE.read_of (TR.read_of STRICT) seen) }
-    ensures refused { let Caused = AnswerCause TE.read_of (TR.read_of STRICT) in
+        IfErr result (Because TE.read_of (TR.read_of reading) seen) }
+    ensures refused { let Caused = AnswerCause TE.read_of (TR.read_of reading) in
         (e : spec.TokenRefusal TE) → Caused (seen_response response) e
         → Gives token_errors result (Err e) }
 {
-    judge(alloc, response)
+    judge(alloc, response, reading)
 }

@@ -2,6 +2,8 @@
 -- (RFC 6749 sections 2.3.1, 3.2, 3.3, 4.3.2, 4.4.2 and 6, RFC 7009 section 2.1, RFC 7662 section 2.1, RFC 8628
 -- sections 3.1 and 3.4).
 use Rattle.std.specs.Prelude.{ℕ, List, [], ◌∷◌, ◌++◌, Option, None, if◌then◌else◌, codes}
+use Rattle.oidc_members.specs.declared.reading.Reading.{Reading}
+use Rattle.oidc_members.specs.declared.reading.TheConstants.Reading.{STRICT}
 use Rattle.oidc_oauth2.specs.Messages.{SeenRequest}
 use Rattle.oidc_oauth2.specs.ClientAuth.{SeenClientAuth, client_pairs, pair_if}
 use Rattle.oidc_oauth2.specs.TokenAnswers.{is_empty}
@@ -14,7 +16,8 @@ Pairs = List (List ℕ × List ℕ)
 -- ---- what a request is made of
 
 -- What differs between requests: the address, which is the text of the endpoint's parsed URL; the client, with how
--- it authenticates; the request's own pairs; the scopes that it asks for; a redirect; and further pairs.
+-- it authenticates; the request's own pairs; the scopes that it asks for; a redirect; further pairs; and the reading of an
+-- ID token in the answer, which is strict for requests of other answers.
 pub record SeenFormRequest : Type 0 where
   pub address : List ℕ
   pub client : SeenClientAuth
@@ -22,6 +25,7 @@ pub record SeenFormRequest : Type 0 where
   pub scopes : List (List ℕ)
   pub redirect_uri : Option (List ℕ)
   pub extra : Pairs
+  pub reading : Reading
 
 -- the scopes in one text, unless that is empty
 abbrev pub scope_pairs : List (List ℕ) → Pairs
@@ -35,10 +39,17 @@ pairs_of r = r.own ++ scope_pairs r.scopes ++ client_pairs r.client ++ pair_if (
 unfoldable pub form_request : SeenFormRequest → Option SeenRequest
 form_request r = posted r.address r.client (pairs_of r)
 
--- a request with these pairs of its own, and nothing else
+-- a request with these pairs of its own, and nothing else, under the strict reading
 abbrev pub new_request : List ℕ → SeenClientAuth → Pairs → SeenFormRequest
-new_request address client own =
-    record { address = address; client = client; own = own; scopes = []; redirect_uri = None; extra = [] }
+new_request address client own = record {
+  address = address;
+  client = client;
+  own = own;
+  scopes = [];
+  redirect_uri = None;
+  extra = [];
+  reading = STRICT;
+}
 
 -- ---- the own pairs of each request
 
@@ -94,4 +105,5 @@ of_code r = record {
   scopes = [];
   redirect_uri = r.redirect_uri;
   extra = r.extra;
+  reading = r.reading;
 }

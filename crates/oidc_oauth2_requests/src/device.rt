@@ -3,7 +3,6 @@
 ghost use Rattle.std.specs.Prelude.{◌≡◌, ◌≤◌, ◌++◌, ◌∷◌, [], IfOk};
 ghost use Rattle.std.specs.String.{string_bytes};
 ghost use Rattle.url.specs.Parts.{serialize};
-ghost use Rattle.oidc_members.specs.declared.reading.TheConstants.Reading.{STRICT};
 ghost use Rattle.oidc_oauth2.specs.ClientAuth.{seen_client};
 ghost use Rattle.oidc_oauth2.specs.Requests.{Prepares};
 ghost use Rattle.oidc_oauth2.specs.TokenAnswers.{token_errors};
@@ -14,6 +13,7 @@ ghost use Rattle.oidc_oauth2_requests.specs.RequestRuns.{RanForRecord, RanForSte
 
 use crate::form_request::FormRequest;
 use crate::sending::{codes_over, step_over};
+use oidc_members::Reading;
 use oidc_oauth2::{
     ClientAuth, DeviceAuthorizationResponse, DeviceCodeErrorResponse, ErrorResponse,
     ExtraDeviceAuthorizationFields, HttpRequest, OAuth2TokenResponse, PrepareError,
@@ -140,7 +140,7 @@ impl<'a, TR, EF> Model for DeviceAccessTokenRequest<'a, TR, EF> {
 }
 
 impl<'a, TR, EF: ExtraDeviceAuthorizationFields> DeviceAccessTokenRequest<'a, TR, EF> {
-    /// The request by the device code of a response, without extra pairs. It takes no memory.
+    /// The request by the device code of a response, without extra pairs, under the strict reading. It takes no memory.
     pub fn new(
         alloc: Global,
         endpoint: &'a TokenUrl,
@@ -160,6 +160,15 @@ impl<'a, TR, EF: ExtraDeviceAuthorizationFields> DeviceAccessTokenRequest<'a, TR
 }
 
 impl<'a, TR, EF> DeviceAccessTokenRequest<'a, TR, EF> {
+    /// With this reading of the answer's extra fields, of which an ID token is one. At first it is strict. The response's
+    /// own fields are always read strictly.
+    pub fn set_reading(mut self, reading: Reading) -> Self
+        ensures set { result ≡ record self.entry { reading = reading } }
+    {
+        self.form.set_reading(reading);
+        self
+    }
+
     /// With one more pair behind all others. `AllocError` is want of memory, the one error.
     pub fn add_extra_param(mut self, name: String, value: String) -> Result<Self, AllocError>
         ensures added { IfOk result (λ r. r ≡ record self.entry {
@@ -203,12 +212,12 @@ impl<'a, TR: OAuth2TokenResponse, EF> DeviceAccessTokenRequest<'a, TR, EF> {
         ensures again { C.ready http.new }
         ensures ran { let before = known (C.log http.old) (C.script http.old) in
             let after = known (C.log http.new) (C.script http.new) in
-            RanForStep self.now before after (TR.read_of STRICT) result }
+            RanForStep self.now before after (TR.read_of self.now.reading) result }
         ensures never_falls { C.faults http.old ≤ C.faults http.new }
         ensures blamed { let before = C.faults http.old in
             IsRequestBlamed token_errors before (C.faults http.new) result }
     {
         let made = self.prepare(alloc);
-        step_over(alloc, http, made)
+        step_over(alloc, http, made, self.form.reading())
     }
 }

@@ -7,6 +7,7 @@ ghost use Rattle.oidc_oauth2.specs.ClientAuth.{seen_client};
 ghost use Rattle.oidc_oauth2.specs.Requests.{Prepares};
 ghost use Rattle.oidc_oauth2_requests.specs.FormRequests as spec;
 
+use oidc_members::Reading;
 use oidc_oauth2::{
     ClientAuth, HttpRequest, PrepareError, joined_scopes, post_form, push_all, push_client,
     push_optional,
@@ -23,6 +24,7 @@ pub(crate) struct FormRequest<'a> {
     auth: ClientAuth<'a>,
     scopes: Vec<Scope>,
     extra_params: Vec<(String, String)>,
+    reading: Reading,
 }
 
 impl<'a> Model for FormRequest<'a> {
@@ -40,6 +42,7 @@ impl<'a> Model for FormRequest<'a> {
       scopes = r.scopes.items;
       redirect_uri = None;
       extra = map (λ p. (string_bytes p.0, string_bytes p.1)) r.extra_params.items;
+      reading = r.reading;
     } };
 }
 
@@ -52,7 +55,22 @@ impl<'a> FormRequest<'a> {
             auth,
             scopes: Vec::new(alloc),
             extra_params: Vec::new(alloc),
+            reading: Reading::STRICT,
         }
+    }
+
+    // The reading of an ID token in the answer.
+    pub(crate) fn reading(&self) -> Reading
+        ensures { result ≡ self.now.reading }
+    {
+        self.reading
+    }
+
+    // Sets that reading.
+    pub(crate) fn set_reading(&mut self, reading: Reading)
+        ensures { self.new ≡ record self.old { reading = reading } }
+    {
+        self.reading = reading;
     }
 
     // Adds one more scope.

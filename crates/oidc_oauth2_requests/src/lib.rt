@@ -7,6 +7,9 @@
 //! - [`IntrospectionRequest`] asks about a token (RFC 7662 section 2.1), and [`RevocationRequest`] revokes one (RFC
 //!   7009 section 2.1).
 //!
+//! A request for tokens reads an ID token in the answer under the [`Reading`](oidc_members::Reading) of its
+//! `set_reading`, strictly at first. The fields that belong to OAuth 2.0 itself are always read strictly.
+//!
 //! What it promises. Each request is the POST of one description, `form_request`: an address, a client, the request's
 //! own pairs, scopes and further pairs. Over a transport that knows its log, it hands over exactly that one request, or
 //! nothing, and its answer is that of one judge for the response that came. Over any other its answer is what some

@@ -15,6 +15,7 @@ ghost use Rattle.oidc_oauth2_requests.specs.RequestRuns as run;
 ghost use Rattle.oidc_oauth2_requests.specs.Sending.{Sent};
 
 use crate::device::PollStep;
+use oidc_members::Reading;
 use oidc_oauth2::{
     DeviceAuthorizationResponse, DeviceCodeErrorResponse, DeviceCodeErrorResponseType,
     ErrorResponse, ExtraDeviceAuthorizationFields, HttpRequest, HttpResponse, OAuth2TokenResponse,
@@ -54,19 +55,21 @@ pub(crate) fn tokens_over<C: SyncHttpClient, TE: ErrorResponse, TR: OAuth2TokenR
     alloc: Global,
     http: &mut C,
     made: Result<HttpRequest, PrepareError>,
+    reading: Reading,
 ) -> Result<TR, RequestTokenError<C::Error, TE>>
     requires { C.ready http.old }
     ensures again { C.ready http.new }
     ensures ran { let before = known (C.log http.old) (C.script http.old) in
         let after = known (C.log http.new) (C.script http.new) in
         (ask : SeenFormRequest) → Prepares made (form_request ask)
-        → run.RanForRecord ask before after TE.read_of (TR.read_of STRICT) result }
+        → (read : Reading) → reading ≡ read
+        → run.RanForRecord ask before after TE.read_of (TR.read_of read) result }
     ensures never_falls { C.faults http.old ≤ C.faults http.new }
     ensures blamed { let before = C.faults http.old in
         IsRequestBlamed token_errors before (C.faults http.new) result }
 {
     let response = send(alloc, http, made)?;
-    token_answer(alloc, response)
+    token_answer(alloc, response, reading)
 }
 
 // The codes that a response holds.
@@ -204,11 +207,12 @@ fn step_of<RE, TR>(
 fn step_in<RE, TR: OAuth2TokenResponse>(
     alloc: Global,
     response: HttpResponse,
+    reading: Reading,
 ) -> Result<PollStep<TR>, RequestTokenError<RE, DeviceCodeErrorResponse>>
-    ensures { let reply = poll_answer (TR.read_of STRICT) (seen_response response) in
+    ensures { let reply = poll_answer (TR.read_of reading) (seen_response response) in
         Gives token_errors result reply }
 {
-    let answer = token_answer(alloc, response);
+    let answer = token_answer(alloc, response, reading);
     step_of(answer)
 }
 
@@ -217,17 +221,19 @@ pub(crate) fn step_over<C: SyncHttpClient, TR: OAuth2TokenResponse>(
     alloc: Global,
     http: &mut C,
     made: Result<HttpRequest, PrepareError>,
+    reading: Reading,
 ) -> Result<PollStep<TR>, RequestTokenError<C::Error, DeviceCodeErrorResponse>>
     requires { C.ready http.old }
     ensures again { C.ready http.new }
     ensures ran { let before = known (C.log http.old) (C.script http.old) in
         let after = known (C.log http.new) (C.script http.new) in
         (ask : SeenFormRequest) → Prepares made (form_request ask)
-        → run.RanForStep ask before after (TR.read_of STRICT) result }
+        → (read : Reading) → reading ≡ read
+        → run.RanForStep ask before after (TR.read_of read) result }
     ensures never_falls { C.faults http.old ≤ C.faults http.new }
     ensures blamed { let before = C.faults http.old in
         IsRequestBlamed token_errors before (C.faults http.new) result }
 {
     let response = send(alloc, http, made)?;
-    step_in(alloc, response)
+    step_in(alloc, response, reading)
 }

@@ -3,7 +3,6 @@
 ghost use Rattle.std.specs.Prelude.{◌≡◌, ◌≤◌, ◌++◌, ◌∷◌, [], IfOk};
 ghost use Rattle.std.specs.String.{string_bytes};
 ghost use Rattle.url.specs.Parts.{serialize};
-ghost use Rattle.oidc_members.specs.declared.reading.TheConstants.Reading.{STRICT};
 ghost use Rattle.oidc_oauth2.specs.ClientAuth.{seen_client};
 ghost use Rattle.oidc_oauth2.specs.Requests.{Prepares};
 ghost use Rattle.oidc_oauth2.specs.TokenAnswers.{token_errors};
@@ -13,6 +12,7 @@ ghost use Rattle.oidc_oauth2_requests.specs.RequestRuns.{RanForRecord};
 
 use crate::form_request::FormRequest;
 use crate::sending::tokens_over;
+use oidc_members::Reading;
 use oidc_oauth2::{
     ClientAuth, ErrorResponse, HttpRequest, OAuth2TokenResponse, PrepareError, RequestTokenError,
     SyncHttpClient,
@@ -40,7 +40,8 @@ impl<'a, TE, TR> Model for RefreshTokenRequest<'a, TE, TR> {
 }
 
 impl<'a, TE, TR> RefreshTokenRequest<'a, TE, TR> {
-    /// The request by a refresh token, without scopes and extra pairs. It takes no memory.
+    /// The request by a refresh token, without scopes and extra pairs, under the strict
+    /// reading. It takes no memory.
     pub fn new(
         alloc: Global,
         endpoint: &'a TokenUrl,
@@ -73,6 +74,15 @@ impl<'a, TE, TR> RefreshTokenRequest<'a, TE, TR> {
     {
         self.form.push_scopes(scopes)?;
         Ok(self)
+    }
+
+    /// With this reading of the answer's extra fields, of which an ID token is one. At first it is strict. The response's
+    /// own fields are always read strictly.
+    pub fn set_reading(mut self, reading: Reading) -> Self
+        ensures set { result ≡ record self.entry { reading = reading } }
+    {
+        self.form.set_reading(reading);
+        self
     }
 
     /// With one more pair behind all others. `AllocError` is want of memory, the one error.
@@ -117,13 +127,14 @@ impl<'a, TE: ErrorResponse, TR: OAuth2TokenResponse> RefreshTokenRequest<'a, TE,
         ensures again { C.ready http.new }
         ensures ran { let before = known (C.log http.old) (C.script http.old) in
             let after = known (C.log http.new) (C.script http.new) in
-            RanForRecord self.entry before after TE.read_of (TR.read_of STRICT) result }
+            let read_of = TR.read_of self.entry.reading in
+            RanForRecord self.entry before after TE.read_of read_of result }
         ensures never_falls { C.faults http.old ≤ C.faults http.new }
         ensures blamed { let before = C.faults http.old in
             IsRequestBlamed token_errors before (C.faults http.new) result }
     {
         let made = self.prepare(alloc);
-        tokens_over(alloc, http, made)
+        tokens_over(alloc, http, made, self.form.reading())
     }
 }
 
@@ -146,7 +157,8 @@ impl<'a, TE, TR> Model for PasswordTokenRequest<'a, TE, TR> {
 }
 
 impl<'a, TE, TR> PasswordTokenRequest<'a, TE, TR> {
-    /// The request by a name and a password, without scopes and extra pairs. It takes no memory.
+    /// The request by a name and a password, without scopes and extra pairs, under the strict
+    /// reading. It takes no memory.
     pub fn new(
         alloc: Global,
         endpoint: &'a TokenUrl,
@@ -182,6 +194,15 @@ impl<'a, TE, TR> PasswordTokenRequest<'a, TE, TR> {
     {
         self.form.push_scopes(scopes)?;
         Ok(self)
+    }
+
+    /// With this reading of the answer's extra fields, of which an ID token is one. At first it is strict. The response's
+    /// own fields are always read strictly.
+    pub fn set_reading(mut self, reading: Reading) -> Self
+        ensures set { result ≡ record self.entry { reading = reading } }
+    {
+        self.form.set_reading(reading);
+        self
     }
 
     /// With one more pair behind all others. `AllocError` is want of memory, the one error.
@@ -227,13 +248,14 @@ impl<'a, TE: ErrorResponse, TR: OAuth2TokenResponse> PasswordTokenRequest<'a, TE
         ensures again { C.ready http.new }
         ensures ran { let before = known (C.log http.old) (C.script http.old) in
             let after = known (C.log http.new) (C.script http.new) in
-            RanForRecord self.entry before after TE.read_of (TR.read_of STRICT) result }
+            let read_of = TR.read_of self.entry.reading in
+            RanForRecord self.entry before after TE.read_of read_of result }
         ensures never_falls { C.faults http.old ≤ C.faults http.new }
         ensures blamed { let before = C.faults http.old in
             IsRequestBlamed token_errors before (C.faults http.new) result }
     {
         let made = self.prepare(alloc);
-        tokens_over(alloc, http, made)
+        tokens_over(alloc, http, made, self.form.reading())
     }
 }
 
@@ -263,7 +285,8 @@ fn client_credentials_form(alloc: Global) -> Result<FormText, AllocError>
 }
 
 impl<'a, TE, TR> ClientCredentialsTokenRequest<'a, TE, TR> {
-    /// The request of a client, without scopes and extra pairs. It takes no memory.
+    /// The request of a client, without scopes and extra pairs, under the strict
+    /// reading. It takes no memory.
     pub fn new(alloc: Global, endpoint: &'a TokenUrl, auth: ClientAuth<'a>) -> Self
         ensures kept { let client = seen_client auth.entry in
             result ≡ new_request (serialize endpoint.now.url) client client_credentials_pairs }
@@ -290,6 +313,15 @@ impl<'a, TE, TR> ClientCredentialsTokenRequest<'a, TE, TR> {
     {
         self.form.push_scopes(scopes)?;
         Ok(self)
+    }
+
+    /// With this reading of the answer's extra fields, of which an ID token is one. At first it is strict. The response's
+    /// own fields are always read strictly.
+    pub fn set_reading(mut self, reading: Reading) -> Self
+        ensures set { result ≡ record self.entry { reading = reading } }
+    {
+        self.form.set_reading(reading);
+        self
     }
 
     /// With one more pair behind all others. `AllocError` is want of memory, the one error.
@@ -324,12 +356,13 @@ impl<'a, TE: ErrorResponse, TR: OAuth2TokenResponse> ClientCredentialsTokenReque
         ensures again { C.ready http.new }
         ensures ran { let before = known (C.log http.old) (C.script http.old) in
             let after = known (C.log http.new) (C.script http.new) in
-            RanForRecord self.entry before after TE.read_of (TR.read_of STRICT) result }
+            let read_of = TR.read_of self.entry.reading in
+            RanForRecord self.entry before after TE.read_of read_of result }
         ensures never_falls { C.faults http.old ≤ C.faults http.new }
         ensures blamed { let before = C.faults http.old in
             IsRequestBlamed token_errors before (C.faults http.new) result }
     {
         let made = self.prepare(alloc);
-        tokens_over(alloc, http, made)
+        tokens_over(alloc, http, made, self.form.reading())
     }
 }

@@ -6,4 +6,3 @@ mod FormTexts
 mod Lookups
 mod PlainTexts
 mod TextBytes
-mod Written

@@ -1,5 +1,5 @@
--- Kinds of values of a field, and the refusal where a value isn't of its kind. Booleans and moments depend on
--- the reading.
+-- Kinds of values of a field (OpenID Connect Core 1.0 section 5.1, RFC 7519 section 2; moments as texts RFC 3339 section
+-- 5.6), and the refusal where a value isn't of its kind. Booleans and moments depend on the reading.
 use Rattle.std.specs.Prelude.{ℕ, ℤ, List, [], ◌∷◌, Bool, true, false, codes, if◌then◌else◌, is_some, Option, Some, None, option_and_then, option_map, Result, Ok, Err}
 use Rattle.std.specs.Option.{ok_or}
 use Rattle.std.specs.Str.{bytes_eq}

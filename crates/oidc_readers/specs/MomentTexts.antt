@@ -1,5 +1,6 @@
--- Moments as texts: `date-time` of RFC 3339 section 5.6. A day is one that the calendar of `jiff` has, a second 60 is
--- none, digits of a fraction past the ninth are dropped, and a moment is in range as one that is a number is.
+-- Moments as texts: `date-time` of RFC 3339 section 5.6, the days of a month by section 5.7. A leap second (60) is
+-- refused, digits of the fraction past the ninth are dropped, and the range is that of moments as numbers.
+-- Bytes stand as their numbers: `+` 43, `-` 45, `.` 46, `:` 58, `T` 84, `Z` 90, `t` 116, `z` 122.
 use Rattle.std.specs.Prelude.{ℕ, ◌+◌, ◌*◌, ◌==◌, ◌&&◌, ◌||◌, nat_lt, ℤ, pos, neg_ℤ, ◌+ℤ◌, ◌-ℤ◌, ◌*ℤ◌, int_le, if◌then◌else◌, List, [], ◌∷◌, take, drop, min, Option, Some, None, option_map}
 use Rattle.std.specs.Char.{is_ascii_digit}
 use Rattle.std.specs.Int.{is_in_range}
@@ -7,6 +8,7 @@ use Rattle.std.specs.List.{prefix_len}
 use Rattle.jiff_core.specs.Calendar.{days_in_month, days_from_civil}
 use Rattle.jiff_core.specs.Timestamp.{nanos_of_seconds}
 use Rattle.jiff_fmt.specs.Reader.{Digits, two_digits, four_digits, fraction_value}
+use Rattle.oidc_readers.specs.Moments.{first_second, last_second}
 
 -- one step after another, up to the first that finds nothing
 infixl 10 ◌>>=◌
@@ -15,9 +17,9 @@ None >>= f = None
 (Some x) >>= f = f x
 
 -- the text behind a byte, where it starts with that
-abbrev pub behind : ℕ → List ℕ → Option (List ℕ)
-behind byte [] = None
-behind byte (b ∷ rest) = if b == byte then Some rest else None
+abbrev pub past_byte : ℕ → List ℕ → Option (List ℕ)
+past_byte byte [] = None
+past_byte byte (b ∷ rest) = if b == byte then Some rest else None
 
 -- two digits whose number is below a limit, and the text behind them
 abbrev pub two_digits_below : ℕ → List ℕ → Digits ℕ
@@ -36,8 +38,8 @@ day_number year month day =
 unfoldable pub full_date : List ℕ → Digits ℤ
 full_date text = do
   year ← four_digits text
-  month ← behind 45 year.1 >>= two_digits
-  day ← behind 45 month.1 >>= two_digits
+  month ← past_byte 45 year.1 >>= two_digits
+  day ← past_byte 45 month.1 >>= two_digits
   number ← day_number year.0 month.0 day.0
   Some (number, day.1)
 
@@ -58,8 +60,8 @@ fraction (b ∷ rest) = if b == 46 then fraction_digits rest else Some (0, b ∷
 unfoldable pub partial_time : List ℕ → Digits ℕ
 partial_time text = do
   hour ← two_digits_below 24 text
-  minute ← behind 58 hour.1 >>= two_digits_below 60
-  second ← behind 58 minute.1 >>= two_digits_below 60
+  minute ← past_byte 58 hour.1 >>= two_digits_below 60
+  second ← past_byte 58 minute.1 >>= two_digits_below 60
   part ← fraction second.1
   Some ((hour.0 * 3600 + minute.0 * 60 + second.0) * 1_000_000_000 + part.0, part.1)
 
@@ -74,7 +76,7 @@ at_end value (b ∷ rest) = None
 unfoldable pub offset_digits : List ℕ → Option ℤ
 offset_digits text = do
   hour ← two_digits_below 24 text
-  minute ← behind 58 hour.1 >>= two_digits_below 60
+  minute ← past_byte 58 hour.1 >>= two_digits_below 60
   at_end (pos (hour.0 * 3600 + minute.0 * 60)) minute.1
 
 -- `time-offset`: how many seconds the clock is ahead of UTC
@@ -89,16 +91,15 @@ time_offset (b ∷ rest) =
 -- ---- the moment
 
 -- the `T`, in either case
-abbrev pub behind_letter : List ℕ → Option (List ℕ)
-behind_letter [] = None
-behind_letter (b ∷ rest) = if b == 84 || b == 116 then Some rest else None
+abbrev pub past_letter : List ℕ → Option (List ℕ)
+past_letter [] = None
+past_letter (b ∷ rest) = if b == 84 || b == 116 then Some rest else None
 
--- nanoseconds since the Unix epoch, of a moment that has a date within the years -9999 to 9999 at
--- each offset from UTC
+-- nanoseconds since the Unix epoch, where they are in range: to the end of the last second
 abbrev pub in_range : ℤ → Option ℤ
 in_range n =
-    if int_le (neg_ℤ (pos 377_705_023_201_000_000_000)) n
-    && int_le n (pos 253_402_207_200_999_999_999)
+    if int_le (nanos_of_seconds first_second) n
+    && int_le n (nanos_of_seconds last_second +ℤ pos 999_999_999)
     then Some n else None
 
 -- The moment is the civil time less the offset.
@@ -110,6 +111,6 @@ moment_at_offset day time offset =
 unfoldable pub moment_in : List ℕ → Option ℤ
 moment_in text = do
   date ← full_date text
-  time ← behind_letter date.1 >>= partial_time
+  time ← past_letter date.1 >>= partial_time
   offset ← time_offset time.1
   moment_at_offset date.0 time.0 offset

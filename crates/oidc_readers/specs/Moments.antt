@@ -4,11 +4,18 @@ use Rattle.std.specs.Int.{int_div_euclid}
 use Rattle.serde_json.specs.Data.{Data, number}
 use Rattle.serde_json.specs.Find.{of_integer}
 
--- seconds since the Unix epoch, of a moment that has a date within the years -9999 to 9999 at each
--- offset from UTC, as nanoseconds
+-- The range: the first and the last second since the Unix epoch at which a clock of each offset from UTC shows a date
+-- within the years -9999 to 9999.
+abbrev pub first_second : ℤ
+first_second = neg_ℤ (pos 377_705_023_201)
+
+abbrev pub last_second : ℤ
+last_second = pos 253_402_207_200
+
+-- seconds since the Unix epoch, where they are in range, as nanoseconds
 abbrev pub moment_at : ℤ → Option ℤ
 moment_at second =
-    if int_le (neg_ℤ (pos 377_705_023_201)) second && int_le second (pos 253_402_207_200)
+    if int_le first_second second && int_le second last_second
     then Some (second *ℤ pos 1_000_000_000)
     else None
 

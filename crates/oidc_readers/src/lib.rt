@@ -13,7 +13,7 @@
 //! - [`read_fields`] is the pass, and [`read_members`] the same with the place of a refusal.
 //! - [`put`] and its like append the members that a record is written as, which are UTF-8.
 //! - [`laws`] says that what is written is read back as it was, where its names and texts are UTF-8 and
-//!   it holds no float.
+//!   it holds no float, and that no text is a boolean or a moment under the strict reading.
 //!
 //! What it promises. A field's member is refused where one of its names stood before, or where its
 //! value isn't of the field's kind. A pass over the members answers the first faulty member's refusal, by looking back
@@ -37,5 +37,5 @@ pub use crate::passes::{MemberReader, PlacedError, read_members};
 pub use crate::records::{Both, read_fields};
 pub use crate::slots::Once;
 pub use crate::writing::{
-    named, put, put_optional_moment, put_optional_text, put_optional_whole, put_text, put_texts,
+    put, put_optional_moment, put_optional_text, put_optional_whole, put_text, put_texts,
 };

@@ -18,8 +18,8 @@ use jiff::civil::{Date, DateTime, Time};
 use jiff::tz::Offset;
 
 // The text behind a byte, where it starts with that.
-fn behind(text: &[u8], byte: u8) -> Option<&[u8]>
-    ensures { option_copied result ≡ spec.behind byte text.now }
+fn past_byte(text: &[u8], byte: u8) -> Option<&[u8]>
+    ensures { option_copied result ≡ spec.past_byte byte text.now }
 {
     match text {
         [first, rest @ ..] if *first == byte => Some(rest),
@@ -28,8 +28,8 @@ fn behind(text: &[u8], byte: u8) -> Option<&[u8]>
 }
 
 // The text behind a `T` in either case.
-fn behind_letter(text: &[u8]) -> Option<&[u8]>
-    ensures { option_copied result ≡ spec.behind_letter text.now }
+fn past_letter(text: &[u8]) -> Option<&[u8]>
+    ensures { option_copied result ≡ spec.past_letter text.now }
 {
     match text {
         [b'T' | b't', rest @ ..] => Some(rest),
@@ -94,8 +94,8 @@ fn full_date(text: &[u8]) -> Option<(Date, &[u8])>
     ensures { option_map (λ p. (epoch_day p.0, p.1.now)) result ≡ spec.full_date text.now }
 {
     let (year, rest) = four_digits(text)?;
-    let (month, rest) = two_digits(behind(rest, b'-')?)?;
-    let (day, rest) = two_digits(behind(rest, b'-')?)?;
+    let (month, rest) = two_digits(past_byte(rest, b'-')?)?;
+    let (day, rest) = two_digits(past_byte(rest, b'-')?)?;
     let date = date_of(year, month, day)?;
     Some((date, rest))
 }
@@ -165,8 +165,8 @@ fn partial_time(text: &[u8]) -> Option<(Time, &[u8])>
     ensures { option_map (λ p. (time_nanos p.0, p.1.now)) result ≡ spec.partial_time text.now }
 {
     let (hour, rest) = two_digits_below(text, 24)?;
-    let (minute, rest) = two_digits_below(behind(rest, b':')?, 60)?;
-    let (second, rest) = two_digits_below(behind(rest, b':')?, 60)?;
+    let (minute, rest) = two_digits_below(past_byte(rest, b':')?, 60)?;
+    let (second, rest) = two_digits_below(past_byte(rest, b':')?, 60)?;
     let (nanosecond, rest) = fraction(rest)?;
     Some((time_of(hour, minute, second, nanosecond), rest))
 }
@@ -178,7 +178,7 @@ fn offset_digits(text: &[u8]) -> Option<i32>
     ensures bound { IfSome result (IsBetween (pos 0) (pos 86_340)) }
 {
     let (hour, rest) = two_digits_below(text, 24)?;
-    let (minute, rest) = two_digits_below(behind(rest, b':')?, 60)?;
+    let (minute, rest) = two_digits_below(past_byte(rest, b':')?, 60)?;
     if rest.is_empty() {
         Some(hour as i32 * 3600 + minute as i32 * 60)
     } else {
@@ -230,7 +230,7 @@ pub(crate) fn moment_in(text: &str) -> Option<Moment>
     let Some((date, rest)) = full_date(text.as_bytes()) else {
         return None;
     };
-    let rest = behind_letter(rest)?;
+    let rest = past_letter(rest)?;
     let Some((time, rest)) = partial_time(rest) else {
         return None;
     };

@@ -73,7 +73,8 @@ impl<
         IdToken::from_str_with(alloc, text, Reading::STRICT)
     }
 
-    /// The same, with the claims read under that reading.
+    /// The ID token that a text is, its claims read under this reading. It is refused as by
+    /// [`IdToken::from_str`], the claims as they are under this reading.
     pub fn from_str_with(alloc: Global, text: &str, reading: Reading) -> Result<Self, ParseError>
         ensures answer { Answers (token_of JE.from_str JS.from_str
             (id_token_claims_of AC.read_of GC.read_of reading) text.now) result }

@@ -2,7 +2,8 @@
 //!
 //! - [`IdToken`] is a [`JsonWebToken`] whose payload is [`IdTokenClaims`] (OpenID Connect Core 1.0 section 2).
 //!   Tokens over any payload are those of `oidc_jwt`, and the claims those of `oidc_id_token_claims`; both are
-//!   passed on here.
+//!   passed on here. [`IdToken::from_str_with`] reads the claims under a [`Reading`](oidc_members::Reading): a text
+//!   may be a boolean or a moment where it says so; [`IdToken::from_str`] reads them strictly.
 //! - [`IdTokenVerifier`] is what a client expects of an ID token. [`IdToken::claims`] gives the claims
 //!   where the verifier accepts the token (section 3.1.3.7), else the first check that fails.
 //! - [`IdToken::refreshed_claims`] gives those of an ID token that came with refreshed tokens, where it is accepted
@@ -10,8 +11,8 @@
 //! - [`UserInfoVerifier`] is what it expects of a user info answer that is a token (sections 5.3.2 and 5.3.4).
 //! - [`IdToken::new`] issues a token. [`from_token`] and [`from_code`] are the hashes of an access token
 //!   and of a code that it may hold (sections 3.1.3.6 and 3.3.2.11).
-//! - [`IdTokenFields`] are the fields of a token response that may hold an ID token, and [`TokenResponse`]
-//!   is such a response (section 3.1.3.3).
+//! - [`IdTokenFields`] are the fields of a token response that may hold an ID token, which is read under the
+//!   reading of the response's members, and [`TokenResponse`] is such a response (section 3.1.3.3).
 //! - [`laws`] says what holds of ID tokens as a whole.
 //!
 //! What it promises. A text is read exactly as `token_of` says, over claims as `id_token_claims_of` says.

@@ -3,7 +3,6 @@ use Rattle.std.proofs.Common.{◌≡◌, ◌≢◌, ◌==◌, ℕ, Bool, true, f
 use Rattle.std.specs.Prelude.{Result, Ok, Err, not, ◌⊎◌, if◌then◌else◌, codes}
 use Rattle.std.specs.Str.{is_utf8}
 use Rattle.http_header.specs.FieldValue.{is_visible_text, plain_value}
-use Rattle.oidc_members.specs.declared.reading.TheConstants.Reading.{STRICT}
 use Rattle.oidc_members.specs.declared.refusal.Refusal.{Refusal}
 use Rattle.oidc_keys.specs.declared.refusals.SignatureVerificationError.TheVariants.{AmbiguousKeyId, CryptoError, DisallowedAlg, InvalidKey, NoMatchingKey, NoSignature, UnsupportedAlg, Memory as NoMemory}
 use Rattle.oidc_oauth2.specs.Messages.{SeenRequest, SeenResponse, SeenAnswer}
@@ -104,17 +103,17 @@ module _ {AC GC JE Key Use Algorithm Type' : Type 0} (r : Readers AC GC JE Key U
       let another = about_another ask.demand.verifier.expected_subject found.standard_claims.subject is in
       inl (record { found = found; reads = reads; expected = another.0; is_expected = another.1; another = another.2 })
 
-  read_rests : (body : List ℕ) → AllowsObject ask answers body → (read : Result Claims Refusal) → claims_in r.additional r.gender STRICT body ≡ read
+  read_rests : (body : List ℕ) → AllowsObject ask answers body → (read : Result Claims Refusal) → claims_in r.additional r.gender ask.demand.reading body ≡ read
       → Rests ((read or_as Parse) >>= λ found. (ClaimsVerification claims.InvalidSubject when not (is_expected_subject ask.demand.verifier.expected_subject found.standard_claims.subject)) >> Ok found)
   read_rests body allows (Ok found) is = about_rests found (record { body = body; allows = allows; read = is }) (is_expected_subject ask.demand.verifier.expected_subject found.standard_claims.subject) refl
   read_rests body allows (Err refusal) is = inl (record { body = body; allows = allows; refused = is })
 
-  json_rests : (body : List ℕ) → AllowsObject ask answers body → Rests (from_json r.additional r.gender STRICT ask.demand.verifier.expected_subject body)
+  json_rests : (body : List ℕ) → AllowsObject ask answers body → Rests (from_json r.additional r.gender ask.demand.reading ask.demand.verifier.expected_subject body)
   unfolding from_json
-  json_rests body allows = read_rests body allows (claims_in r.additional r.gender STRICT body) refl
+  json_rests body allows = read_rests body allows (claims_in r.additional r.gender ask.demand.reading body) refl
 
   signed_rests : (body : List ℕ) → HoldsObject ask answers body → (signed : Bool) → ask.demand.signed ≡ signed
-      → Rests ((ClaimsVerification (claims.SignatureVerification NoSignature) when signed) >> from_json r.additional r.gender STRICT ask.demand.verifier.expected_subject body)
+      → Rests ((ClaimsVerification (claims.SignatureVerification NoSignature) when signed) >> from_json r.additional r.gender ask.demand.reading ask.demand.verifier.expected_subject body)
   signed_rests body holds true is = inl (record { body = body; holds = holds; signature_asked = is })
   signed_rests body holds false is = json_rests body (record { holds = holds; unsigned_allowed = is })
 
@@ -133,17 +132,17 @@ module _ {AC GC JE Key Use Algorithm Type' : Type 0} (r : Readers AC GC JE Key U
         (λ inside. info_never_memory_inside r.keys never ask.demand.verifier token parties (is ∙ ap Some inside))
         (inr (record { token = token; reads = reads; check_failed = is; cause = info_failure_cause r.keys ask.demand.verifier token parties kind is }))
 
-    token_rests : (body : List ℕ) → HoldsText ask answers body → (read : Result (SeenToken JE Algorithm Claims) Refusal) → token_in r body ≡ read
+    token_rests : (body : List ℕ) → HoldsText ask answers body → (read : Result (SeenToken JE Algorithm Claims) Refusal) → token_in r ask.demand.reading body ≡ read
         → Rests ((read or_as Parse) >>= accepted_claims r ask.demand.verifier)
     token_rests body holds (Ok token) is = failure_rests token (record { body = body; holds = holds; read = is }) (failure_of r ask.demand.verifier token) refl
     token_rests body holds (Err refusal) is = inr (record { body = body; holds = holds; refused = is })
 
     text_rests : (body : List ℕ) → HoldsToken ask answers body → (text : Bool) → is_utf8 body ≡ text
-        → Rests ((Other other.Utf8 when not text) >> ((token_in r body or_as Parse) >>= accepted_claims r ask.demand.verifier))
-    text_rests body holds true is = token_rests body (record { holds = holds; text = is }) (token_in r body) refl
+        → Rests ((Other other.Utf8 when not text) >> ((token_in r ask.demand.reading body or_as Parse) >>= accepted_claims r ask.demand.verifier))
+    text_rests body holds true is = token_rests body (record { holds = holds; text = is }) (token_in r ask.demand.reading body) refl
     text_rests body holds false is = record { body = body; holds = holds; no_text = is }
 
-    of_token_rests : (body : List ℕ) → HoldsToken ask answers body → Rests (of_token r ask.demand.verifier body)
+    of_token_rests : (body : List ℕ) → HoldsToken ask answers body → Rests (of_token r ask.demand.reading ask.demand.verifier body)
     unfolding of_token
     of_token_rests body holds = text_rests body holds (is_utf8 body) refl
 
@@ -155,7 +154,7 @@ module _ {AC GC JE Key Use Algorithm Type' : Type 0} (r : Readers AC GC JE Key U
       jwt = may_be response.content_type (codes "application/jwt")
 
       type_rests : Succeeds ask answers response → (is_json is_jwt : Bool) → json ≡ is_json → jwt ≡ is_jwt
-          → Rests (if is_json then of_object r.additional r.gender ask.demand response.body else if is_jwt then of_token r ask.demand.verifier response.body else Err (Response response.status response.body MediaType))
+          → Rests (if is_json then of_object r.additional r.gender ask.demand response.body else if is_jwt then of_token r ask.demand.reading ask.demand.verifier response.body else Err (Response response.status response.body MediaType))
       type_rests succeeds true is_jwt j w = object_rests response.body (record { response = response; succeeds = succeeds; json = j; own_body = refl })
       type_rests succeeds false true j w = of_token_rests response.body (record { response = response; succeeds = succeeds; no_json = j; jwt = w; own_body = refl })
       type_rests succeeds false false j w = record { response = response; succeeds = succeeds; no_json = j; no_jwt = w; own_status = refl; own_body = refl }
@@ -226,15 +225,15 @@ module _ {AC GC JE Key Use Algorithm Type' : Type 0} (r : Readers AC GC JE Key U
   unfolding by_media_type
   object_reply body holds = succeeds_reply holds.response holds.succeeds ∙ rw holds.json (ap (of_object r.additional r.gender ask.demand) holds.own_body)
 
-  token_reply : (body : List ℕ) → HoldsToken ask answers body → Replies (of_token r ask.demand.verifier body)
+  token_reply : (body : List ℕ) → HoldsToken ask answers body → Replies (of_token r ask.demand.reading ask.demand.verifier body)
   unfolding by_media_type
-  token_reply body holds = succeeds_reply holds.response holds.succeeds ∙ rw (holds.no_json, holds.jwt) (ap (of_token r ask.demand.verifier) holds.own_body)
+  token_reply body holds = succeeds_reply holds.response holds.succeeds ∙ rw (holds.no_json, holds.jwt) (ap (of_token r ask.demand.reading ask.demand.verifier) holds.own_body)
 
-  allows_reply : (body : List ℕ) → AllowsObject ask answers body → Replies (from_json r.additional r.gender STRICT ask.demand.verifier.expected_subject body)
+  allows_reply : (body : List ℕ) → AllowsObject ask answers body → Replies (from_json r.additional r.gender ask.demand.reading ask.demand.verifier.expected_subject body)
   unfolding of_object
   allows_reply body allows = object_reply body allows.holds ∙ rw allows.unsigned_allowed refl
 
-  text_reply : (body : List ℕ) → HoldsText ask answers body → Replies ((token_in r body or_as Parse) >>= accepted_claims r ask.demand.verifier)
+  text_reply : (body : List ℕ) → HoldsText ask answers body → Replies ((token_in r ask.demand.reading body or_as Parse) >>= accepted_claims r ask.demand.verifier)
   unfolding of_token
   text_reply body holds = token_reply body holds.holds ∙ rw holds.text refl
 

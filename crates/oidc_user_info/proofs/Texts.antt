@@ -3,6 +3,7 @@ use Rattle.std.proofs.Common.{◌≡◌, ℕ, List, Bool, true, false, Result, r
 use Rattle.std.specs.Prelude.{Err}
 use Rattle.std.specs.Str.{is_utf8, IsUtf8}
 use Rattle.std.proofs.lemmas.Str.{IsUtf8-from_is_utf8, is_utf8-from_IsUtf8}
+use Rattle.oidc_members.specs.declared.reading.Reading.{Reading}
 use Rattle.oidc_tokens.specs.UserInfoVerification.{SeenUserInfoVerifier}
 use Rattle.oidc_user_info.specs.UserInfoClaims.{SeenUserInfoClaims}
 use Rattle.oidc_oauth2.specs.Replies.{Gives}
@@ -16,16 +17,16 @@ no_text : (body : List ℕ) (b : Bool) → is_utf8 body ≡ b → (IsUtf8 body �
 no_text body true is h = absurd (h (IsUtf8-from_is_utf8 body is))
 no_text body false is h = refl
 
-module _ {AC GC JE Key Use Algorithm Type' : Type 0} (r : Readers AC GC JE Key Use Algorithm Type') (v : SeenUserInfoVerifier Key) (body : List ℕ) where
-  pub no_text_row : (IsUtf8 body → ⊥) → of_token r v body ≡ Err (Other Utf8)
+module _ {AC GC JE Key Use Algorithm Type' : Type 0} (r : Readers AC GC JE Key Use Algorithm Type') (reading : Reading) (v : SeenUserInfoVerifier Key) (body : List ℕ) where
+  pub no_text_row : (IsUtf8 body → ⊥) → of_token r reading v body ≡ Err (Other Utf8)
   unfolding of_token
   no_text_row h = rw (no_text body (is_utf8 body) refl h) refl
 
-  text_row : IsUtf8 body → of_token r v body ≡ of_text r v body
+  text_row : IsUtf8 body → of_token r reading v body ≡ of_text r reading v body
   unfolding of_token
   text_row h = rw (is_utf8-from_IsUtf8 body h) refl
 
   -- what a text is worth is what the body is, whose text it is
-  pub text_gives : {RE : Type 0} (text slice : List ℕ) → text ≡ slice → slice ≡ body → IsUtf8 slice → (result : Result (SeenUserInfoClaims AC GC) (UserInfoError RE)) → Gives info_errors result (of_text r v text) → Gives info_errors result (of_token r v body)
+  pub text_gives : {RE : Type 0} (text slice : List ℕ) → text ≡ slice → slice ≡ body → IsUtf8 slice → (result : Result (SeenUserInfoClaims AC GC) (UserInfoError RE)) → Gives info_errors result (of_text r reading v text) → Gives info_errors result (of_token r reading v body)
   text_gives text slice is same utf8 result gives =
-      subst (λ meant. Gives info_errors result meant) (ap (of_text r v) (is ∙ same) ∙ sym (text_row (subst IsUtf8 same utf8))) gives
+      subst (λ meant. Gives info_errors result meant) (ap (of_text r reading v) (is ∙ same) ∙ sym (text_row (subst IsUtf8 same utf8))) gives

@@ -2,7 +2,6 @@
 use Rattle.std.proofs.Common.{◌≡◌, ◌==◌, ℕ, List, Bool, true, false, cond, Option, None, Some, Result, Ok, Err, refl, subst}
 use Rattle.std.specs.Prelude.{not, codes, IfErr}
 use Rattle.std.specs.Str.{is_utf8}
-use Rattle.oidc_members.specs.declared.reading.TheConstants.Reading.{STRICT}
 use Rattle.oidc_members.specs.declared.refusal.Refusal.{Refusal}
 use Rattle.oidc_keys.specs.declared.refusals.SignatureVerificationError.TheVariants.{NoSignature}
 use Rattle.oidc_oauth2.specs.HttpUtils.{may_be}
@@ -39,13 +38,13 @@ module _ {AC GC JE Key Use Algorithm Type' : Type 0} (r : Readers AC GC JE Key U
   read_judged (Ok found) = after_when (ClaimsVerification claims.InvalidSubject) (not (is_expected_subject demand.verifier.expected_subject found.standard_claims.subject)) (Ok found) tt tt
   read_judged (Err refusal) = tt
 
-  json_judged : (body : List ℕ) → IsJudged (from_json r.additional r.gender STRICT demand.verifier.expected_subject body)
+  json_judged : (body : List ℕ) → IsJudged (from_json r.additional r.gender demand.reading demand.verifier.expected_subject body)
   unfolding from_json
-  json_judged body = read_judged (claims_in r.additional r.gender STRICT body)
+  json_judged body = read_judged (claims_in r.additional r.gender demand.reading body)
 
   object_judged : (body : List ℕ) → IsJudged (of_object r.additional r.gender demand body)
   unfolding of_object
-  object_judged body = after_when (ClaimsVerification (claims.SignatureVerification NoSignature)) demand.signed (from_json r.additional r.gender STRICT demand.verifier.expected_subject body) tt (json_judged body)
+  object_judged body = after_when (ClaimsVerification (claims.SignatureVerification NoSignature)) demand.signed (from_json r.additional r.gender demand.reading demand.verifier.expected_subject body) tt (json_judged body)
 
   failure_judged : (token : SeenToken JE Algorithm Claims) (failure : Option ClaimsVerificationError) → IsJudged ((ClaimsVerification for failure) >> Ok token.payload)
   failure_judged token None = tt
@@ -55,9 +54,9 @@ module _ {AC GC JE Key Use Algorithm Type' : Type 0} (r : Readers AC GC JE Key U
   token_judged (Ok token) = failure_judged token (failure_of r demand.verifier token)
   token_judged (Err refusal) = tt
 
-  of_token_judged : (body : List ℕ) → IsJudged (of_token r demand.verifier body)
+  of_token_judged : (body : List ℕ) → IsJudged (of_token r demand.reading demand.verifier body)
   unfolding of_token
-  of_token_judged body = after_when (Other other.Utf8) (not (is_utf8 body)) ((token_in r body or_as Parse) >>= accepted_claims r demand.verifier) tt (token_judged (token_in r body))
+  of_token_judged body = after_when (Other other.Utf8) (not (is_utf8 body)) ((token_in r demand.reading body or_as Parse) >>= accepted_claims r demand.verifier) tt (token_judged (token_in r demand.reading body))
 
   either : (b : Bool) (x y : Meant Claims) → IsJudged x → IsJudged y → IsJudged (cond b x y)
   either true x y own later = own
@@ -68,7 +67,7 @@ module _ {AC GC JE Key Use Algorithm Type' : Type 0} (r : Readers AC GC JE Key U
     unfolding by_media_type
     media_judged =
         either (may_be response.content_type (codes "application/json")) (of_object r.additional r.gender demand response.body) _ (object_judged response.body)
-        (either (may_be response.content_type (codes "application/jwt")) (of_token r demand.verifier response.body) (Err (Response response.status response.body MediaType)) (of_token_judged response.body) tt)
+        (either (may_be response.content_type (codes "application/jwt")) (of_token r demand.reading demand.verifier response.body) (Err (Response response.status response.body MediaType)) (of_token_judged response.body) tt)
 
     judged : IsJudged (info_answer r demand response)
     unfolding info_answer

@@ -4,7 +4,6 @@ use Rattle.std.specs.Prelude.{ℕ, List, ◌==◌, Bool, not, Option, Result, Ok
 use Rattle.std.specs.Str.{is_utf8}
 use Rattle.oidc_members.specs.Seen.{SeenMember}
 use Rattle.oidc_members.specs.declared.reading.Reading.{Reading}
-use Rattle.oidc_members.specs.declared.reading.TheConstants.Reading.{STRICT}
 use Rattle.oidc_members.specs.declared.refusal.Refusal.{Refusal}
 use Rattle.oidc_keys.specs.declared.refusals.SignatureVerificationError.TheVariants.{NoSignature}
 use Rattle.oidc_oauth2.specs.Messages.{SeenResponse}
@@ -22,9 +21,11 @@ use Rattle.oidc_user_info.specs.declared.errors.InfoOther.TheVariants.{Utf8}
 use Rattle.oidc_user_info.specs.declared.errors.ResponseCause.TheVariants.{Status, MediaType}
 use Rattle.oidc_user_info.specs.declared.errors.UserInfoError.TheVariants.{ClaimsVerification, Parse, Response, Other, TooLong}
 
--- what is asked of an answer: whether it has to be signed, and by whom, for whom and about whom it has to be
+-- what is asked of an answer: whether it has to be signed, how its claims are read, and by whom, for whom and about whom
+-- it has to be
 pub record Demand (Key : Type 0) : Type 0 where
   pub signed : Bool
+  pub reading : Reading
   pub verifier : SeenUserInfoVerifier Key
 
 -- ---- how claims and tokens are read, and what is known of keys
@@ -64,18 +65,18 @@ from_json additional gender reading expected body = do
   ClaimsVerification InvalidSubject when not (is_expected_subject expected claims.standard_claims.subject)
   Ok claims
 
--- those of an answer that is an object, whose claims are read strictly
+-- those of an answer that is an object
 unfoldable pub of_object : {AC GC Key : Type 0} → (List SeenMember → Result AC Refusal)
     → (SeenMember → Result GC Refusal) → Demand Key → List ℕ → Meant (SeenUserInfoClaims AC GC)
 of_object additional gender demand body = do
   ClaimsVerification (SignatureVerification NoSignature) when demand.signed
-  from_json additional gender STRICT demand.verifier.expected_subject body
+  from_json additional gender demand.reading demand.verifier.expected_subject body
 
 module _ {AC GC JE Key Use Algorithm Type' : Type 0} (r : Readers AC GC JE Key Use Algorithm Type') where
-  -- the token that a text is, whose claims are read strictly
-  abbrev pub token_in : List ℕ → Result (SeenToken JE Algorithm (SeenUserInfoClaims AC GC)) Refusal
-  token_in text =
-      token_of r.encryption_named r.signing_named (user_info_claims_of r.additional r.gender STRICT) text
+  -- the token that a text is, whose claims are read under a reading
+  abbrev pub token_in : Reading → List ℕ → Result (SeenToken JE Algorithm (SeenUserInfoClaims AC GC)) Refusal
+  token_in reading text =
+      token_of r.encryption_named r.signing_named (user_info_claims_of r.additional r.gender reading) text
 
   -- the first check of a token that fails
   abbrev pub failure_of : SeenUserInfoVerifier Key → SeenToken JE Algorithm (SeenUserInfoClaims AC GC)
@@ -90,22 +91,22 @@ module _ {AC GC JE Key Use Algorithm Type' : Type 0} (r : Readers AC GC JE Key U
     Ok token.payload
 
   -- those of a token's text
-  abbrev pub of_text : SeenUserInfoVerifier Key → List ℕ → Meant (SeenUserInfoClaims AC GC)
-  of_text v text = do
-    token ← token_in text or_as Parse
+  abbrev pub of_text : Reading → SeenUserInfoVerifier Key → List ℕ → Meant (SeenUserInfoClaims AC GC)
+  of_text reading v text = do
+    token ← token_in reading text or_as Parse
     accepted_claims v token
 
   -- those of an answer that is a token
-  unfoldable pub of_token : SeenUserInfoVerifier Key → List ℕ → Meant (SeenUserInfoClaims AC GC)
-  of_token v body = do
+  unfoldable pub of_token : Reading → SeenUserInfoVerifier Key → List ℕ → Meant (SeenUserInfoClaims AC GC)
+  of_token reading v body = do
     Other Utf8 when not (is_utf8 body)
-    of_text v body
+    of_text reading v body
 
   -- An answer without a media type is an object.
   unfoldable pub by_media_type : Demand Key → SeenResponse → Meant (SeenUserInfoClaims AC GC)
   by_media_type demand answer =
       if may_be answer.content_type (codes "application/json") then of_object r.additional r.gender demand answer.body
-      else if may_be answer.content_type (codes "application/jwt") then of_token demand.verifier answer.body
+      else if may_be answer.content_type (codes "application/jwt") then of_token demand.reading demand.verifier answer.body
       else Err (Response answer.status answer.body MediaType)
 
   -- The size is looked at before the status.

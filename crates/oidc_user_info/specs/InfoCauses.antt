@@ -2,7 +2,6 @@
 use Rattle.std.specs.Prelude.{◌≡◌, ◌≢◌, ◌⊎◌, ℕ, List, None, Some, true, false, Ok, Err, codes}
 use Rattle.std.specs.Str.{is_utf8}
 use Rattle.http_header.specs.FieldValue.{is_visible_text}
-use Rattle.oidc_members.specs.declared.reading.TheConstants.Reading.{STRICT}
 use Rattle.oidc_members.specs.declared.refusal.Refusal.{Refusal}
 use Rattle.oidc_keys.specs.declared.refusals.SignatureVerificationError.TheVariants.{NoSignature, Memory as NoMemory}
 use Rattle.oidc_oauth2.specs.Messages.{SeenResponse, SeenAnswer}
@@ -121,12 +120,12 @@ module _ {Key : Type 0} (ask : SeenInfoRequest Key) where
       pub record ReadsObject (found : Claims) : Type 0 where
         pub body : List ℕ
         pub allows : AllowsObject body
-        pub read : claims_in r.additional r.gender STRICT body ≡ Ok found
+        pub read : claims_in r.additional r.gender ask.demand.reading body ≡ Ok found
 
       pub record ReadsToken (token : InfoToken) : Type 0 where
         pub body : List ℕ
         pub holds : HoldsText body
-        pub read : token_in r body ≡ Ok token
+        pub read : token_in r ask.demand.reading body ≡ Ok token
 
       -- ---- an Ok
 
@@ -151,12 +150,12 @@ module _ {Key : Type 0} (ask : SeenInfoRequest Key) where
       pub record ObjectIsRefused (refusal : Refusal) : Type 0 where
         pub body : List ℕ
         pub allows : AllowsObject body
-        pub refused : claims_in r.additional r.gender STRICT body ≡ Err refusal
+        pub refused : claims_in r.additional r.gender ask.demand.reading body ≡ Err refusal
 
       pub record TokenIsRefused (refusal : Refusal) : Type 0 where
         pub body : List ℕ
         pub holds : HoldsText body
-        pub refused : token_in r body ≡ Err refusal
+        pub refused : token_in r ask.demand.reading body ≡ Err refusal
 
       -- a signature is asked for, and the answer is an object
       pub record LacksSignature : Type 0 where

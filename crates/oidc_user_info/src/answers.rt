@@ -50,7 +50,8 @@ impl<AC: AdditionalClaims, GC: GenderClaim> UserInfoClaims<AC, GC> {
         UserInfoClaims::from_json_with(alloc, json, expected_subject, Reading::STRICT)
     }
 
-    /// The same, with the claims read under that reading.
+    /// The claims that an object's text holds, read under this reading, about the expected subject,
+    /// where one is expected. It is refused as by [`UserInfoClaims::from_json`].
     #[tactic(auto, unfolding(crate::specs::InfoAnswers::from_json))]
     pub fn from_json_with<RE>(
         alloc: Global,
@@ -107,6 +108,7 @@ fn of_text<AC, GC, JE, K, RE>(
     alloc: Global,
     verifier: &UserInfoVerifier<'_, JE, K>,
     text: &str,
+    reading: Reading,
 ) -> Result<UserInfoClaims<AC, GC>, UserInfoError<RE>>
 where
     AC: AdditionalClaims,
@@ -117,9 +119,9 @@ where
         K.SigningAlgorithm.JwsSigningAlgorithm.own K.SigningAlgorithm.ClosedVocabulary
         K.SigningAlgorithm.KeyType.ClosedVocabulary in
         let r = readers AC.read_of GC.read_of JE.from_str K.SigningAlgorithm.from_str k in
-        Gives info_errors result (spec.of_text r verifier.now text.now) }
+        Gives info_errors result (spec.of_text r reading verifier.now text.now) }
 {
-    match UserInfoJsonWebToken::<AC, GC, JE, K::SigningAlgorithm>::read(alloc, text) {
+    match UserInfoJsonWebToken::<AC, GC, JE, K::SigningAlgorithm>::read_with(alloc, text, reading) {
         Err(ParseError::Refused(refusal)) => Err(UserInfoError::Parse(refusal)),
         Err(ParseError::Memory) => Err(UserInfoError::Memory),
         Ok(token) => accepted_claims(alloc, token, verifier),
@@ -131,6 +133,7 @@ fn of_token<AC, GC, JE, K, RE>(
     alloc: Global,
     verifier: &UserInfoVerifier<'_, JE, K>,
     body: &Body,
+    reading: Reading,
 ) -> Result<UserInfoClaims<AC, GC>, UserInfoError<RE>>
 where
     AC: AdditionalClaims,
@@ -141,11 +144,11 @@ where
         K.SigningAlgorithm.JwsSigningAlgorithm.own K.SigningAlgorithm.ClosedVocabulary
         K.SigningAlgorithm.KeyType.ClosedVocabulary in
         let r = readers AC.read_of GC.read_of JE.from_str K.SigningAlgorithm.from_str k in
-        Gives info_errors result (spec.of_token r verifier.now body.now) }
+        Gives info_errors result (spec.of_token r reading verifier.now body.now) }
 {
     match str::from_utf8(body.as_slice()) {
         Err(_) => Err(UserInfoError::Other(InfoOther::Utf8)),
-        Ok(text) => of_text(alloc, verifier, text),
+        Ok(text) => of_text(alloc, verifier, text, reading),
     }
 }
 
@@ -172,12 +175,18 @@ impl<'a, JE: JweContentEncryptionAlgorithm, K: JsonWebKey> UserInfoRequest<'a, J
                 ClaimsVerificationError::SignatureVerification(refusal),
             ));
         }
-        UserInfoClaims::from_json(alloc, body.as_slice(), self.verifier().expected_subject())
+        UserInfoClaims::from_json_with(
+            alloc,
+            body.as_slice(),
+            self.verifier().expected_subject(),
+            self.reading(),
+        )
     }
 
     #[tactic(auto, unfolding(crate::specs::InfoAnswers::by_media_type, // in the order of the rows
     crate::specs::InfoAnswers::info_answer))]
-    /// What a response to this request is worth: the claims that it holds, or the first of these that holds.
+    /// What a response to this request is worth: the claims that it holds, read under the request's reading, or the
+    /// first of these that holds.
     /// `TooLong`: the body has more than 1,048,576 bytes. `Response` with `Status`: the status isn't 200.
     ///
     /// Where the media type is that of JSON, or absent: `NoSignature`, where a signature is asked for;
@@ -208,7 +217,7 @@ impl<'a, JE: JweContentEncryptionAlgorithm, K: JsonWebKey> UserInfoRequest<'a, J
             return self.of_object(alloc, &body);
         }
         if is_token {
-            return of_token(alloc, self.verifier(), &body);
+            return of_token(alloc, self.verifier(), &body, self.reading());
         }
         Err(UserInfoError::Response(status, body, ResponseCause::MediaType))
     }

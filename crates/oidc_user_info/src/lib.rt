@@ -3,7 +3,9 @@
 //!
 //! - [`UserInfoClaims`] are the claims of an answer: issuer and audience, where they are said, the standard
 //!   claims, and additional claims of a caller's type. [`UserInfoClaims::from_json`] reads an answer that is
-//!   an object.
+//!   an object, and [`UserInfoClaims::from_json_with`] does so under a [`Reading`](oidc_members::Reading): a text
+//!   may be a boolean or a moment where it says so. The calls without one read strictly, and so does a request
+//!   without [`UserInfoRequest::set_reading`].
 //! - [`UserInfoJsonWebToken`] is an answer that is a JSON Web Token. It gives its claims where a
 //!   [`UserInfoVerifier`](oidc_tokens::UserInfoVerifier) accepts it, else the first check that fails.
 //! - [`UserInfoRequest`] asks for user info with an access token, over a transport that the caller hands in.

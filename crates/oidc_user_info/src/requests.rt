@@ -19,6 +19,7 @@ use http::Method;
 use http_header::{ACCEPT, AUTHORIZATION, HeaderMap, HeaderMapError, HeaderValue};
 use oidc_claims::{AdditionalClaims, GenderClaim};
 use oidc_keys::JsonWebKey;
+use oidc_members::Reading;
 use oidc_oauth2::{
     BearerError, HttpRequest, HttpResponse, MIME_TYPE_JSON, MIME_TYPE_JWT, SyncHttpClient,
     auth_bearer, exchange, is_address,
@@ -38,7 +39,7 @@ pub enum UserInfoResponseType {
 }
 
 /// A request for user info. Contracts see the text of its endpoint as it was given, the access token, the
-/// media type that it asks for, whether the answer has to be signed, and the verifier.
+/// media type that it asks for, whether the answer has to be signed, its reading, and the verifier.
 ///
 /// It has no `Debug`, since it holds an access token.
 #[derive(Drop)]
@@ -47,6 +48,7 @@ pub struct UserInfoRequest<'a, JE, K: JsonWebKey> {
     access_token: AccessToken,
     verifier: UserInfoVerifier<'a, JE, K>,
     is_signature_required: bool,
+    reading: Reading,
     response_type: UserInfoResponseType,
 }
 
@@ -59,13 +61,17 @@ impl<'a, JE, K: JsonWebKey> Model for UserInfoRequest<'a, JE, K> {
       address = r.endpoint.now.text;
       access_token = r.access_token;
       response_type = r.response_type;
-      demand = record { signed = r.is_signature_required; verifier = r.verifier };
+      demand = record {
+        signed = r.is_signature_required;
+        reading = r.reading;
+        verifier = r.verifier;
+      };
     } };
 }
 
 impl<'a, JE, K: JsonWebKey> UserInfoRequest<'a, JE, K> {
     /// The request to an endpoint with this access token, for an answer that the verifier accepts. It asks
-    /// for JSON and takes answers that aren't signed. It takes no memory.
+    /// for JSON and takes answers that aren't signed, under the strict reading. It takes no memory.
     pub fn new(
         endpoint: &'a UserInfoUrl,
         access_token: AccessToken,
@@ -75,7 +81,11 @@ impl<'a, JE, K: JsonWebKey> UserInfoRequest<'a, JE, K> {
           address = endpoint.now.text;
           access_token = access_token;
           response_type = Json;
-          demand = record { signed = false; verifier = verifier.entry };
+          demand = record {
+            signed = false;
+            reading = Reading.STRICT;
+            verifier = verifier.entry;
+          };
         } }
     {
         UserInfoRequest {
@@ -83,6 +93,7 @@ impl<'a, JE, K: JsonWebKey> UserInfoRequest<'a, JE, K> {
             access_token,
             verifier,
             is_signature_required: false,
+            reading: Reading::STRICT,
             response_type: UserInfoResponseType::Json,
         }
     }
@@ -93,6 +104,15 @@ impl<'a, JE, K: JsonWebKey> UserInfoRequest<'a, JE, K> {
             result ≡ record self.entry { demand = demand } }
     {
         self.is_signature_required = required;
+        self
+    }
+
+    /// With this reading of the claims in the answer, signed or not. At first it is strict.
+    pub fn set_reading(mut self, reading: Reading) -> Self
+        ensures { let demand = record self.entry.demand { reading = reading } in
+            result ≡ record self.entry { demand = demand } }
+    {
+        self.reading = reading;
         self
     }
 
@@ -107,6 +127,7 @@ impl<'a, JE, K: JsonWebKey> UserInfoRequest<'a, JE, K> {
             access_token: self.access_token,
             verifier: self.verifier.require_issuer_match(required),
             is_signature_required: self.is_signature_required,
+            reading: self.reading,
             response_type: self.response_type,
         }
     }
@@ -122,6 +143,7 @@ impl<'a, JE, K: JsonWebKey> UserInfoRequest<'a, JE, K> {
             access_token: self.access_token,
             verifier: self.verifier.require_audience_match(required),
             is_signature_required: self.is_signature_required,
+            reading: self.reading,
             response_type: self.response_type,
         }
     }
@@ -139,6 +161,13 @@ impl<'a, JE, K: JsonWebKey> UserInfoRequest<'a, JE, K> {
         ensures { result ≡ self.now.demand.signed }
     {
         self.is_signature_required
+    }
+
+    // How claims are read.
+    pub(crate) fn reading(&self) -> Reading
+        ensures { result ≡ self.now.demand.reading }
+    {
+        self.reading
     }
 
     // What is asked of claims.

@@ -70,7 +70,8 @@ impl<
         UserInfoJsonWebToken::read_with(alloc, text, Reading::STRICT)
     }
 
-    /// The same, with the claims read under that reading.
+    /// The token that a text is, its claims read under this reading. It is refused as by
+    /// [`UserInfoJsonWebToken::read`], the claims as they are under this reading.
     pub fn read_with(alloc: Global, text: &str, reading: Reading) -> Result<Self, ParseError>
         ensures answer { Answers (token_of JE.from_str JS.from_str
             (user_info_claims_of AC.read_of GC.read_of reading) text.now) result }

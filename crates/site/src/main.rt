@@ -47,7 +47,9 @@ type SiteLogins<'c> = Logins<'c, AllOtherClaims, CoreGenderClaim, CoreJsonWebKey
 /// A user of it.
 pub(crate) type User = SignedIn<AllOtherClaims, CoreGenderClaim>;
 
-// The site as the provider knows it: made once, and borrowed by its logins.
+// The site as the provider knows it: made once, and borrowed by its logins. Where a provider sends `"true"` for a boolean
+// or a date for a moment, which is refused otherwise, `set_reading` has its place here; and `require_code_hash` where a
+// site exchanges the codes of hybrid answers.
 fn client(alloc: Global) -> anyhow::Result<LoginClient> {
     let id = ClientId::new(text(alloc, "aaa")?);
     let secret = ClientSecret::new(text(alloc, "bbb")?);

@@ -4,6 +4,7 @@ use case_lines::{
     Case, CaseError, Refused, Tokens, extra_in, refused_word, request_line, response_in,
     token_answer_line, url_of,
 };
+use oidc_members::Reading;
 use oidc_oauth2::{AuthType, ClientAuth, CodeTokenRequest, EmptyExtraTokenFields, PrepareError};
 use oidc_types::{
     AuthorizationCode, ClientId, ClientSecret, PkceCodeVerifier, RedirectUrl, TokenUrl,
@@ -134,5 +135,5 @@ fn with_extra<'a>(
 /// `token_answer`: what an answer to that request is worth.
 pub(crate) fn token_answer(alloc: Global, case: &Case) -> Result<String, CaseError> {
     case.check_with(&["status", "body"], &["type"])?;
-    token_answer_line::<EmptyExtraTokenFields>(alloc, response_in(alloc, case)?)
+    token_answer_line::<EmptyExtraTokenFields>(alloc, response_in(alloc, case)?, Reading::STRICT)
 }

@@ -4,7 +4,7 @@ use case_lines::{
     Case, CaseError, Refused, device_line, introspection_line, ok_form, push_some, refused_reading,
     token_response_line, variant_name,
 };
-use oidc_members::{Members, ParseError};
+use oidc_members::{Members, ParseError, Reading};
 use oidc_oauth2::{
     CoreDeviceAuthorizationResponse, CoreRevocationErrorResponse, CoreTokenIntrospectionResponse,
     DeviceCodeErrorResponse, EmptyExtraTokenFields, ErrorResponse, StandardErrorResponse,
@@ -20,7 +20,7 @@ use std::fmt;
 /// `token_response`: a token response, written again.
 pub(crate) fn token_response(alloc: Global, case: &Case) -> Result<String, CaseError> {
     case.check(&["text"])?;
-    token_response_line::<EmptyExtraTokenFields>(alloc, case.value("text"))
+    token_response_line::<EmptyExtraTokenFields>(alloc, case.value("text"), Reading::STRICT)
 }
 
 // ---- error responses

@@ -2,7 +2,7 @@
 
 use case_lines::{
     Case, CaseError, VerifierKey, algorithms, keys_in, moment, object, ok_form, parse_line,
-    refused_word, url_of,
+    reading_in, refused_word, url_of,
 };
 use oidc_claims::AllOtherClaims;
 use oidc_cli::{User, verdict_line};
@@ -27,7 +27,8 @@ type Answer = FrontAnswer<AllOtherClaims, CoreGenderClaim>;
 /// `front`: what an answer that is accepted has, or why it isn't.
 pub(crate) fn front(alloc: Global, case: &Case) -> Result<String, CaseError> {
     let required = ["query", "id", "issuer", "algs", "state", "nonce", "now"];
-    case.check_all(&required, &["secret"], &["key"])?;
+    let optional = ["secret", "reading", "code_hash"];
+    case.check_all(&required, &optional, &["key"])?;
     let client = client_in(alloc, case)?;
     let line = front_line(alloc, &client, case);
     drop(client);
@@ -39,8 +40,20 @@ pub(crate) fn front(alloc: Global, case: &Case) -> Result<String, CaseError> {
 fn client_in(alloc: Global, case: &Case) -> Result<FrontClient, CaseError> {
     let id = ClientId::new(String::from_str(alloc, case.value("id"))?);
     let secret = secret_in(alloc, case)?;
+    let reading = reading_in(case)?;
+    let demanded = demands_code_hash(case)?;
     let metadata = metadata_in(alloc, case)?;
-    Ok(Client::from_provider_metadata(metadata, id, secret))
+    let client: FrontClient = Client::from_provider_metadata(metadata, id, secret);
+    Ok(client.set_reading(reading).require_code_hash(demanded))
+}
+
+// Whether the client of a line demands the hash of a code.
+fn demands_code_hash(case: &Case) -> Result<bool, CaseError> {
+    match case.optional("code_hash") {
+        Some("1") => Ok(true),
+        Some(_) => Err(CaseError::NoCase),
+        None => Ok(false),
+    }
 }
 
 fn secret_in(alloc: Global, case: &Case) -> Result<Option<ClientSecret>, AllocError> {

@@ -7,8 +7,8 @@ use crate::clients::{
 };
 use crate::requests::device_response_in;
 use case_lines::{
-    Case, CaseError, Tokens, device_line, introspection_line, ok, ok_form, ok_pair, refused_line,
-    response_in, written,
+    Case, CaseError, Tokens, device_line, introspection_line, ok, ok_form, ok_pair, reading_in,
+    refused_line, response_in, written,
 };
 use oidc_oauth2::{
     Answer, ClientAuth, CoreDeviceAuthorizationResponse, CoreRequestTokenError, CoreRevocableToken,
@@ -36,9 +36,10 @@ fn transport(alloc: Global, case: &Case) -> Result<Recorded, CaseError> {
 
 /// `tokens_answer`
 pub(crate) fn tokens_answer(alloc: Global, case: &Case) -> Result<String, CaseError> {
-    case.check_with(&["request", "status", "body"], &["type"])?;
+    case.check_with(&["request", "status", "body"], &["type", "reading"])?;
+    let reading = reading_in(case)?;
     let asking = Case::read(alloc, ASKING)?;
-    let client = token_client(alloc, &asking)?;
+    let client = token_client(alloc, &asking)?.set_reading(reading);
     let line = tokens_by(alloc, &client, case);
     drop(client);
     line
@@ -114,9 +115,10 @@ const CODES: &str =
 
 /// `poll_answer`
 pub(crate) fn poll_answer(alloc: Global, case: &Case) -> Result<String, CaseError> {
-    case.check_with(&["status", "body"], &["type", "extra"])?;
+    case.check_with(&["status", "body"], &["type", "extra", "reading"])?;
+    let reading = reading_in(case)?;
     let asking = Case::read(alloc, ASKING)?;
-    let client = token_client(alloc, &asking)?;
+    let client = token_client(alloc, &asking)?.set_reading(reading);
     let line = polled_by(alloc, &client, case);
     drop(client);
     line
@@ -136,10 +138,10 @@ fn polled_line(
     case: &Case,
 ) -> Result<String, CaseError> {
     let mut http = transport(alloc, case)?;
-    match case.optional("extra") {
-        None => plain_line(alloc, client, codes, &mut http),
-        Some("id_token") => id_token_line(alloc, client, codes, &mut http),
-        Some(_) => Err(CaseError::NoCase),
+    match (case.optional("extra"), case.optional("reading")) {
+        (None, None) => plain_line(alloc, client, codes, &mut http),
+        (Some("id_token"), _) => id_token_line(alloc, client, codes, &mut http),
+        _ => Err(CaseError::NoCase),
     }
 }
 

@@ -135,11 +135,36 @@ pub(crate) fn written_claims(alloc: Global, claims: &Claims) -> Result<String, C
 
 // ---- whole tokens
 
-/// `token`: what stands in an ID token, under a reading.
+/// `token`: what stands in an ID token, under a reading. It is the same where the text is read as a JSON Web
+/// Token of its claims.
 pub(crate) fn token(alloc: Global, case: &Case) -> Result<String, CaseError> {
     case.check_with(&["text"], &["reading"])?;
-    let read = read_web_token(alloc, case.value("text"), reading_in(case)?);
-    let line = read_token_line(alloc, &read);
+    let reading = reading_in(case)?;
+    let line = id_token_line(alloc, case.value("text"), reading)?;
+    let of_web_token = web_token_line(alloc, case.value("text"), reading)?;
+    if line.as_str() == of_web_token.as_str() {
+        Ok(line)
+    } else {
+        Err(CaseError::NoCase)
+    }
+}
+
+fn id_token_line(alloc: Global, text: &str, reading: Reading) -> Result<String, CaseError> {
+    let read = read_token(alloc, text, reading);
+    let line = match &read {
+        Ok(token) => token_line(alloc, token.token()),
+        Err(error) => refused_reading(alloc, error),
+    };
+    drop(read);
+    line
+}
+
+fn web_token_line(alloc: Global, text: &str, reading: Reading) -> Result<String, CaseError> {
+    let read = read_web_token(alloc, text, reading);
+    let line = match &read {
+        Ok(token) => token_line(alloc, token),
+        Err(error) => refused_reading(alloc, error),
+    };
     drop(read);
     line
 }
@@ -150,16 +175,6 @@ fn read_web_token(alloc: Global, text: &str, reading: Reading) -> Result<WebToke
         WebToken::read(alloc, text)
     } else {
         WebToken::read_with(alloc, text, reading)
-    }
-}
-
-fn read_token_line(
-    alloc: Global,
-    read: &Result<WebToken, ParseError>,
-) -> Result<String, CaseError> {
-    match read {
-        Ok(token) => token_line(alloc, token),
-        Err(error) => refused_reading(alloc, error),
     }
 }
 

@@ -153,10 +153,17 @@ fn response_type(text: &str) -> Result<UserInfoResponseType, CaseError> {
 
 // ---- the answer
 
-/// `info_answer`: what an answer to that request is worth, as it came over a transport.
+/// `info_answer`: what an answer to that request is worth under a reading, as it came over a transport.
 pub(crate) fn info_answer(alloc: Global, case: &Case) -> Result<String, CaseError> {
     let required = ["status", "body", "id", "issuer"];
-    let optional = ["type", "subject", "signed", "any_issuer", "any_audience"];
+    let optional = [
+        "type",
+        "subject",
+        "signed",
+        "any_issuer",
+        "any_audience",
+        "reading",
+    ];
     case.check_all(&required, &optional, &["key"])?;
     let asked = Asked {
         parties: parties_in(alloc, case)?,
@@ -189,16 +196,18 @@ fn request_in<'a>(
         Request::new(&asked.endpoint, token, verifier)
             .require_signed_response(switches.is_signed)
             .require_issuer_match(!switches.any_issuer)
-            .require_audience_match(!switches.any_audience),
+            .require_audience_match(!switches.any_audience)
+            .set_reading(switches.reading),
     )
 }
 
-// What a line says of signature, issuer and audience.
+// What a line says of signature, issuer, audience and reading.
 #[derive(Clone, Copy)]
 struct Switches {
     is_signed: bool,
     any_issuer: bool,
     any_audience: bool,
+    reading: Reading,
 }
 
 fn switches_in(case: &Case) -> Result<Switches, CaseError> {
@@ -209,6 +218,7 @@ fn switches_in(case: &Case) -> Result<Switches, CaseError> {
         is_signed,
         any_issuer,
         any_audience,
+        reading: reading_in(case)?,
     })
 }
 

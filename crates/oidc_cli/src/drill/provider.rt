@@ -18,6 +18,7 @@ use jiff::Timestamp;
 use oidc_claims::{EmptyAdditionalClaims, StandardClaims};
 use oidc_keys::CoreHmacKey;
 use oidc_login::LoginClient;
+use oidc_members::Reading;
 use oidc_oauth2::{Answer, CoreTokenType, EmptyExtraTokenFields, HttpResponse};
 use oidc_tokens::{
     CoreIdToken, CoreIdTokenClaims, CoreIdTokenFields, CoreTokenResponse, IdToken, IdTokenClaims,
@@ -82,6 +83,7 @@ pub fn client(alloc: Global) -> Result<LoginClient, AllocError>
         provider,
         redirect: None,
         algorithms,
+        reading: Reading::STRICT,
     };
     Ok(client_of(alloc, line))
 }

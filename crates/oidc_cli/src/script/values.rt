@@ -7,7 +7,7 @@ ghost use Rattle.http_header.specs.Token.{is_visible_or_blank};
 ghost use Rattle.oidc_types.specs.{find_word, signing_text, signing_algorithms};
 ghost use Rattle.oidc_readers.specs.Moments.{moment_at};
 ghost use Rattle.oidc_cli.specs.Values as spec;
-ghost use Rattle.oidc_cli.specs.Values.{pair_text as text_of_pair, pair_value, url_of_text, algorithms_of as algorithms_in, demand_of as demand_in, moment_of_text as moment_in, status_code_of as status_code_in, content_type_of as content_type_in};
+ghost use Rattle.oidc_cli.specs.Values.{pair_text as text_of_pair, pair_value, url_of_text, algorithms_of as algorithms_in, demand_of as demand_in, reading_of as reading_in, moment_of_text as moment_in, status_code_of as status_code_in, content_type_of as content_type_in};
 ghost use Rattle.oidc_cli.specs.Readers.{Reads};
 
 use crate::events::LineError;
@@ -15,6 +15,7 @@ use http::StatusCode;
 use http_header::{HeaderValue, HeaderValueError};
 use jiff::Timestamp;
 use oidc_login::UserInfoDemand;
+use oidc_members::Reading;
 use oidc_pairs::BorrowedPairs;
 use oidc_types::{ClosedVocabulary, CoreJwsSigningAlgorithm, Marker, UrlText, UrlTextError};
 use oidc_user_info::UserInfoResponseType;
@@ -140,6 +141,28 @@ fn algorithm_of(text: &str) -> Option<CoreJwsSigningAlgorithm>
     ensures { result ≡ find_word signing_text signing_algorithms text.now }
 {
     CoreJwsSigningAlgorithm::from_str(text)
+}
+
+/// The reading of a line that names one, and else the strict one.
+pub fn reading_on(line: &BorrowedPairs<'_>) -> Result<Reading, LineError>
+    ensures { Reads (λ reading. reading) result (spec.reading_on line.now) }
+{
+    if lacks(line, "reading") {
+        return Ok(Reading::STRICT);
+    }
+    reading_of(only_text(line, "reading")?).ok_or(LineError::NoEvent)
+}
+
+fn reading_of(text: &str) -> Option<Reading>
+    ensures { result ≡ reading_in text.now }
+{
+    match text {
+        "lenient" => Some(Reading {
+            string_booleans: true,
+            rfc3339_moments: true,
+        }),
+        _ => None,
+    }
 }
 
 /// The demand of the one pair with this name, where there is such a pair.

@@ -5,7 +5,7 @@ ghost use Rattle.std.specs.Prelude.{◌≡◌, ◌≢◌, ◌↔◌, None, Some,
 ghost use Rattle.std.specs.Option.{option_copied};
 ghost use Rattle.oidc_types.specs.declared.endpoint.Presence.TheVariants.{Set};
 ghost use Rattle.oidc_oauth2_requests.specs.FormRequests.{client_credentials_pairs, device_code_pairs, password_pairs, refresh_pairs, token_pairs};
-ghost use Rattle.oidc_client.specs.Client.{code_request_at, device_request_at, fits, form_request_at, info_request_at, introspection_at, IsInsecure, IsMissing, IsSecure};
+ghost use Rattle.oidc_client.specs.Client.{code_request_at, device_request_at, fits, form_request_at, info_request_at, introspection_at, token_request_at, IsInsecure, IsMissing, IsSecure};
 ghost use Rattle.oidc_client.specs.Authorization.{new_request, seen_flow};
 
 use crate::authorization::{AuthenticationFlow, AuthorizationRequest, Parties, openid_scopes};
@@ -395,9 +395,9 @@ impl<
         TR: TokenResponse<AC, GC, JE, K::SigningAlgorithm>,
         ensures request { let own = client_credentials_pairs in
             IsSomeAnd self.now.token_uri
-            (λ endpoint. result ≡ form_request_at self.now own endpoint) }
+            (λ endpoint. result ≡ token_request_at self.now own endpoint) }
     {
-        ClientCredentialsTokenRequest::new(alloc, self.token_uri(), self.client_auth())
+        self.client_credentials_request_at(alloc, self.token_uri())
     }
 
     /// The request for tokens by a person's name and password (RFC 6749 section 4.3.2). It takes no
@@ -416,15 +416,9 @@ impl<
         TR: TokenResponse<AC, GC, JE, K::SigningAlgorithm>,
         ensures request { let own = password_pairs username.now password.now in
             IsSomeAnd self.now.token_uri
-            (λ endpoint. result ≡ form_request_at self.now own endpoint) }
+            (λ endpoint. result ≡ token_request_at self.now own endpoint) }
     {
-        PasswordTokenRequest::new(
-            alloc,
-            self.token_uri(),
-            self.client_auth(),
-            username,
-            password,
-        )
+        self.password_request_at(alloc, self.token_uri(), username, password)
     }
 
     /// The request for new tokens by a refresh token (RFC 6749 section 6). It takes no
@@ -442,9 +436,9 @@ impl<
         TR: TokenResponse<AC, GC, JE, K::SigningAlgorithm>,
         ensures request { let own = refresh_pairs token.now in
             IsSomeAnd self.now.token_uri
-            (λ endpoint. result ≡ form_request_at self.now own endpoint) }
+            (λ endpoint. result ≡ token_request_at self.now own endpoint) }
     {
-        RefreshTokenRequest::new(alloc, self.token_uri(), self.client_auth(), token)
+        self.refresh_request_at(alloc, self.token_uri(), token)
     }
 
     /// The request of a device for its tokens (RFC 8628 section 3.4), by the device code of a response. It takes no
@@ -462,9 +456,9 @@ impl<
         TR: TokenResponse<AC, GC, JE, K::SigningAlgorithm>,
         ensures request { let own = device_code_pairs response.now.device_code in
             IsSomeAnd self.now.token_uri
-            (λ endpoint. result ≡ form_request_at self.now own endpoint) }
+            (λ endpoint. result ≡ token_request_at self.now own endpoint) }
     {
-        DeviceAccessTokenRequest::new(alloc, self.token_uri(), self.client_auth(), response)
+        self.device_token_request_at(alloc, self.token_uri(), response)
     }
 }
 
@@ -549,14 +543,12 @@ impl<
         TE: ErrorResponse,
         TR: TokenResponse<AC, GC, JE, K::SigningAlgorithm>,
         ensures request { IfOk result (λ request. IsSomeAnd self.now.token_uri
-            (λ endpoint. request ≡ form_request_at self.now client_credentials_pairs endpoint)) }
+            (λ endpoint. request ≡ token_request_at self.now client_credentials_pairs endpoint)) }
         ensures unset { IfErr result (λ error. self.now.token_uri ≡ None) }
         ensures missing { IfErr result (IsMissing (codes "token")) }
     {
         match self.token_uri() {
-            Some(endpoint) => {
-                Ok(ClientCredentialsTokenRequest::new(alloc, endpoint, self.client_auth()))
-            }
+            Some(endpoint) => Ok(self.client_credentials_request_at(alloc, endpoint)),
             None => Err(ConfigurationError::MissingUrl("token")),
         }
     }
@@ -577,20 +569,12 @@ impl<
         TR: TokenResponse<AC, GC, JE, K::SigningAlgorithm>,
         ensures request { let own = password_pairs username.now password.now in
             IfOk result (λ request. IsSomeAnd self.now.token_uri
-            (λ endpoint. request ≡ form_request_at self.now own endpoint)) }
+            (λ endpoint. request ≡ token_request_at self.now own endpoint)) }
         ensures unset { IfErr result (λ error. self.now.token_uri ≡ None) }
         ensures missing { IfErr result (IsMissing (codes "token")) }
     {
         match self.token_uri() {
-            Some(endpoint) => {
-                Ok(PasswordTokenRequest::new(
-                    alloc,
-                    endpoint,
-                    self.client_auth(),
-                    username,
-                    password,
-                ))
-            }
+            Some(endpoint) => Ok(self.password_request_at(alloc, endpoint, username, password)),
             None => Err(ConfigurationError::MissingUrl("token")),
         }
     }
@@ -610,14 +594,12 @@ impl<
         TR: TokenResponse<AC, GC, JE, K::SigningAlgorithm>,
         ensures request { let own = refresh_pairs token.now in
             IfOk result (λ request. IsSomeAnd self.now.token_uri
-            (λ endpoint. request ≡ form_request_at self.now own endpoint)) }
+            (λ endpoint. request ≡ token_request_at self.now own endpoint)) }
         ensures unset { IfErr result (λ error. self.now.token_uri ≡ None) }
         ensures missing { IfErr result (IsMissing (codes "token")) }
     {
         match self.token_uri() {
-            Some(endpoint) => {
-                Ok(RefreshTokenRequest::new(alloc, endpoint, self.client_auth(), token))
-            }
+            Some(endpoint) => Ok(self.refresh_request_at(alloc, endpoint, token)),
             None => Err(ConfigurationError::MissingUrl("token")),
         }
     }
@@ -637,14 +619,12 @@ impl<
         TR: TokenResponse<AC, GC, JE, K::SigningAlgorithm>,
         ensures request { let own = device_code_pairs response.now.device_code in
             IfOk result (λ request. IsSomeAnd self.now.token_uri
-            (λ endpoint. request ≡ form_request_at self.now own endpoint)) }
+            (λ endpoint. request ≡ token_request_at self.now own endpoint)) }
         ensures unset { IfErr result (λ error. self.now.token_uri ≡ None) }
         ensures missing { IfErr result (IsMissing (codes "token")) }
     {
         match self.token_uri() {
-            Some(endpoint) => {
-                Ok(DeviceAccessTokenRequest::new(alloc, endpoint, self.client_auth(), response))
-            }
+            Some(endpoint) => Ok(self.device_token_request_at(alloc, endpoint, response)),
             None => Err(ConfigurationError::MissingUrl("token")),
         }
     }

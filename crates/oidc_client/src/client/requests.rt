@@ -2,14 +2,22 @@
 
 ghost use Rattle.std.specs.Prelude.{◌≡◌, None, IfOk};
 ghost use Rattle.oidc_oauth2.specs.ClientAuth.{seen_client};
-ghost use Rattle.oidc_client.specs.Client.{client_auth_of, code_request_at, info_request_at, verifier_of};
+ghost use Rattle.oidc_oauth2_requests.specs.FormRequests.{client_credentials_pairs, device_code_pairs, password_pairs, refresh_pairs};
+ghost use Rattle.oidc_client.specs.Client.{client_auth_of, code_request_at, info_request_at, token_request_at, verifier_of};
 
 use crate::client::Client;
 use oidc_keys::JsonWebKey;
-use oidc_oauth2::{ClientAuth, CodeTokenRequest};
+use oidc_oauth2::{
+    ClientAuth, CodeTokenRequest, DeviceAuthorizationResponse, ExtraDeviceAuthorizationFields,
+};
+use oidc_oauth2_requests::{
+    ClientCredentialsTokenRequest, DeviceAccessTokenRequest, PasswordTokenRequest,
+    RefreshTokenRequest,
+};
 use oidc_tokens::{IdTokenVerifier, UserInfoVerifier};
 use oidc_types::{
-    AccessToken, AuthorizationCode, EndpointState, SubjectIdentifier, TokenUrl, UserInfoUrl,
+    AccessToken, AuthorizationCode, EndpointState, RefreshToken, ResourceOwnerPassword,
+    ResourceOwnerUsername, SubjectIdentifier, TokenUrl, UserInfoUrl,
 };
 use oidc_user_info::UserInfoRequest;
 use std::alloc::{AllocError, Global};
@@ -107,10 +115,66 @@ impl<
         ensures { result ≡ code_request_at self.now code endpoint.now }
     {
         let request = CodeTokenRequest::new(alloc, endpoint, self.client_auth(), code);
+        let request = request.set_reading(self.own.reading);
         match &self.own.redirect_uri {
             None => request,
             Some(redirect) => request.set_redirect_uri(redirect),
         }
+    }
+
+    // The request for tokens by the client for itself at an endpoint.
+    pub(super) fn client_credentials_request_at<'a, E, R>(
+        &'a self,
+        alloc: Global,
+        endpoint: &'a TokenUrl,
+    ) -> ClientCredentialsTokenRequest<'a, E, R>
+        ensures { result ≡ token_request_at self.now client_credentials_pairs endpoint.now }
+    {
+        let request = ClientCredentialsTokenRequest::new(alloc, endpoint, self.client_auth());
+        request.set_reading(self.own.reading)
+    }
+
+    // The request for tokens by a person's name and password at an endpoint.
+    pub(super) fn password_request_at<'a, E, R>(
+        &'a self,
+        alloc: Global,
+        endpoint: &'a TokenUrl,
+        username: &'a ResourceOwnerUsername,
+        password: &'a ResourceOwnerPassword,
+    ) -> PasswordTokenRequest<'a, E, R>
+        ensures { let own = password_pairs username.now password.now in
+            result ≡ token_request_at self.now own endpoint.now }
+    {
+        let auth = self.client_auth();
+        let request = PasswordTokenRequest::new(alloc, endpoint, auth, username, password);
+        request.set_reading(self.own.reading)
+    }
+
+    // The request for new tokens by a refresh token at an endpoint.
+    pub(super) fn refresh_request_at<'a, E, R>(
+        &'a self,
+        alloc: Global,
+        endpoint: &'a TokenUrl,
+        token: &'a RefreshToken,
+    ) -> RefreshTokenRequest<'a, E, R>
+        ensures { result ≡ token_request_at self.now (refresh_pairs token.now) endpoint.now }
+    {
+        let request = RefreshTokenRequest::new(alloc, endpoint, self.client_auth(), token);
+        request.set_reading(self.own.reading)
+    }
+
+    // The request of a device for its tokens at an endpoint.
+    pub(super) fn device_token_request_at<'a, R, EF: ExtraDeviceAuthorizationFields>(
+        &'a self,
+        alloc: Global,
+        endpoint: &'a TokenUrl,
+        response: &'a DeviceAuthorizationResponse<EF>,
+    ) -> DeviceAccessTokenRequest<'a, R, EF>
+        ensures { let own = device_code_pairs response.now.device_code in
+            result ≡ token_request_at self.now own endpoint.now }
+    {
+        let request = DeviceAccessTokenRequest::new(alloc, endpoint, self.client_auth(), response);
+        request.set_reading(self.own.reading)
     }
 
     // The request for user info at an endpoint.
@@ -128,6 +192,6 @@ impl<
             &self.own.jwks,
             expected_subject,
         );
-        UserInfoRequest::new(endpoint, access_token, verifier)
+        UserInfoRequest::new(endpoint, access_token, verifier).set_reading(self.own.reading)
     }
 }

@@ -6,6 +6,7 @@ ghost use Rattle.oidc_client.specs.Client.{fits};
 
 use crate::client::Client;
 use oidc_keys::JsonWebKey;
+use oidc_members::Reading;
 use oidc_oauth2::AuthType;
 use oidc_types::{
     AuthUrl, ClientId, ClientSecret, DeviceAuthorizationUrl, EndpointSet, EndpointState,
@@ -116,6 +117,38 @@ impl<
     {
         self.own.openid_scope = false;
         self
+    }
+
+    /// With this reading of ID tokens and user info, at first `Reading::STRICT`: the requests that it makes for tokens
+    /// and for user info have it, and a callback and an answer of an implicit or a hybrid flow are read under it.
+    pub fn set_reading(mut self, reading: Reading) -> Self
+        ensures set { result ≡ record self { reading = reading } }
+    {
+        self.own.reading = reading;
+        self
+    }
+
+    /// How it reads ID tokens and user info.
+    pub fn reading(&self) -> Reading
+        ensures reading { result ≡ self.now.reading }
+    {
+        self.own.reading
+    }
+
+    /// Whether the ID token of a hybrid answer that has a code has to have the hash of that code, `c_hash` (OpenID
+    /// Connect Core 1.0 section 3.3.2.11). At first it needn't.
+    pub fn require_code_hash(mut self, required: bool) -> Self
+        ensures set { result ≡ record self { code_hash_required = required } }
+    {
+        self.own.code_hash_required = required;
+        self
+    }
+
+    /// Whether the ID token of a hybrid answer that has a code has to have the hash of that code.
+    pub fn code_hash_required(&self) -> bool
+        ensures required { result ≡ self.now.code_hash_required }
+    {
+        self.own.code_hash_required
     }
 
     /// The token endpoint, where it is set. Whether it is follows from `Token`, but for `EndpointMaybeSet`.

@@ -20,6 +20,7 @@ use crate::types::MetadataClient;
 use jiff::Timestamp;
 use oidc_claims::{AdditionalClaims, GenderClaim};
 use oidc_keys::JsonWebKey;
+use oidc_members::Reading;
 use oidc_oauth2::{HttpResponse, OAuth2TokenResponse, RequestTokenError, token_answer};
 use oidc_tokens::IdTokenVerifier;
 use oidc_types::{AccessToken, CoreJwsSigningAlgorithm, SigningError};
@@ -33,14 +34,18 @@ fn tokens_of<
     GC: GenderClaim,
     K: JsonWebKey<SigningAlgorithm = CoreJwsSigningAlgorithm>,
     E,
->(alloc: Global, response: HttpResponse) -> Result<TokenResponse<AC, GC>, LoginError<E>>
+>(
+    alloc: Global,
+    response: HttpResponse,
+    reading: Reading,
+) -> Result<TokenResponse<AC, GC>, LoginError<E>>
     ensures gives { let types = site_types AC.read_of GC.read_of
         K.JsonWebKey K.KeyUse.JsonWebKeyUse in
-        Gives login_errors result (steps.tokens_of types (seen_response response)) }
+        Gives login_errors result (steps.tokens_of types reading (seen_response response)) }
     ensures no_fault { IfErr result (λ e. faulted e ≡ false) }
     ensures spent { is_spent_by result ≡ true }
 {
-    match token_answer(alloc, response) {
+    match token_answer(alloc, response, reading) {
         Ok(tokens) => Ok(tokens),
         Err(error) => Err(LoginError::of_token(error)),
     }
@@ -192,7 +197,7 @@ pub(crate) fn user_of_answer<
         Ok(response) => response,
         Err(error) => return Err(LoginError::Token(RequestTokenError::Request(error))),
     };
-    match tokens_of::<AC, GC, K, E>(alloc, response) {
+    match tokens_of::<AC, GC, K, E>(alloc, response, client.reading()) {
         Ok(tokens) => user_of_tokens(alloc, client, now, login, tokens),
         Err(error) => Err(error),
     }

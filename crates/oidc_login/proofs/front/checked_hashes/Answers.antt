@@ -10,7 +10,7 @@ pub returns-in-Err-clause-gives : goal.returns-in-Err-clause-gives
 returns-in-Err-clause-gives g c =
     let types = site_types g.AC.AdditionalClaims.read_of g.GC.GenderClaim.read_of g.K.JsonWebKey g.K.KeyUse.JsonWebKeyUse in
     let first : option_copied c.as_ref.result ≡ first_of (access_tokens_in c.args.query.now) = cc in
-    rw c.of_signing.ensures (token_refused types c.args.verifier.now c.args.token.now c.args.query.now _ first c.in-Err.refusal c.in-Err.ensures.refused)
+    rw c.of_signing.ensures (token_refused types c.args.verifier.now c.args.demanded c.args.token.now c.args.query.now _ first c.in-Err.refusal c.in-Err.ensures.refused)
 
 pub returns-in-Err-code_fits-clause-gives : goal.returns-in-Err-code_fits-clause-gives
 returns-in-Err-code_fits-clause-gives g c =
@@ -18,14 +18,14 @@ returns-in-Err-code_fits-clause-gives g c =
     let first_token : option_copied c.as_ref.result ≡ first_of (access_tokens_in c.args.query.now) = cc in
     let first : option_copied c.as_ref-2.result ≡ first_of (codes_in c.args.query.now) = cc in
     rw c.of_signing-in-Err-code_fits.ensures
-    (code_refused types c.args.verifier.now c.args.token.now c.args.query.now _ first_token c.in-Ok.ensures.hash _ first c.in-Err-code_fits.refusal c.in-Err-code_fits.ensures.refused)
+    (code_refused types c.args.verifier.now c.args.demanded c.args.token.now c.args.query.now _ first_token c.in-Ok.ensures.hash _ first c.in-Err-code_fits.refusal c.in-Err-code_fits.ensures.refused)
 
 pub returns-clause-gives : goal.returns-clause-gives
 returns-clause-gives g c =
     let types = site_types g.AC.AdditionalClaims.read_of g.GC.GenderClaim.read_of g.K.JsonWebKey g.K.KeyUse.JsonWebKeyUse in
     let first_token : option_copied c.as_ref.result ≡ first_of (access_tokens_in c.args.query.now) = cc in
     let first_code : option_copied c.as_ref-2.result ≡ first_of (codes_in c.args.query.now) = cc in
-    fits_given types c.args.verifier.now c.args.token.now c.args.query.now (option_copied c.as_ref.result) (option_copied c.as_ref-2.result) c.in-Ok.fits c.in-Ok-code_fits.fits
+    fits_given types c.args.verifier.now c.args.demanded c.args.token.now c.args.query.now (option_copied c.as_ref.result) (option_copied c.as_ref-2.result) c.in-Ok.fits c.in-Ok-code_fits.fits
     (record {
       first_token = first_token;
       first_code = first_code;

@@ -47,3 +47,8 @@ pub returns-clause-code_hash : goal.returns-clause-code_hash
 returns-clause-code_hash g c =
     let types = site_types g.AC.AdditionalClaims.read_of g.GC.GenderClaim.read_of g.K.JsonWebKey g.K.KeyUse.JsonWebKeyUse in
     called.ok_code_hash types (front_attempt c.args.client.now c.args.query.now c.args.state.now c.args.nonce.now c.args.now.nanosecond) c.front_reply.result c.front_reply.ensures.reply
+
+pub returns-clause-demanded : goal.returns-clause-demanded
+returns-clause-demanded g c =
+    let types = site_types g.AC.AdditionalClaims.read_of g.GC.GenderClaim.read_of g.K.JsonWebKey g.K.KeyUse.JsonWebKeyUse in
+    called.ok_demanded types (front_attempt c.args.client.now c.args.query.now c.args.state.now c.args.nonce.now c.args.now.nanosecond) c.front_reply.result c.front_reply.ensures.reply

@@ -1,5 +1,4 @@
-use Rattle.std.proofs.Common.{rules}
-use Rattle.oidc_members.specs.declared.reading.TheConstants.Reading.{STRICT}
+use Rattle.std.proofs.Common.{rules, sym}
 use Rattle.oidc_oauth2.specs.TokenAnswers.{is_fault}
 use Rattle.oidc_oauth2.proofs.Runs.{no_fault}
 use Rattle.oidc_oauth2_requests.proofs.Judges.{unblamed, ran_refused, ran_answered}
@@ -8,11 +7,11 @@ use Rattle.oidc_oauth2_requests.proofs.sending.tokens_over.Goals as goal
 
 pub returns-in_err-response-clause-ran : goal.returns-in_err-response-clause-ran
 returns-in_err-response-clause-ran g c =
-    λ ask made. ran_refused _ _ _ (records g.TE.ErrorResponse.read_of (g.TR.OAuth2TokenResponse.read_of STRICT)) ask _ _ _ _ (search rules) (c.in_err-response.ensures.sent _ made)
+    λ ask made read same. rw (sym same) (ran_refused _ _ _ (records g.TE.ErrorResponse.read_of (g.TR.OAuth2TokenResponse.read_of c.args.reading)) ask _ _ _ _ (search rules) (c.in_err-response.ensures.sent _ made))
 
 pub returns-clause-ran : goal.returns-clause-ran
 returns-clause-ran g c =
-    λ ask made. ran_answered _ _ _ (records g.TE.ErrorResponse.read_of (g.TR.OAuth2TokenResponse.read_of STRICT)) ask _ _ c.in_ok-response.response _ (c.in_ok-response.ensures.sent _ made) c.token_answer.ensures.answer
+    λ ask made read same. rw (sym same) (ran_answered _ _ _ (records g.TE.ErrorResponse.read_of (g.TR.OAuth2TokenResponse.read_of c.args.reading)) ask _ _ c.in_ok-response.response _ (c.in_ok-response.ensures.sent _ made) c.token_answer.ensures.answer)
 
 pub returns-clause-blamed : goal.returns-clause-blamed
-returns-clause-blamed g c = no_fault _ is_fault _ (unblamed _ _ _ (records g.TE.ErrorResponse.read_of (g.TR.OAuth2TokenResponse.read_of STRICT)) _ _ c.token_answer.ensures.answer)
+returns-clause-blamed g c = no_fault _ is_fault _ (unblamed _ _ _ (records g.TE.ErrorResponse.read_of (g.TR.OAuth2TokenResponse.read_of c.args.reading)) _ _ c.token_answer.ensures.answer)
