@@ -1,10 +1,13 @@
 // The name of a field, as a small type of its own: contracts see it as its text.
 ghost use Rattle.std.specs.Prelude.{◌≡◌, Some, nat_eq};
+ghost use Rattle.std.specs.Cow.{cow_str_bytes};
 ghost use Rattle.std.specs.String.{string_bytes};
 ghost use Rattle.std.specs.Cmp.Lexicographic.{pointwise};
 ghost use Rattle.std.specs.Cmp.Rules.{comparing};
 ghost use Rattle.std.proofs.Common.{rules};
 
+use std::alloc::Global;
+use std::borrow::CowStr;
 use std::fmt;
 use std::marker::Model;
 
@@ -12,16 +15,16 @@ use std::marker::Model;
 /// it as its text, and it is equal to another where the texts are.
 #[derive(Debug, Drop)]
 pub struct FieldName {
-    text: String,
+    text: CowStr<'static, Global>,
 }
 
 impl Model for FieldName {
     ghost use Rattle.std.specs.Prelude.{List, ℕ};
-    ghost use Rattle.std.specs.String.{string_bytes};
+    ghost use Rattle.std.specs.Cow.{cow_str_bytes};
 
     ghost Value = { List ℕ };
 
-    ghost view = { λ name. string_bytes name.text };
+    ghost view = { λ name. cow_str_bytes name.text };
 }
 
 impl FieldName {
@@ -29,7 +32,18 @@ impl FieldName {
     pub fn new(text: String) -> Self
         ensures { result ≡ string_bytes text }
     {
-        FieldName { text }
+        FieldName {
+            text: CowStr::Owned(text),
+        }
+    }
+
+    /// The name that is this text of the program. It takes no memory, and copies nothing.
+    pub fn of_word(text: &'static str) -> Self
+        ensures { result ≡ text.now }
+    {
+        FieldName {
+            text: CowStr::Borrowed(text),
+        }
     }
 
     /// The name's text.
@@ -46,7 +60,7 @@ impl PartialEq for FieldName {
     ghost laws = { Prim.search (comparing, rules) };
 
     fn eq(&self, other: &FieldName) -> bool {
-        self.text == other.text
+        self.as_str() == other.as_str()
     }
 }
 
