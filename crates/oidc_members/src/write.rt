@@ -110,13 +110,16 @@ fn push_member(
     push_value(alloc, text, &member.value)
 }
 
+// How many bytes there is room for at once. The claims of most tokens have fewer.
+const ROOM: usize = 384;
+
 /// The compact text of the object that has these members, in the order of the list, where no value
 /// holds a float. Where one does, nothing is said of the text.
 pub fn write_object(alloc: Global, members: &[OutMember]) -> Result<Vec<u8>, AllocError>
     ensures { IfOk result (λ text. any_float members.now ≡ false
         → text.items ≡ object_text members.now) }
 {
-    let mut text = Vec::new(alloc);
+    let mut text = Vec::with_capacity(alloc, ROOM)?;
     text.push(b'{')?;
     let mut later = false;
     for member in members {
