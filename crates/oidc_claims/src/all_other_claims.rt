@@ -8,7 +8,7 @@ ghost use Rattle.oidc_claims.specs.Others.{list_of};
 
 use crate::additional::AdditionalClaims;
 use crate::same::is_same_list;
-use oidc_members::{Member, OutMember, ParseError};
+use oidc_members::{FieldName, Member, OutMember, ParseError};
 use oidc_readers::put;
 use std::alloc::{AllocError, Global};
 use std::marker::Model;
@@ -43,13 +43,24 @@ impl AllOtherClaims {
     }
 }
 
+// The name that is this text.
+fn name_of(alloc: Global, text: &str) -> Result<FieldName, AllocError>
+    ensures { IfOk result (λ name. name ≡ text.now) }
+{
+    Ok(FieldName::new(String::from_str(alloc, text)?))
+}
+
 // The names and values of members.
 fn outs_of(alloc: Global, members: &[Member]) -> Result<Vec<OutMember>, AllocError>
     ensures { IfOk result (λ outs. outs.items ≡ map out_of members.now) }
 {
     let mut outs = Vec::new(alloc);
     for member in members {
-        put(alloc, &mut outs, member.name(), member.value().clone()?)?;
+        put(
+            &mut outs,
+            name_of(alloc, member.name())?,
+            member.value().clone()?,
+        )?;
     }
     Ok(outs)
 }
@@ -63,7 +74,11 @@ fn push_copy(
     ensures members { OnOk result (copies.new.items ≡ copies.old.items ++ member.now ∷ []) }
     ensures texts { OnOk result (KeepsUtf8 copies.old.items copies.new.items) }
 {
-    put(alloc, copies, member.name.as_str(), member.value.clone()?)
+    put(
+        copies,
+        name_of(alloc, member.name.as_str())?,
+        member.value.clone()?,
+    )
 }
 
 fn copies_of(alloc: Global, members: &[OutMember]) -> Result<Vec<OutMember>, AllocError>

@@ -5,7 +5,8 @@ ghost use Rattle.std.specs.Str.{bytes_eq};
 ghost use Rattle.oidc_claims.specs.Table.{name_of, kind_of, claim_of, base_of, claims_of_length};
 
 use crate::name::base_of_name;
-use oidc_members::Member;
+use oidc_members::{FieldName, Member};
+use oidc_readers::named;
 
 /// A standard claim (OpenID Connect Core 1.0 section 5.1).
 #[derive(Clone, Copy, Debug, Drop, PartialEq, Eq)]
@@ -126,6 +127,13 @@ impl Claim {
             Claim::Address => "address",
             Claim::UpdatedAt => "updated_at",
         }
+    }
+
+    // The name of the member that it is written as.
+    pub(crate) fn field_name(self) -> FieldName
+        ensures { result ≡ name_of self }
+    {
+        named(self.name())
     }
 
     /// What its value is.
