@@ -1,14 +1,15 @@
 // Members that are written.
-ghost use Rattle.std.specs.Prelude.{◌≡◌, ◌∷◌, ◌++◌, true, false, IfOk, OnOk};
+ghost use Rattle.std.specs.Prelude.{◌≡◌, ◌∷◌, ◌++◌, true, false, IfOk, IfSome, OnOk};
 ghost use Rattle.std.specs.List.{list_all};
-ghost use Rattle.serde_json.specs.Data.{string};
+ghost use Rattle.serde_json.specs.Data.{array, boolean, item, no_items, number, string, unsigned};
 ghost use Rattle.serde_json.specs.Written.{comma_if, compact_text, has_float};
-ghost use Rattle.serde_json.specs.View.{view};
+ghost use Rattle.serde_json.specs.View.{items_view, view};
 ghost use Rattle.oidc_members.specs.Sight.{is_plain};
 ghost use Rattle.oidc_members.specs.Write.{any_float, object_text};
 
 use crate::field_name::FieldName;
 use crate::sight::is_plain_text;
+use itoa::Buffer;
 use serde_json::Value;
 use std::alloc::{AllocError, Global};
 use std::marker::Model;
@@ -80,13 +81,65 @@ fn push_other(alloc: Global, out: &mut Vec<u8>, value: &Value) -> Result<(), All
     Ok(())
 }
 
-// The same. A text that needs no escape is copied as it is.
+// Adds a boolean.
+fn push_flag(out: &mut Vec<u8>, flag: bool) -> Result<(), AllocError>
+    ensures { OnOk result (out.new.items ≡ out.old.items ++ compact_text (boolean flag)) }
+{
+    if flag {
+        out.extend_from_slice(b"true")?;
+    } else {
+        out.extend_from_slice(b"false")?;
+    }
+    Ok(())
+}
+
+// Adds a whole number.
+fn push_whole(out: &mut Vec<u8>, n: u64) -> Result<(), AllocError>
+    ensures { OnOk result (out.new.items ≡ out.old.items ++ compact_text (number (unsigned n))) }
+{
+    let mut digits = Buffer::new();
+    out.extend_from_slice(digits.format(n).as_bytes())?;
+    Ok(())
+}
+
+// The text of an array that holds one text and nothing else.
+fn lone_text(items: &[Value]) -> Option<&str>
+    ensures { IfSome result (λ text. items_view items.now ≡ item (string text.now) no_items) }
+{
+    match items {
+        [Value::String(text)] => Some(text.as_str()),
+        _ => None,
+    }
+}
+
+// Adds an array of one text.
+fn push_lone(alloc: Global, out: &mut Vec<u8>, text: &str) -> Result<(), AllocError>
+    ensures { OnOk result (out.new.items
+        ≡ out.old.items ++ compact_text (array (item (string text.now) no_items))) }
+{
+    out.push(b'[')?;
+    push_text(alloc, out, text)?;
+    out.push(b']')?;
+    Ok(())
+}
+
+// Adds the text of any value. Texts, booleans, whole numbers and an array of one text, of which most
+// members are, are written in place; `serde_json` writes each value into memory of its own.
 fn push_value(alloc: Global, out: &mut Vec<u8>, value: &Value) -> Result<(), AllocError>
     ensures { OnOk result (has_float (view value.now) ≡ false
         → out.new.items ≡ out.old.items ++ compact_text (view value.now)) }
 {
     match value {
         Value::String(text) => push_text(alloc, out, text.as_str()),
+        Value::Bool(flag) => push_flag(out, *flag),
+        Value::Number(number) => match number.as_u64() {
+            Some(n) => push_whole(out, n),
+            None => push_other(alloc, out, value),
+        },
+        Value::Array(items) => match lone_text(items) {
+            Some(text) => push_lone(alloc, out, text),
+            None => push_other(alloc, out, value),
+        },
         _ => push_other(alloc, out, value),
     }
 }
