@@ -54,7 +54,7 @@ fn name_of(alloc: Global, text: &str) -> Result<FieldName, AllocError>
 fn outs_of(alloc: Global, members: &[Member]) -> Result<Vec<OutMember>, AllocError>
     ensures { IfOk result (λ outs. outs.items ≡ map out_of members.now) }
 {
-    let mut outs = Vec::new(alloc);
+    let mut outs = Vec::with_capacity(alloc, members.len())?;
     for member in members {
         put(
             &mut outs,
@@ -85,7 +85,7 @@ fn copies_of(alloc: Global, members: &[OutMember]) -> Result<Vec<OutMember>, All
     ensures copies { IfOk result (λ copies. copies.items ≡ members.now) }
     ensures texts { IfOk result (λ copies. All IsUtf8Member copies.items) }
 {
-    let mut copies = Vec::new(alloc);
+    let mut copies = Vec::with_capacity(alloc, members.len())?;
     for member in members {
         push_copy(alloc, &mut copies, member)?;
     }

@@ -25,6 +25,9 @@ use oidc_types::{LanguageTag, LocalizedClaim, Marker, Text};
 use serde_json::{Map, Value};
 use std::alloc::{AllocError, Global};
 
+// How many members there is room for at once. Most sets of claims have fewer.
+const ROOM: usize = 12;
+
 /// The standard claims as members: in the order of the getters of [`StandardClaims`], which is that of
 /// the table in OpenID Connect Core 1.0 section 5.1, absent claims left out. The variants of a claim
 /// stand in the order of `iter`, a tag behind a `#` (section 5.2). Moments are whole seconds, rounded
@@ -44,7 +47,7 @@ pub fn write_standard<GC: GenderClaim>(
     ensures reads_back { IsInRange claims.now
         → IfOk result (λ out. GivesClaims GC.read_of out.items claims.now) }
 {
-    let mut out = Vec::new(alloc);
+    let mut out = Vec::with_capacity(alloc, ROOM)?;
     for claim in Claim::ALL {
         write_claim(alloc, &mut out, claim, claims)?;
     }

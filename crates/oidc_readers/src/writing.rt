@@ -129,7 +129,7 @@ pub fn put_texts<M: Marker>(
 fn texts_value<M: Marker>(alloc: Global, texts: &[Text<M>]) -> Result<Value, AllocError>
     ensures { IfOk result (λ value. view value ≡ spec.texts_data texts.now) }
 {
-    let mut values = Vec::new(alloc);
+    let mut values = Vec::with_capacity(alloc, texts.len())?;
     for text in texts {
         values.push(Value::String(String::from_str(alloc, text.as_str())?))?;
     }
