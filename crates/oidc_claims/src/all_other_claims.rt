@@ -8,7 +8,7 @@ ghost use Rattle.oidc_claims.specs.Others.{list_of};
 
 use crate::additional::AdditionalClaims;
 use crate::same::is_same_list;
-use oidc_members::{FieldName, Member, OutMember, ParseError};
+use oidc_members::{Member, MemberName, OutMember, ParseError};
 use oidc_readers::put;
 use std::alloc::{AllocError, Global};
 use std::marker::Model;
@@ -44,10 +44,10 @@ impl AllOtherClaims {
 }
 
 // The name that is this text.
-fn name_of(alloc: Global, text: &str) -> Result<FieldName, AllocError>
+fn name_of(alloc: Global, text: &str) -> Result<MemberName, AllocError>
     ensures { IfOk result (λ name. name ≡ text.now) }
 {
-    Ok(FieldName::new(String::from_str(alloc, text)?))
+    Ok(MemberName::new(String::from_str(alloc, text)?))
 }
 
 // The names and values of members.

@@ -5,7 +5,7 @@ ghost use Rattle.std.specs.Str.{bytes_eq};
 ghost use Rattle.oidc_claims.specs.Table.{name_of, kind_of, claim_of, base_of, claims_of_length};
 
 use crate::name::base_of_name;
-use oidc_members::{FieldName, Member};
+use oidc_members::{Member, MemberName};
 use oidc_readers::named;
 
 /// A standard claim (OpenID Connect Core 1.0 section 5.1).
@@ -130,7 +130,7 @@ impl Claim {
     }
 
     // The name of the member that it is written as.
-    pub(crate) fn field_name(self) -> FieldName
+    pub(crate) fn member_name(self) -> MemberName
         ensures { result ≡ name_of self }
     {
         named(self.name())

@@ -19,7 +19,7 @@ use crate::claim::Claim;
 use crate::claims::{AddressClaim, StandardClaims};
 use crate::gender::GenderClaim;
 use jiff::Timestamp;
-use oidc_members::{FieldName, OutMember};
+use oidc_members::{MemberName, OutMember};
 use oidc_readers::{put, put_text, seconds_value};
 use oidc_types::{LanguageTag, LocalizedClaim, Marker, Text};
 use serde_json::{Map, Value};
@@ -66,7 +66,7 @@ fn write_claim<GC: GenderClaim>(
     ensures texts { OnOk result (KeepsUtf8 out.old.items out.new.items) }
 {
     match claim {
-        Claim::Subject => put_text(alloc, out, claim.field_name(), claims.subject.as_str()),
+        Claim::Subject => put_text(alloc, out, claim.member_name(), claims.subject.as_str()),
         Claim::Name => write_variants(alloc, out, claim, &claims.name),
         Claim::GivenName => write_variants(alloc, out, claim, &claims.given_name),
         Claim::FamilyName => write_variants(alloc, out, claim, &claims.family_name),
@@ -104,7 +104,7 @@ fn write_text<M: Marker>(
 {
     match text {
         None => Ok(()),
-        Some(text) => put_text(alloc, out, claim.field_name(), text.as_str()),
+        Some(text) => put_text(alloc, out, claim.member_name(), text.as_str()),
     }
 }
 
@@ -141,10 +141,10 @@ fn write_variant<M: Marker>(
     ensures texts { OnOk result (KeepsUtf8 out.old.items out.new.items) }
 {
     match tag {
-        None => put_text(alloc, out, claim.field_name(), text.as_str()),
+        None => put_text(alloc, out, claim.member_name(), text.as_str()),
         Some(tag) => {
             let name = tagged_name(alloc, claim, tag)?;
-            put_text(alloc, out, FieldName::new(name), text.as_str())
+            put_text(alloc, out, MemberName::new(name), text.as_str())
         }
     }
 }
@@ -161,7 +161,7 @@ fn write_flag(
 {
     match flag {
         None => Ok(()),
-        Some(flag) => put(out, claim.field_name(), Value::Bool(flag)),
+        Some(flag) => put(out, claim.member_name(), Value::Bool(flag)),
     }
 }
 
@@ -177,7 +177,7 @@ fn write_gender<GC: GenderClaim>(
 {
     match gender {
         None => Ok(()),
-        Some(gender) => put(out, claim.field_name(), gender.write(alloc)?),
+        Some(gender) => put(out, claim.member_name(), gender.write(alloc)?),
     }
 }
 
@@ -193,7 +193,7 @@ fn write_address(
 {
     match address {
         None => Ok(()),
-        Some(address) => put(out, claim.field_name(), address_value(alloc, address)?),
+        Some(address) => put(out, claim.member_name(), address_value(alloc, address)?),
     }
 }
 
@@ -210,7 +210,7 @@ fn write_moment(
 {
     match moment {
         None => Ok(()),
-        Some(moment) => put(out, claim.field_name(), seconds_value(moment)),
+        Some(moment) => put(out, claim.member_name(), seconds_value(moment)),
     }
 }
 

@@ -1,30 +1,27 @@
 // The name of a field, as a small type of its own: contracts see it as its text.
 ghost use Rattle.std.specs.Prelude.{◌≡◌, Some, nat_eq};
-ghost use Rattle.std.specs.Cow.{cow_str_bytes};
 ghost use Rattle.std.specs.String.{string_bytes};
 ghost use Rattle.std.specs.Cmp.Lexicographic.{pointwise};
 ghost use Rattle.std.specs.Cmp.Rules.{comparing};
 ghost use Rattle.std.proofs.Common.{rules};
 
-use std::alloc::Global;
-use std::borrow::CowStr;
 use std::fmt;
 use std::marker::Model;
 
-/// The name of a member that is written, or of the field that a refusal speaks of. A contract sees
-/// it as its text, and it is equal to another where the texts are.
+/// The name of the field that a refusal speaks of. A contract sees it as its text, and it is equal to another where
+/// the texts are.
 #[derive(Debug, Drop)]
 pub struct FieldName {
-    text: CowStr<'static, Global>,
+    text: String,
 }
 
 impl Model for FieldName {
     ghost use Rattle.std.specs.Prelude.{List, ℕ};
-    ghost use Rattle.std.specs.Cow.{cow_str_bytes};
+    ghost use Rattle.std.specs.String.{string_bytes};
 
     ghost Value = { List ℕ };
 
-    ghost view = { λ name. cow_str_bytes name.text };
+    ghost view = { λ name. string_bytes name.text };
 }
 
 impl FieldName {
@@ -32,18 +29,7 @@ impl FieldName {
     pub fn new(text: String) -> Self
         ensures { result ≡ string_bytes text }
     {
-        FieldName {
-            text: CowStr::Owned(text),
-        }
-    }
-
-    /// The name that is this text of the program. It takes no memory, and copies nothing.
-    pub fn of_word(text: &'static str) -> Self
-        ensures { result ≡ text.now }
-    {
-        FieldName {
-            text: CowStr::Borrowed(text),
-        }
+        FieldName { text }
     }
 
     /// The name's text.
@@ -60,7 +46,7 @@ impl PartialEq for FieldName {
     ghost laws = { Prim.search (comparing, rules) };
 
     fn eq(&self, other: &FieldName) -> bool {
-        self.as_str() == other.as_str()
+        self.text == other.text
     }
 }
 

@@ -7,7 +7,7 @@ ghost use Rattle.serde_json.specs.View.{items_view, view};
 ghost use Rattle.oidc_members.specs.Sight.{is_plain};
 ghost use Rattle.oidc_members.specs.Write.{any_float, object_text};
 
-use crate::field_name::FieldName;
+use crate::member_name::MemberName;
 use crate::sight::is_plain_text;
 use itoa::Buffer;
 use serde_json::Value;
@@ -18,7 +18,7 @@ use std::marker::Model;
 #[derive(Drop)]
 pub struct OutMember {
     /// The member's name.
-    pub name: FieldName,
+    pub name: MemberName,
     /// The member's value.
     pub value: Value,
 }

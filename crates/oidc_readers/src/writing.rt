@@ -1,7 +1,7 @@
 //! Members that a record is written as.
 //!
 //! Each function appends a member, or nothing where there is no value. What it appends is UTF-8, as a
-//! `FieldName` and the texts of a `Value` are. `AllocError` is want of memory, the one error, after which
+//! `MemberName` and the texts of a `Value` are. `AllocError` is want of memory, the one error, after which
 //! the members are as they were.
 
 ghost use Rattle.std.specs.Prelude.{◌≡◌, ◌++◌, IfOk, OnOk, OnErr, option_map};
@@ -13,20 +13,20 @@ ghost use Rattle.oidc_readers.specs.WrittenBack.{KeepsUtf8};
 
 use crate::moments::seconds_value;
 use jiff::Timestamp;
-use oidc_members::{FieldName, OutMember};
+use oidc_members::{MemberName, OutMember};
 use oidc_types::{Marker, Text};
 use serde_json::Value;
 use std::alloc::{AllocError, Global};
 
 /// The name of a member that is a word of the program. It takes no memory.
-pub fn named(word: &'static str) -> FieldName
+pub fn named(word: &'static str) -> MemberName
     ensures { result ≡ word.now }
 {
-    FieldName::of_word(word)
+    MemberName::of_word(word)
 }
 
 /// Appends a member.
-pub fn put(members: &mut Vec<OutMember>, name: FieldName, value: Value) -> Result<(), AllocError>
+pub fn put(members: &mut Vec<OutMember>, name: MemberName, value: Value) -> Result<(), AllocError>
     ensures put { OnOk result
         (members.new.items ≡ members.old.items ++ spec.one_member name (view value)) }
     ensures err { OnErr result (members.new.items ≡ members.old.items) }
@@ -42,7 +42,7 @@ pub fn put(members: &mut Vec<OutMember>, name: FieldName, value: Value) -> Resul
 pub fn put_text(
     alloc: Global,
     members: &mut Vec<OutMember>,
-    name: FieldName,
+    name: MemberName,
     text: &str,
 ) -> Result<(), AllocError>
     ensures put { OnOk result
@@ -58,7 +58,7 @@ pub fn put_text(
 pub fn put_optional_text(
     alloc: Global,
     members: &mut Vec<OutMember>,
-    name: FieldName,
+    name: MemberName,
     text: Option<&str>,
 ) -> Result<(), AllocError>
     ensures put { let text = option_copied text.entry in OnOk result
@@ -76,7 +76,7 @@ pub fn put_optional_text(
 pub fn put_optional_whole(
     alloc: Global,
     members: &mut Vec<OutMember>,
-    name: FieldName,
+    name: MemberName,
     number: Option<u64>,
 ) -> Result<(), AllocError>
     ensures put { OnOk result
@@ -94,7 +94,7 @@ pub fn put_optional_whole(
 pub fn put_optional_moment(
     alloc: Global,
     members: &mut Vec<OutMember>,
-    name: FieldName,
+    name: MemberName,
     moment: Option<Timestamp>,
 ) -> Result<(), AllocError>
     ensures put { let moment = option_map (λ t. t.nanosecond) moment in OnOk result
@@ -112,7 +112,7 @@ pub fn put_optional_moment(
 pub fn put_texts<M: Marker>(
     alloc: Global,
     members: &mut Vec<OutMember>,
-    name: FieldName,
+    name: MemberName,
     texts: Option<&[Text<M>]>,
 ) -> Result<(), AllocError>
     ensures put { let texts = option_copied texts.entry in OnOk result

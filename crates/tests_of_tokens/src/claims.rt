@@ -4,7 +4,7 @@
 use crate::tenant::Tenant;
 use jiff::Timestamp;
 use oidc_claims::{AddressClaim, StandardClaims};
-use oidc_members::{FieldName, OutMember, write_object};
+use oidc_members::{MemberName, OutMember, write_object};
 use oidc_tokens::{IdTokenClaims, Payload};
 use oidc_types::{
     Audience, AuthenticationMethodReference, CoreGenderClaim, EndUserBirthday, EndUserEmail,
@@ -58,7 +58,7 @@ fn issuer(rt: &impl Abort, alloc: Global, text: &str) -> IssuerUrl {
 
 fn tenant(rt: &impl Abort, alloc: Global, name: &str) -> Tenant {
     Tenant {
-        name: FieldName::new(String::from_str(alloc, name).expect(rt, "memory")),
+        name: MemberName::new(String::from_str(alloc, name).expect(rt, "memory")),
     }
 }
 
