@@ -1,5 +1,5 @@
 //! Names and values as a form writes them.
-ghost use Rattle.std.specs.Prelude.{◌≡◌, ◌++◌, ◌∷◌, ◌+◌, ◌≤◌, [], length, take, IfOk, OnOk, MatchOption};
+ghost use Rattle.std.specs.Prelude.{◌≡◌, ◌++◌, ◌∷◌, ◌+◌, ◌≤◌, [], length, take, IfOk, OnOk, OnErr, MatchOption};
 ghost use Rattle.std.specs.String.{string_bytes};
 ghost use Rattle.form_urlencoded.specs.Form.{serialize_byte, byte_serialize};
 ghost use Rattle.percent_encoding.specs.Percent.{percent_encode_byte};
@@ -50,7 +50,8 @@ fn put(room: &mut [u8; ROOM], at: usize, byte: u8) -> usize
 // Adds what a form makes of a few bytes.
 fn push_piece(text: &mut String, piece: &[u8]) -> Result<(), AllocError>
     requires { length piece.now ≤ 40 }
-    ensures { OnOk result (string_bytes text.new ≡ string_bytes text.old ++ escaped piece.now) }
+    ensures ok { OnOk result (string_bytes text.new ≡ string_bytes text.old ++ escaped piece.now) }
+    ensures err { OnErr result (string_bytes text.new ≡ string_bytes text.old) }
 {
     let mut room = [0u8; ROOM];
     let mut used = 0;
@@ -73,9 +74,11 @@ fn first_piece(bytes: &[u8]) -> (&[u8], &[u8])
     }
 }
 
-/// Adds bytes as a form writes a name or a value. After an error some of them may have been added.
-pub fn push_escaped(text: &mut String, bytes: &[u8]) -> Result<(), AllocError>
-    ensures { OnOk result (string_bytes text.new ≡ string_bytes text.old ++ escaped bytes.now) }
+// Adds bytes as a form writes a name or a value. After an error some of them may have been added.
+pub(crate) fn push_bytes(text: &mut String, bytes: &[u8]) -> Result<(), AllocError>
+    ensures ok { OnOk result (string_bytes text.new ≡ string_bytes text.old ++ escaped bytes.now) }
+    ensures begun { take (length (string_bytes text.old)) (string_bytes text.new)
+        ≡ string_bytes text.old }
 {
     let mut rest = bytes;
     while !rest.is_empty() {
@@ -84,6 +87,13 @@ pub fn push_escaped(text: &mut String, bytes: &[u8]) -> Result<(), AllocError>
         rest = later;
     }
     Ok(())
+}
+
+/// Adds bytes as a form writes a name or a value. After an error some of them may have been added.
+pub fn push_escaped(text: &mut String, bytes: &[u8]) -> Result<(), AllocError>
+    ensures { OnOk result (string_bytes text.new ≡ string_bytes text.old ++ escaped bytes.now) }
+{
+    push_bytes(text, bytes)
 }
 
 /// One text as a form writes a name or a value (URL Standard, section 5.2).
