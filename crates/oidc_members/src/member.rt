@@ -1,5 +1,6 @@
 // One member of an object.
 ghost use Rattle.std.specs.Prelude.{◌≡◌, IfOk};
+ghost use Rattle.std.specs.Str.{bytes_eq};
 ghost use Rattle.serde_json.specs.View.{view};
 ghost use Rattle.oidc_members.specs.Objects.{member_of};
 
@@ -76,8 +77,18 @@ impl Member {
     pub fn name(&self) -> &str
         ensures { result.now ≡ self.now.name }
     {
-        // Its bytes came from a `str`, so they need not be looked at again.
-        unsafe { str::from_utf8_unchecked(&self.bytes[self.text_len..]) }
+        match str::from_utf8(&self.bytes[self.text_len..]) {
+            Ok(name) => name,
+            Err(_) => unreachable!(),
+        }
+    }
+
+    /// Whether this is the name. It is asked of each member for each field of a record, and looks at the name's bytes
+    /// as they stand.
+    pub fn is_named(&self, name: &str) -> bool
+        ensures { result ≡ bytes_eq self.now.name name.now }
+    {
+        &self.bytes[self.text_len..] == name.as_bytes()
     }
 
     /// The value that `serde_json` reads.
