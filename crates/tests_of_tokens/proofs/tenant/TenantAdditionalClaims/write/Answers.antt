@@ -1,4 +1,6 @@
-use Rattle.std.proofs.Common.{subst, sym, refl, All}
+use Rattle.std.proofs.Common.{subst, sym, refl, codes, All}
+use Rattle.std.specs.Str.{IsUtf8}
+use Rattle.std.proofs.lemmas.Str.{IsUtf8-from_is_utf8}
 use Rattle.std.proofs.lemmas.List.Elements.{All-nil}
 use Rattle.serde_json.specs.declared.value.Value.{String}
 use Rattle.oidc_readers.specs.WrittenBack.{IsUtf8Member}
@@ -7,5 +9,6 @@ use Rattle.tests_of_tokens.proofs.tenant.TenantAdditionalClaims.write.Goals as g
 
 pub returns-clause-texts : goal.returns-clause-texts
 returns-clause-texts c =
-    utf8_pushed _ _ _ c.in_ok-from_str.field-0 (String c.in_ok-from_str-2.field-0) c.in_ok-push.ensures.items c.new-name.ensures refl
+    let name : IsUtf8 c.of_word-name.result = subst IsUtf8 (sym c.of_word-name.ensures) (IsUtf8-from_is_utf8 (codes "tenant") refl) in
+    utf8_pushed _ _ _ (String c.in_ok-from_str.field-0) c.in_ok-push.ensures.items name refl
     (subst (All IsUtf8Member) (sym c.new-members.ensures.items) (All-nil IsUtf8Member))
