@@ -8,3 +8,4 @@ mod Runs
 mod Texts
 mod Unblamed
 mod QueryLists
+mod QueryTexts

@@ -1,16 +1,17 @@
 //! URLs with pairs after their query, to which a site sends its users: the authorization endpoint's (RFC 6749
 //! section 3.1) and the logout endpoint's.
 
-ghost use Rattle.std.specs.Prelude.{◌≡◌, ◌∷◌, ◌++◌, [], false, Some, All, IfOk, IsTrue, OnOk, OnErr, length, map, option_map, take};
+ghost use Rattle.std.specs.Prelude.{◌≡◌, ◌∷◌, ◌++◌, [], false, Some, All, IfOk, IsTrue, OnOk, OnErr, length, map, option_map, take, unwrap_or};
 ghost use Rattle.std.specs.Option.{option_copied};
 ghost use Rattle.std.specs.String.{string_bytes};
-ghost use Rattle.form_urlencoded.specs.Form.{pair_text};
+ghost use Rattle.form_urlencoded.specs.Form.{extend_pairs, pair_text};
 ghost use Rattle.url.specs.Parts.{IsValid};
 ghost use Rattle.url.specs.Setters.{append_query_pairs};
 ghost use Rattle.oidc_pairs.specs.Pairs.{IsTextPair};
 ghost use Rattle.oidc_oauth2.specs.ClientAuth.{pair_if};
 ghost use Rattle.oidc_user_info.specs.QueryPairs.{given_pairs, named_value, spaced, spaced_if, extended, Builds};
 
+use oidc_pairs::push_pair;
 use oidc_types::{Marker, Text, Vocabulary};
 use std::alloc::{AllocError, Global};
 use std::marker::Model;
@@ -228,17 +229,39 @@ impl<'p> QueryPairs<'p> {
         let url = endpoint.clone()?;
         match pairs {
             [] => without_empty_query(url),
-            [_, ..] => with_pairs(url, pairs),
+            [_, ..] => with_pairs(*self.pairs.allocator(), url, pairs),
         }
     }
 }
 
+// How many bytes a query has room for at once. Those of most requests have fewer.
+const ROOM: usize = 384;
+
+// A query with pairs behind it. The kit's `append_query_pairs` writes each run of a pair as a piece of its own.
+fn query_with(
+    alloc: Global,
+    query: Option<&str>,
+    pairs: &[(&str, &str)],
+) -> Result<String, AllocError>
+    ensures { let before = unwrap_or (option_copied query.entry) [] in
+        IfOk result (λ text. string_bytes text ≡ extend_pairs before (map pair_text pairs.now)) }
+{
+    let mut text = String::with_capacity(alloc, ROOM)?;
+    text.push_str(query.unwrap_or(""))?;
+    for (name, value) in pairs {
+        push_pair(&mut text, name, value)?;
+    }
+    Ok(text)
+}
+
 // A URL with pairs appended to its query.
-fn with_pairs(mut url: Url, pairs: &[(&str, &str)]) -> Result<Url, AllocError>
+#[tactic(auto, using(crate::proofs::QueryTexts::set_extended))]
+fn with_pairs(alloc: Global, mut url: Url, pairs: &[(&str, &str)]) -> Result<Url, AllocError>
     ensures { let list = map pair_text pairs.now in
         IfOk result (λ made. made ≡ append_query_pairs url list) }
 {
-    match url.append_query_pairs(pairs) {
+    let query = query_with(alloc, url.query(), pairs)?;
+    match url.set_query(Some(query.as_str())) {
         Ok(()) => Ok(url),
         Err(_) => Err(AllocError),
     }
