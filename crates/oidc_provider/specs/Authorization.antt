@@ -49,7 +49,7 @@ asked_login_code =
 abbrev pub login_with : Option (List ℕ) → Option (List ℕ) → Option (List ℕ) → Option AskedLogin
 login_with (Some state) (Some nonce) (Some challenge) =
     Some (record { state = state; nonce = nonce; challenge = challenge })
-login_with state nonce challenge = None
+login_with _ _ _ = None
 
 -- the client that pairs name
 abbrev pub client_of : SeenProvider → Pairs → Option Registration

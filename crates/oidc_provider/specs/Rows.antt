@@ -1,6 +1,6 @@
 -- The table of answers, by the parts of a request that its rows look at, and the row that the code falls under. No public
 -- clause cites this.
-use Rattle.std.specs.Prelude.{ℕ, List, [], ◌&&◌, not, Bool, Option, None, Some, option_map, option_and_then, if◌then◌else◌, codes}
+use Rattle.std.specs.Prelude.{ℕ, List, [], ◌&&◌, not, Bool, false, Option, None, Some, option_map, option_and_then, if◌then◌else◌, codes}
 use Rattle.std.specs.Bool.{then_some}
 use Rattle.std.specs.Borrow.{Bor}
 use Rattle.std.specs.List.{list_any}

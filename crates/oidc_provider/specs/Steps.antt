@@ -30,19 +30,19 @@ client_among registrations query = option_and_then (registered registrations) (o
 abbrev pub login_or_refusal : Pairs → Result AskedLogin AuthorizeError
 login_or_refusal query = login_of query or Request
 
-abbrev pub new_or_refusal : SeenGrants → List ℕ → List ℕ → List ℕ → List ℕ → Result (Unit {0}) AuthorizeError
-new_or_refusal grants subject info_subject code token = do
-  Subject when not (bytes_eq subject info_subject)
-  CodeUsed when has_code grants code
-  TokenUsed when has_token grants token
-  TokenText when not (is_visible_text token)
+abbrev pub new_or_refusal : SeenGrants → Asked → Result (Unit {0}) AuthorizeError
+new_or_refusal grants a = do
+  Subject when not (bytes_eq a.subject a.info_subject)
+  CodeUsed when has_code grants a.code
+  TokenUsed when has_token grants a.token
+  TokenText when not (is_visible_text a.token)
 
 -- the rows behind the client
 abbrev pub granted_login : SeenGrants → Registration → Asked → Result AskedLogin AuthorizeError
 granted_login grants client a = do
   Redirect when not (says a.query (codes "redirect_uri") client.redirect.text)
   login ← login_or_refusal a.query
-  new_or_refusal grants a.subject a.info_subject a.code a.token
+  new_or_refusal grants a
   Ok login
 
 -- ---- what is kept

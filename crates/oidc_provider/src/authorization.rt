@@ -1,6 +1,6 @@
 // Whether an authorization request is granted.
 
-ghost use Rattle.std.specs.Prelude.{◌≡◌};
+ghost use Rattle.std.specs.Prelude.{◌≡◌, IfOk, []};
 ghost use Rattle.std.specs.Option.{option_copied};
 ghost use Rattle.http_header.specs.FieldValue.{is_visible_text};
 ghost use Rattle.http_header.specs.Token.{is_visible_or_blank as visible_or_blank};
@@ -112,15 +112,18 @@ fn login_of(alloc: Global, query: &BorrowedPairs<'_>) -> Result<Login, Authorize
     if !says(query, "response_type", "code") || !says(query, "code_challenge_method", "S256") {
         return Err(AuthorizeError::Request);
     }
-    match (
-        query.only("state"),
-        query.only("nonce"),
-        query.only("code_challenge"),
-    ) {
-        (Some(state), Some(nonce), Some(challenge)) => {
-            Ok(login_with(alloc, state, nonce, challenge)?)
-        }
-        _ => Err(AuthorizeError::Request),
+    let Some(state) = query.only("state") else {
+        return Err(AuthorizeError::Request);
+    };
+    let Some(nonce) = query.only("nonce") else {
+        return Err(AuthorizeError::Request);
+    };
+    let Some(challenge) = query.only("code_challenge") else {
+        return Err(AuthorizeError::Request);
+    };
+    match login_with(alloc, state, nonce, challenge) {
+        Ok(login) => Ok(login),
+        Err(_) => Err(AuthorizeError::Memory),
     }
 }
 
@@ -135,8 +138,9 @@ pub(crate) struct HandedIn<'a> {
 
 // Whether what is handed in may be granted.
 fn check_new(grants: &Grants, given: HandedIn<'_>) -> Result<(), AuthorizeError>
-    ensures { result ≡ steps.new_or_refusal grants.now given.subject.now given.info_subject.now
-        given.code.now given.token.now }
+    ensures { let asked = asked_by [] given.entry.subject.now given.entry.info_subject.now
+        given.entry.code.now given.entry.token.now in
+        result ≡ steps.new_or_refusal grants.now asked }
 {
     if given.subject.as_str() != given.info_subject.as_str() {
         return Err(AuthorizeError::Subject);
@@ -161,8 +165,8 @@ pub(crate) fn granted_login(
     query: &BorrowedPairs<'_>,
     given: HandedIn<'_>,
 ) -> Result<Login, AuthorizeError>
-    ensures { let asked = asked_by query.now given.subject.now given.info_subject.now
-        given.code.now given.token.now in
+    ensures { let asked = asked_by query.now given.entry.subject.now given.entry.info_subject.now
+        given.entry.code.now given.entry.token.now in
         Replies result (steps.granted_login grants.now client.now asked) }
 {
     if !says(query, "redirect_uri", client.redirect.as_str()) {

@@ -136,7 +136,7 @@ impl<AC, GC> Provider<AC, GC> {
 /// A call answers the table of answers, or `Memory`, which leaves all as it was. It never fails otherwise: its error
 /// type has no values.
 impl<AC, GC> SyncHttpClient for Provider<AC, GC> {
-    ghost use Rattle.std.specs.Prelude.{◌≡◌, ◌≤◌, Option, Unit, IfOk, IfErr, OnOk, OnErr};
+    ghost use Rattle.std.specs.Prelude.{◌≡◌, ◌≤◌, Option, IfOk, IfErr, OnOk, OnErr};
     ghost use Rattle.oidc_oauth2.specs.Messages.{seen_response};
     ghost use Rattle.oidc_oauth2.specs.Transport.{IsLogged, Plays, answers_in, IsBlamed};
     ghost use Rattle.oidc_oauth2.specs.declared.transport.CallError.TheVariants.{Memory};
