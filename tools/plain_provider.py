@@ -3,7 +3,6 @@
 
     tools/plain_provider.py answers   reads cases from standard input, and answers each: a line each; any other line
                                       comes back as it came
-    tools/plain_provider.py cases     generated cases, a line each
 
 It is a second reader beside oidc_provider: RFC 6749 sections 2.3.1, 4.1, 5.1 and 5.2, RFC 6750 sections 2.1 and 3.1, RFC
 7636 section 4, OpenID Connect Core 1.0 sections 2, 3.1.2, 3.1.3 and 5.3. The grants are a plain list here, which is
@@ -11,7 +10,6 @@ searched from its front, where the product has hashed maps. ID tokens are those 
 plain_info.py, requests and callbacks those of plain_callback.py.
 """
 import base64
-import random
 
 import plain_callback
 import plain_claims

@@ -1,5 +1,6 @@
 -- How changes of a hashed map change the map that it keeps.
 use Rattle.std.proofs.Common.{◌≡◌, ℕ, List, [], ◌∷◌, map, Option, None, Some, Bool, true, false, cond, refl, sym, ap, ◌∙◌, String}
+use Rattle.std.specs.Prelude.{is_some}
 use Rattle.std.specs.FinMap as finite
 use Rattle.std.specs.HashMap as hash
 use Rattle.std.specs.Map.{lookup}
@@ -19,6 +20,26 @@ ties x y = eq_by_cmp (slice_cmp nat_cmp) x y
 
 same_test : (bs q : List ℕ) → ties q bs ≡ bytes_eq bs q
 same_test bs q = is_eq-slice_cmp q bs ∙ (lists_equiv nat_eq_equiv).symm q bs
+
+same : (x y : List ℕ) → ties x y ≡ true → x ≡ y
+same x y e = (bytes_decides x y).0 (sym (is_eq-slice_cmp x y) ∙ e)
+
+-- ---- an entry that is added and taken out again
+
+absent : {X : Type 0} (o : Option X) → is_some o ≡ false → o ≡ None
+absent None e = refl
+absent (Some x) e = absurd cc
+
+unmoved : {X : Type 0} (tied : Bool) (v : X) (y : Option X) → (tied ≡ true → y ≡ None) → cond tied None (cond tied (Some v) y) ≡ y
+unmoved true v y e = sym (e refl)
+unmoved false v y e = refl
+
+pub taken_back : {X : Type 0} (m : TextMap X) (k : List ℕ) (v : X) → finite.contains_key m k ≡ false → finite.remove (finite.insert m k v) k ≡ m
+taken_back m k v new =
+    finite.same_map nat_list_cmp_total (finite.slice_cmp-IsAntisymmetric finite.nat_cmp-IsAntisymmetric) _ _ (λ q.
+    finite.get-remove nat_list_cmp_total (finite.insert m k v) k q
+    ∙ ap (λ o. cond (ties q k) None o) (finite.get-insert nat_list_cmp_total m k v q)
+    ∙ unmoved (ties q k) v (finite.get m q) (λ tied. ap (finite.get m) (same q k tied) ∙ absent (finite.get m k) new))
 
 module _ {X Y : Type 0} where
   find_lookup : (q : List ℕ) (es : List (String Y × X)) → finite.find (slice_cmp nat_cmp) q (by_text es) ≡ lookup (λ k. bytes_eq q (string_bytes k)) es

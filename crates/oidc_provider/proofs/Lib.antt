@@ -1,1 +1,5 @@
 mod Entries
+mod Table
+mod Registered
+mod Served
+mod HonestLogins

@@ -9,6 +9,7 @@ pub mod AuthorizationCauses
 pub mod Issuing
 pub mod Keeping
 pub mod Answers
+pub mod Honest
 -- lower words that these cite
 pub use Rattle.oidc_pairs.specs.Pairs
 pub use Rattle.oidc_pairs.specs.Form

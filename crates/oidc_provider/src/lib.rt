@@ -22,6 +22,7 @@ mod authorization;
 mod errors;
 mod grants;
 mod issuing;
+pub mod laws;
 mod provider;
 mod settings;
 mod transport;
