@@ -1,5 +1,9 @@
 mod Entries
+mod Bearers
+mod Signed
+mod Made
 mod Table
+mod RowOf
 mod Registered
 mod Served
 mod HonestLogins

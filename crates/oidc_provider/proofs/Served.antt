@@ -28,7 +28,7 @@ use Rattle.oidc_user_info.specs.declared.requests.UserInfoResponseType.{UserInfo
 use Rattle.oidc_user_info.specs.declared.requests.UserInfoResponseType.TheVariants.{Json, Jwt}
 use Rattle.oidc_provider.specs.declared.settings.Registration.{Registration}
 use Rattle.oidc_provider.specs.Settings.{registered}
-use Rattle.oidc_provider.specs.Grants.{SeenGrant, SeenGrants, of_code, of_token, redeemed_by, redeemed_at}
+use Rattle.oidc_provider.specs.Grants.{SeenGrant, SeenGrants, of_code, of_token, redeemed_by, marked}
 use Rattle.oidc_provider.specs.Provider.{SeenProvider}
 use Rattle.oidc_provider.specs.Values.{Pairs, only, is_it, says}
 use Rattle.oidc_provider.specs.Answers.{Answer, credentials_in, authenticates_by, asks_for_tokens, asks_for_info, is_authenticated, is_of_client, proves, may_redeem, asked_grant, bearer_in, borne_grant, tokens_of, user_info_of, provider_answer, after}
@@ -51,10 +51,10 @@ pairs_by RequestBody id secret code verifier redirect =
     (codes "grant_type", codes "authorization_code") ∷ (codes "code", code) ∷ (codes "code_verifier", verifier)
     ∷ (codes "client_id", id) ∷ (codes "client_secret", secret) ∷ (codes "redirect_uri", redirect) ∷ []
 
-abbrev client_by : AuthType → List ℕ → List ℕ → SeenClientAuth
+abbrev pub client_by : AuthType → List ℕ → List ℕ → SeenClientAuth
 client_by kind id secret = record { client_id = id; client_secret = Some secret; auth_type = kind }
 
-abbrev request_by : AuthType → List ℕ → List ℕ → List ℕ → List ℕ → List ℕ → List ℕ → SeenCodeRequest
+abbrev pub request_by : AuthType → List ℕ → List ℕ → List ℕ → List ℕ → List ℕ → List ℕ → SeenCodeRequest
 request_by kind address id secret code verifier redirect = record {
   address = address;
   client = client_by kind id secret;
@@ -71,21 +71,27 @@ code_pairs_by RequestBody address id secret code verifier redirect = refl
 
 -- the names of the pairs, and the grant type, are UTF-8
 grant_type_text : IsTextPair (codes "grant_type", codes "authorization_code")
+unfolding lib.Utf8.encode
 grant_type_text = ((codes "grant_type", (refl, refl)), (codes "authorization_code", (refl, refl)))
 
 code_name : IsUtf8 (codes "code")
+unfolding lib.Utf8.encode
 code_name = (codes "code", (refl, refl))
 
 verifier_name : IsUtf8 (codes "code_verifier")
+unfolding lib.Utf8.encode
 verifier_name = (codes "code_verifier", (refl, refl))
 
 redirect_name : IsUtf8 (codes "redirect_uri")
+unfolding lib.Utf8.encode
 redirect_name = (codes "redirect_uri", (refl, refl))
 
 id_name : IsUtf8 (codes "client_id")
+unfolding lib.Utf8.encode
 id_name = (codes "client_id", (refl, refl))
 
 secret_name : IsUtf8 (codes "client_secret")
+unfolding lib.Utf8.encode
 secret_name = (codes "client_secret", (refl, refl))
 
 one_more : (pair : List ℕ × List ℕ) (list : Pairs) → IsTextPair pair → All IsTextPair list → All IsTextPair (pair ∷ list)
@@ -94,10 +100,25 @@ one_more pair list one all = All-cons IsTextPair pair list one all
 pairs_text : (kind : AuthType) (id secret code verifier redirect : List ℕ) → IsUtf8 id → IsUtf8 secret → IsUtf8 code → IsUtf8 verifier → IsUtf8 redirect
     → All IsTextPair (pairs_by kind id secret code verifier redirect)
 pairs_text BasicAuth id secret code verifier redirect i s c v r =
-    one_more _ _ grant_type_text (one_more _ _ (code_name, c) (one_more _ _ (verifier_name, v) (one_more _ _ (redirect_name, r) (All-nil IsTextPair))))
+    let last : Pairs = (codes "redirect_uri", redirect) ∷ [] in
+    let third : Pairs = (codes "code_verifier", verifier) ∷ last in
+    let second : Pairs = (codes "code", code) ∷ third in
+    one_more (codes "grant_type", codes "authorization_code") second grant_type_text
+    (one_more (codes "code", code) third (code_name, c)
+    (one_more (codes "code_verifier", verifier) last (verifier_name, v)
+    (one_more (codes "redirect_uri", redirect) [] (redirect_name, r) (All-nil IsTextPair))))
 pairs_text RequestBody id secret code verifier redirect i s c v r =
-    one_more _ _ grant_type_text (one_more _ _ (code_name, c) (one_more _ _ (verifier_name, v)
-    (one_more _ _ (id_name, i) (one_more _ _ (secret_name, s) (one_more _ _ (redirect_name, r) (All-nil IsTextPair))))))
+    let last : Pairs = (codes "redirect_uri", redirect) ∷ [] in
+    let fifth : Pairs = (codes "client_secret", secret) ∷ last in
+    let fourth : Pairs = (codes "client_id", id) ∷ fifth in
+    let third : Pairs = (codes "code_verifier", verifier) ∷ fourth in
+    let second : Pairs = (codes "code", code) ∷ third in
+    one_more (codes "grant_type", codes "authorization_code") second grant_type_text
+    (one_more (codes "code", code) third (code_name, c)
+    (one_more (codes "code_verifier", verifier) fourth (verifier_name, v)
+    (one_more (codes "client_id", id) fifth (id_name, i)
+    (one_more (codes "client_secret", secret) last (secret_name, s)
+    (one_more (codes "redirect_uri", redirect) [] (redirect_name, r) (All-nil IsTextPair))))))
 
 -- ---- what the rows look at, of these pairs
 
@@ -273,7 +294,7 @@ module _ (p : SeenProvider) (g : SeenGrant) (request : SeenRequest) (of_own_code
   grants_after : (after p request).grants ≡ record p.grants { by_code = finite.insert p.grants.by_code g.code now_redeemed }
   grants_after =
       ap (λ answer. redeemed_by p.grants answer.redeems) served
-      ∙ ap (λ o. redeemed_at p.grants g.code o) of_own_code
+      ∙ ap (λ o. record p.grants { by_code = marked p.grants.by_code g.code o }) of_own_code
 
   pub code_after : of_code (after p request).grants g.code ≡ Some now_redeemed
   code_after =

@@ -46,15 +46,17 @@ with_grant grants grant = record {
   codes = finite.insert grants.codes grant.token grant.code;
 }
 
--- the same grants, where that of this code, where there is one, is redeemed
-abbrev pub redeemed_at : SeenGrants → List ℕ → Option SeenGrant → SeenGrants
-redeemed_at grants code None = grants
-redeemed_at grants code (Some grant) =
-    record grants { by_code = finite.insert grants.by_code code (record grant { redeemed = true }) }
+-- the grants by their codes, where this one under a code, if any, is redeemed
+abbrev pub marked : finite.FinMap (slice_cmp nat_cmp) SeenGrant → List ℕ → Option SeenGrant
+    → finite.FinMap (slice_cmp nat_cmp) SeenGrant
+marked by_code code None = by_code
+marked by_code code (Some grant) = finite.insert by_code code (record grant { redeemed = true })
 
+-- the same grants, where that of this code, if any, is redeemed
 abbrev pub redeemed_by : SeenGrants → Option (List ℕ) → SeenGrants
 redeemed_by grants None = grants
-redeemed_by grants (Some code) = redeemed_at grants code (of_code grants code)
+redeemed_by grants (Some code) =
+    record grants { by_code = marked grants.by_code code (of_code grants code) }
 
 -- ---- how the logic stores them
 

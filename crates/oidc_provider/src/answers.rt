@@ -6,6 +6,7 @@ ghost use Rattle.std.specs.String.{string_bytes};
 ghost use Rattle.oidc_oauth2.specs.ClientAuth.{basic_credentials as credentials_of};
 ghost use Rattle.oidc_oauth2.specs.Messages.{seen_response};
 ghost use Rattle.oidc_oauth2.specs.Pkce.{s256};
+ghost use Rattle.oidc_pairs.specs.Pairs.{pairs};
 ghost use Rattle.oidc_provider.specs.Answers as spec;
 ghost use Rattle.oidc_provider.specs.Rows as rows;
 
@@ -178,7 +179,10 @@ fn borne_grant<'g>(grants: &'g Grants, credentials: Option<&HeaderValue>) -> Opt
 {
     let token = bearer_in(credentials?)?;
     let grant = grants.of_token(token)?;
-    if grant.redeemed { Some(grant) } else { None }
+    if !grant.redeemed {
+        return None;
+    }
+    Some(grant)
 }
 
 // ---- the rows
@@ -264,6 +268,21 @@ fn asks_for_info(settings: &ProviderSettings, request: &HttpRequest) -> bool
     request.method().as_str() == "GET" && request.address() == settings.user_info.as_str()
 }
 
+// The same, by the request itself.
+fn posted_row<'g>(
+    alloc: Global,
+    credentials: Option<&HeaderValue>,
+    registrations: &[Registration],
+    grants: &'g Grants,
+    request: &HttpRequest,
+) -> Result<Row<'g>, AllocError>
+    ensures { IfOk result (λ row. rows.answer_of row ≡ rows.token_answer
+        (rows.bytes_of credentials.entry) (pairs request.now.body) registrations.now grants.now) }
+{
+    let body = BorrowedPairs::parse(alloc, request.body().as_slice())?;
+    token_row(alloc, credentials, &body, registrations, grants)
+}
+
 // The row of a request.
 pub(crate) fn row_of<'g>(
     alloc: Global,
@@ -277,8 +296,7 @@ pub(crate) fn row_of<'g>(
 {
     let credentials = credentials_in(request);
     if asks_for_tokens(settings, request) {
-        let body = BorrowedPairs::parse(alloc, request.body().as_slice())?;
-        return token_row(alloc, credentials, &body, registrations, grants);
+        return posted_row(alloc, credentials, registrations, grants, request);
     }
     if asks_for_info(settings, request) {
         return Ok(info_row(grants, credentials));

@@ -46,12 +46,15 @@ pub(crate) fn is_visible(bytes: &[u8]) -> bool
 fn registered<'r>(registrations: &'r [Registration], id: &str) -> Option<&'r Registration>
     ensures { option_copied result ≡ registered_among registrations.now id.now }
 {
-    for registration in registrations {
-        if registration.client_id.as_str() == id {
-            return Some(registration);
+    match registrations {
+        [] => None,
+        [first, later @ ..] => {
+            if first.client_id.as_str() == id {
+                return Some(first);
+            }
+            registered(later, id)
         }
     }
-    None
 }
 
 // The client that the pairs of a request name.

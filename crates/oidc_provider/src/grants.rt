@@ -1,10 +1,11 @@
 // What was granted, by code and by access token.
 
-ghost use Rattle.std.specs.Prelude.{◌≡◌, OnOk, OnErr, None, Some, false, true};
+ghost use Rattle.std.specs.Prelude.{◌≡◌, OnOk, OnErr, Some, false};
 ghost use Rattle.std.specs.Option.{option_copied};
 ghost use Rattle.std.specs.String.{string_bytes};
 ghost use Rattle.oidc_provider.specs.Grants as spec;
-ghost use Rattle.oidc_provider.specs.Store.{TextMap, kept};
+ghost use Rattle.std.specs.FinMap as finite;
+ghost use Rattle.oidc_provider.specs.Store.{kept, kept_texts};
 
 use std::alloc::{AllocError, Global};
 use std::collections::HashMap;
@@ -63,6 +64,55 @@ impl Model for Grants {
     ghost view = { λ g. record { by_code = kept g.by_code; codes = kept_texts g.codes } };
 }
 
+// Keeps a code under an access token.
+#[tactic(auto, using(crate::proofs::Entries::kept_text_insert))]
+fn put_code(
+    codes: &mut HashMap<String, String>,
+    token: String,
+    code: String,
+) -> Result<(), AllocError>
+    ensures ok { OnOk result (kept_texts codes.new
+        ≡ finite.insert (kept_texts codes.old) (string_bytes token) (string_bytes code)) }
+    ensures err { OnErr result (kept_texts codes.new ≡ kept_texts codes.old) }
+{
+    codes.insert(token, code)?;
+    Ok(())
+}
+
+// Takes out what is kept under an access token.
+#[tactic(auto, using(crate::proofs::Entries::kept_text_remove))]
+fn take_code(codes: &mut HashMap<String, String>, token: &str)
+    ensures { kept_texts codes.new ≡ finite.remove (kept_texts codes.old) token.now }
+{
+    codes.remove(token);
+}
+
+// Keeps a grant under a code.
+#[tactic(auto, using(crate::proofs::Entries::kept_insert))]
+fn put_grant(
+    by_code: &mut HashMap<String, Grant>,
+    code: String,
+    grant: Grant,
+) -> Result<(), AllocError>
+    ensures ok { OnOk result
+        (kept by_code.new ≡ finite.insert (kept by_code.old) (string_bytes code) grant) }
+    ensures err { OnErr result (kept by_code.new ≡ kept by_code.old) }
+{
+    by_code.insert(code, grant)?;
+    Ok(())
+}
+
+// Marks the grant of a code, where there is one, as redeemed.
+#[tactic(auto, using(crate::proofs::Entries::kept_insert, crate::proofs::Entries::get_kept))]
+fn mark(by_code: &mut HashMap<String, Grant>, code: &str)
+    ensures { let found = finite.get (kept by_code.old) code.now in
+        kept by_code.new ≡ spec.marked (kept by_code.old) code.now found }
+{
+    if let Some(grant) = by_code.get_mut(code) {
+        grant.redeemed = true;
+    }
+}
+
 impl Grants {
     // No grants.
     #[tactic(auto, using(crate::proofs::Entries::nothing_kept, crate::proofs::Entries::no_texts_kept))]
@@ -110,6 +160,7 @@ impl Grants {
     }
 
     // Adds a grant whose code and whose access token are new. After an error the grants are as they were.
+    #[tactic(auto, using(crate::proofs::Entries::taken_back))]
     pub(crate) fn insert(&mut self, alloc: Global, grant: Grant) -> Result<(), AllocError>
         requires code { spec.has_code self.old grant.code ≡ false }
         requires token { spec.has_token self.old grant.token ≡ false }
@@ -120,11 +171,11 @@ impl Grants {
         let code = String::from_str(alloc, grant.code.as_str())?;
         let taken_back = String::from_str(alloc, grant.token.as_str())?;
         let key = String::from_str(alloc, grant.code.as_str())?;
-        self.codes.insert(token, code)?;
-        match self.by_code.insert(key, grant) {
-            Ok(_) => Ok(()),
+        put_code(&mut self.codes, token, code)?;
+        match put_grant(&mut self.by_code, key, grant) {
+            Ok(()) => Ok(()),
             Err(_) => {
-                self.codes.remove(taken_back.as_str());
+                take_code(&mut self.codes, taken_back.as_str());
                 Err(AllocError)
             }
         }
@@ -134,8 +185,6 @@ impl Grants {
     pub(crate) fn redeem(&mut self, code: &str)
         ensures redeemed { self.new ≡ spec.redeemed_by self.old (Some code.now) }
     {
-        if let Some(grant) = self.by_code.get_mut(code) {
-            grant.redeemed = true;
-        }
+        mark(&mut self.by_code, code);
     }
 }

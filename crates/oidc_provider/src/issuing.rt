@@ -125,7 +125,9 @@ fn info_body<AC: AdditionalClaims, GC: GenderClaim>(
     ensures { IfOk result (λ body. any_float (AC.write_of claims.now.additional_claims) ≡ false
         → body.items ≡ object_text (user_info_members AC.write_of GC.write_of claims.now)) }
 {
-    write_object(alloc, &claims.write(alloc)?)
+    let members = claims.write(alloc)?;
+    let body = write_object(alloc, &members)?;
+    Ok(body)
 }
 
 // ---- the grant
@@ -230,6 +232,35 @@ fn grant_of<AC: AdditionalClaims, GC: GenderClaim>(
     })
 }
 
+// The same, where the claims of user info are lent.
+fn granted_with<AC: AdditionalClaims, GC: GenderClaim>(
+    alloc: Global,
+    settings: &ProviderSettings,
+    client: &Registration,
+    login: Login,
+    given: (AuthorizationCode, AccessToken),
+    claims: IdTokenClaims<AC, GC>,
+    user_info: &UserInfoClaims<AC, GC>,
+) -> Result<Grant, AllocError>
+    ensures { let allowed = allowed_to client.now login in
+        IfOk result (λ grant. IsGranted AC.write_of GC.write_of settings.now allowed
+        given.0 given.1 claims user_info.now grant) }
+{
+    match info_body(alloc, user_info) {
+        Ok(info_body) => match own_of(alloc, settings, client) {
+            Ok(own) => grant_of(alloc, own, login, given, claims, info_body),
+            Err(error) => {
+                drop(claims);
+                Err(error)
+            }
+        },
+        Err(error) => {
+            drop(claims);
+            Err(error)
+        }
+    }
+}
+
 // The grant of what is allowed to a client.
 pub(crate) fn granted<AC: AdditionalClaims, GC: GenderClaim>(
     alloc: Global,
@@ -244,13 +275,7 @@ pub(crate) fn granted<AC: AdditionalClaims, GC: GenderClaim>(
         given.0 given.1 claims.0 claims.1 grant) }
 {
     let (claims, user_info) = claims;
-    let info_body = info_body(alloc, &user_info);
+    let made = granted_with(alloc, settings, client, login, given, claims, &user_info);
     drop(user_info);
-    match (info_body, own_of(alloc, settings, client)) {
-        (Ok(info_body), Ok(own)) => grant_of(alloc, own, login, given, claims, info_body),
-        _ => {
-            drop(claims);
-            Err(AllocError)
-        }
-    }
+    made
 }

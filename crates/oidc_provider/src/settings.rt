@@ -1,6 +1,8 @@
 //! What a provider double is made with.
 
 ghost use Rattle.std.specs.Prelude.{◌≡◌};
+ghost use Rattle.std.specs.List.{list_any};
+ghost use Rattle.std.specs.Str.{bytes_eq};
 ghost use Rattle.oidc_provider.specs.Settings as spec;
 
 use oidc_types::{ClientId, ClientSecret, IssuerUrl, RedirectUrl, TokenUrl, UserInfoUrl};
@@ -27,6 +29,21 @@ pub struct Registration {
     pub redirect: RedirectUrl,
 }
 
+// Whether one of these has this client ID.
+fn has_client(registrations: &[Registration], id: &str) -> bool
+    ensures { result ≡ list_any (λ r. bytes_eq r.client_id id.now) registrations.now }
+{
+    match registrations {
+        [] => false,
+        [first, later @ ..] => {
+            if first.client_id.as_str() == id {
+                return true;
+            }
+            has_client(later, id)
+        }
+    }
+}
+
 // Whether two registrations have one client ID.
 pub(crate) fn has_same_client(registrations: &[Registration]) -> bool
     ensures { result ≡ spec.has_same_client registrations.now }
@@ -34,8 +51,10 @@ pub(crate) fn has_same_client(registrations: &[Registration]) -> bool
     match registrations {
         [] => false,
         [first, later @ ..] => {
-            later.iter().any(|other| other.client_id.as_str() == first.client_id.as_str())
-                || has_same_client(later)
+            if has_client(later, first.client_id.as_str()) {
+                return true;
+            }
+            has_same_client(later)
         }
     }
 }
