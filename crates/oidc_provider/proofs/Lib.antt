@@ -5,5 +5,6 @@ mod Made
 mod Table
 mod RowOf
 mod Registered
+mod Allowed
 mod Served
 mod HonestLogins

@@ -9,6 +9,7 @@ ghost use Rattle.oidc_provider.specs.Authorization as spec;
 ghost use Rattle.oidc_provider.specs.Authorization.{Replies, asked, reply_to, seen_reply};
 ghost use Rattle.oidc_provider.specs.AuthorizationCauses as causes;
 ghost use Rattle.oidc_provider.specs.Keeping.{Keeps};
+ghost use Rattle.oidc_provider.specs.Steps as steps;
 ghost use Rattle.oidc_provider.specs.Steps.{asked_by, allowed_to, KeepsGrant, KeepsGrants};
 ghost use Rattle.oidc_provider.specs.Rows.{provider_of};
 ghost use Rattle.oidc_provider.specs.declared.errors.AuthorizeError.{AuthorizeError};
@@ -119,6 +120,28 @@ fn granted_query<AC: AdditionalClaims, GC: GenderClaim>(
     }
 }
 
+// The login of a request that is granted to this client: what is handed in is lent.
+fn login_granted<AC: AdditionalClaims, GC: GenderClaim>(
+    alloc: Global,
+    client: &Registration,
+    grants: &Grants,
+    query: &BorrowedPairs<'_>,
+    given: &(AuthorizationCode, AccessToken),
+    claims: &(IdTokenClaims<AC, GC>, UserInfoClaims<AC, GC>),
+) -> Result<Login, AuthorizeError>
+    ensures { let asked = asked_by query.now claims.now.0.standard_claims.subject
+        claims.now.1.standard_claims.subject given.now.0 given.now.1 in
+        Replies result (steps.granted_login grants.now client.now asked) }
+{
+    let handed_in = HandedIn {
+        subject: claims.0.subject(),
+        info_subject: claims.1.subject(),
+        code: &given.0,
+        token: &given.1,
+    };
+    granted_login(alloc, client, grants, query, handed_in)
+}
+
 // The query that answers an authorization request.
 fn authorized_query<AC: AdditionalClaims, GC: GenderClaim>(
     alloc: Global,
@@ -144,14 +167,11 @@ fn authorized_query<AC: AdditionalClaims, GC: GenderClaim>(
         drop(claims);
         return Err(AuthorizeError::Client);
     };
-    let handed_in = HandedIn {
-        subject: claims.0.subject(),
-        info_subject: claims.1.subject(),
-        code: &given.0,
-        token: &given.1,
-    };
-    match granted_login(alloc, client, grants, query, handed_in) {
-        Ok(login) => Ok(granted_query(alloc, settings, client, grants, login, given, claims)?),
+    match login_granted(alloc, client, grants, query, &given, &claims) {
+        Ok(login) => match granted_query(alloc, settings, client, grants, login, given, claims) {
+            Ok(query) => Ok(query),
+            Err(_) => Err(AuthorizeError::Memory),
+        },
         Err(refusal) => {
             drop(given);
             drop(claims);
