@@ -10,6 +10,7 @@ searched from its front, where the product has hashed maps. ID tokens are those 
 plain_info.py, requests and callbacks those of plain_callback.py.
 """
 import base64
+import hashlib
 
 import plain_callback
 import plain_claims
@@ -38,6 +39,11 @@ def query_of(url):
 def basic(client):
     plain = escaped(client["id"]) + ":" + escaped(client["secret"])
     return "Basic " + base64.b64encode(plain.encode()).decode()
+
+
+def challenge_of(verifier):
+    """RFC 7636 section 4.6: of any text, however long."""
+    return base64.urlsafe_b64encode(hashlib.sha256(verifier.encode()).digest()).decode().rstrip("=")
 
 
 def check_url(text):
@@ -117,7 +123,7 @@ class Provider:
         for grant in self.grants:
             if (grant["code"] == code and not grant["redeemed"] and grant["client"] == client["id"]
                     and grant["redirect"] == only(body, "redirect_uri") and verifier is not None
-                    and grant["challenge"] == plain_urls.challenge(verifier)):
+                    and grant["challenge"] == challenge_of(verifier)):
                 grant["redeemed"] = True
                 return 200, grant["token_body"]
         return 400, '{"error":"invalid_grant"}'
