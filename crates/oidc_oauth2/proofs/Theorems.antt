@@ -70,3 +70,17 @@ module _ (A TE : Type 0) where
     pub token_answer-unblamed : {RE : Type 0} (result : Result A (RequestTokenError RE TE)) → Gives token_errors result (token_answer error_of token_of r) → IfErr result (λ e. is_fault e ≡ false)
     unfolding token_answer
     token_answer-unblamed result gives = unblamed result (is_over_long r.body) gives
+
+-- ---- scripts
+
+no_more : {A : Type 0} (xs ys zs : List A) → xs ≡ ys ++ zs → length xs ≡ length ys → xs ≡ ys
+no_more xs ys zs is same =
+    let none : length zs ≡ 0 = omega (arith, sym (ap length is ∙ length-append ys zs), same) in
+    is ∙ ap (λ rest. ys ++ rest) (empty_of_length zs none) ∙ append-nil ys
+
+-- a script that gives an answer to each request gave these to these
+pub gave : (script : Script) (requests : List SeenRequest) (answers : List SeenAnswer) (left : Script)
+    → Leaves script requests answers left → length (script requests) ≡ length answers → script requests ≡ answers
+gave script requests answers left leaves same =
+    let all : script requests ≡ answers ++ left [] = ap script (sym (append-nil requests)) ∙ leaves.gives [] in
+    no_more (script requests) answers (left []) all same
