@@ -41,8 +41,8 @@ use Rattle.oidc_provider.specs.Settings.{registered}
 use Rattle.oidc_provider.specs.Grants.{SeenGrant, of_code}
 use Rattle.oidc_provider.specs.Provider.{SeenProvider}
 use Rattle.oidc_provider.specs.Issuing.{tokens}
-use Rattle.oidc_provider.specs.Answers.{json, tokens_of, user_info_of, provider_answer, after}
-use Rattle.oidc_provider.specs.Honest.{served, AreTexts, Names, Knows, Granted, HoldsToken, HoldsInfo, IsHonest, user_by, honest_reply, HonestSignsIn}
+use Rattle.oidc_provider.specs.Answers.{json, tokens_of, user_info_of, provider_answer, after, served}
+use Rattle.oidc_provider.specs.Honest.{AreTexts, Names, Knows, Granted, HoldsToken, HoldsInfo, IsHonest, user_by, honest_reply, HonestSignsIn}
 use Rattle.oidc_provider.proofs.Served as serves
 use Rattle.oidc_provider.proofs.Registered.{own_id, equal_texts}
 
@@ -103,9 +103,9 @@ module _ {AC GC Key Use : Type 0} (types : SiteTypes AC GC Key Use) (p : SeenPro
   abbrev own_tokens : Tokens AC GC
   own_tokens = tokens g.token id_token
 
-  tokens_held : tokens_or_refusal types first_response ≡ Ok own_tokens
+  tokens_held : tokens_or_refusal types a.client.reading first_response ≡ Ok own_tokens
   tokens_held =
-      tokens_back types first_response own_tokens
+      tokens_back types a.client.reading first_response own_tokens
       (record { holds = record { success = refl; json = json_type 200 g.token_body; some_body = h.holds.some_body }; read = h.holds.read })
 
   no_failure : failure_for types a.client login.nonce a.now id_token ≡ None

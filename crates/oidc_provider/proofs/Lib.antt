@@ -3,6 +3,7 @@ mod Bearers
 mod Signed
 mod Made
 mod Table
+mod Serving
 mod RowOf
 mod Registered
 mod Allowed

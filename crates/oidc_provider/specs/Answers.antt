@@ -9,8 +9,8 @@ use Rattle.url.specs.Parts.{serialize}
 use Rattle.http_header.specs.HeaderMap.{get}
 use Rattle.http_header.specs.FieldValue.{is_visible_text}
 use Rattle.oidc_pairs.specs.Pairs.{pairs}
-use Rattle.oidc_oauth2.specs.Messages.{SeenRequest, SeenResponse}
-use Rattle.oidc_oauth2.specs.Transport.{Log}
+use Rattle.oidc_oauth2.specs.Messages.{SeenRequest, SeenResponse, SeenAnswer}
+use Rattle.oidc_oauth2.specs.Transport.{Log, Script}
 use Rattle.oidc_oauth2.specs.ClientAuth.{basic_credentials}
 use Rattle.oidc_oauth2.specs.Pkce.{s256}
 use Rattle.oidc_oauth2.specs.Replies.{◌>>=◌, ◌>>◌, ◌when◌, ◌for◌}
@@ -136,3 +136,8 @@ after p request =
 -- what went over it, all of which is known
 abbrev pub log_of : SeenProvider → Option Log
 log_of p = Some (record { requests = p.requests; answers = p.answers })
+
+-- what it answers to requests, one after another
+abbrev pub served : SeenProvider → Script
+served p [] = []
+served p (request ∷ later) = Some (provider_answer p request).response ∷ served (after p request) later

@@ -5,7 +5,6 @@ use Rattle.url.specs.Parts.{serialize}
 use Rattle.http_header.specs.FieldValue.{is_visible_text}
 use Rattle.oidc_pairs.specs.Pairs.{pairs}
 use Rattle.oidc_types.specs.{TextAndUrl}
-use Rattle.oidc_members.specs.declared.reading.TheConstants.Reading.{STRICT}
 use Rattle.oidc_oauth2.specs.Messages.{SeenRequest, SeenAnswer}
 use Rattle.oidc_oauth2.specs.Pkce.{s256}
 use Rattle.oidc_oauth2.specs.Replies.{◌>>◌, ◌when◌}
@@ -25,13 +24,8 @@ use Rattle.oidc_provider.specs.Settings.{registered}
 use Rattle.oidc_provider.specs.Grants.{SeenGrant, of_code}
 use Rattle.oidc_provider.specs.Provider.{SeenProvider}
 use Rattle.oidc_provider.specs.Issuing.{tokens}
-use Rattle.oidc_provider.specs.Answers.{provider_answer, after}
+use Rattle.oidc_provider.specs.Answers.{served}
 use Rattle.oidc_provider.specs.declared.settings.Registration.{Registration}
-
--- what a provider answers to requests, one after another
-abbrev pub served : SeenProvider → List SeenRequest → List SeenAnswer
-served p [] = []
-served p (request ∷ later) = Some (provider_answer p request).response ∷ served (after p request) later
 
 -- The texts that go through a form text are UTF-8, as those of a program are.
 pub record AreTexts (client : Registration) (login : SeenLogin) (redirect code : List ℕ) : Type 0 where
@@ -72,7 +66,7 @@ module _ {AC GC Key Use : Type 0} (types : SiteTypes AC GC Key Use) (p : SeenPro
   -- The token body holds the access token and this ID token, which the client accepts.
   pub record HoldsToken (g : SeenGrant) (login : SeenLogin) (id_token : SeenIdToken AC GC) : Type 0 where
     pub some_body : is_empty g.token_body ≡ false
-    pub read : record_in (tokens_read types) g.token_body ≡ Ok (tokens g.token id_token)
+    pub read : record_in (tokens_read types a.client.reading) g.token_body ≡ Ok (tokens g.token id_token)
     pub accepted : IsAcceptedBy types a.client login.nonce a.now id_token
     pub fits_hash : FitsHash types id_token accepted.key accepted.alg g.token
 
@@ -84,7 +78,7 @@ module _ {AC GC Key Use : Type 0} (types : SiteTypes AC GC Key Use) (p : SeenPro
     pub own_endpoint : a.client.user_info_url ≡ Some endpoint
     pub same_address : endpoint.text ≡ p.settings.user_info.text
     pub address : is_address endpoint.text ≡ true
-    pub read : claims_in types.additional types.gender STRICT g.info_body ≡ Ok found
+    pub read : claims_in types.additional types.gender a.client.reading g.info_body ≡ Ok found
     pub about : found.standard_claims.subject ≡ subject_of id_token
 
   -- a login over a provider that behaves

@@ -138,16 +138,19 @@ impl<AC, GC> Provider<AC, GC> {
 impl<AC, GC> SyncHttpClient for Provider<AC, GC> {
     ghost use Rattle.std.specs.Prelude.{◌≡◌, ◌≤◌, Option, IfOk, IfErr, OnOk, OnErr};
     ghost use Rattle.oidc_oauth2.specs.Messages.{seen_response};
-    ghost use Rattle.oidc_oauth2.specs.Transport.{IsLogged, Plays, answers_in, IsBlamed};
+    ghost use Rattle.oidc_oauth2.specs.Transport.{IsLogged, Plays, requests_in, answers_in, IsBlamed};
     ghost use Rattle.oidc_oauth2.specs.declared.transport.CallError.TheVariants.{Memory};
-    ghost use Rattle.oidc_provider.specs.Answers.{provider_answer, after, log_of};
+    ghost use Rattle.oidc_provider.specs.Answers.{provider_answer, after, log_of, served};
 
     type Error = Infallible;
 
     ghost log = { log_of };
 
+    ghost script = { λ p. Option.Some (served p) };
+
     ghost faults = { λ _. 0 };
 
+    #[tactic(auto, using(crate::proofs::Serving::served_one, crate::proofs::Serving::served_none))]
     fn call(
         &mut self,
         alloc: Global,
@@ -155,7 +158,8 @@ impl<AC, GC> SyncHttpClient for Provider<AC, GC> {
     ) -> Result<HttpResponse, CallError<Infallible>>
         ensures again { Unit {0} }
         ensures logged { IsLogged (log_of self.old) (log_of self.new) request result }
-        ensures plays { Plays Option.None (answers_in result) Option.None }
+        ensures plays { Plays (Option.Some (served self.old)) (requests_in request result)
+            (answers_in result) (Option.Some (served self.new)) }
         ensures never_falls { 0 ≤ 0 }
         ensures blamed { IsBlamed 0 0 result }
 
