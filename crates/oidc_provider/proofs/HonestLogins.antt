@@ -67,7 +67,7 @@ module _ {AC GC Key Use : Type 0} (types : SiteTypes AC GC Key Use) (p : SeenPro
   abbrev first_request : SeenRequest
   first_request = serves.token_request p g h.client kind (serialize endpoint.url) login.verifier redirect
 
-  same_request : request_to endpoint a.client login g.code ≡ serves.request_by kind (serialize endpoint.url) h.client.client_id h.client.secret g.code login.verifier redirect
+  same_request : request_to endpoint a.client login g.code ≡ serves.request_by a.client.reading kind (serialize endpoint.url) h.client.client_id h.client.secret g.code login.verifier redirect
   same_request = λ i. record {
     address = serialize endpoint.url;
     client = record { client_id = h.knows.own_id i; client_secret = h.knows.own_secret i; auth_type = kind };
@@ -75,6 +75,7 @@ module _ {AC GC Key Use : Type 0} (types : SiteTypes AC GC Key Use) (p : SeenPro
     verifier = Some login.verifier;
     redirect_uri = option_map (λ u. u.text) (h.granted.own_redirect i);
     extra = [];
+    reading = a.client.reading;
   }
 
   request_made : token_request a.client login g.code ≡ Some first_request

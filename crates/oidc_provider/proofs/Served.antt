@@ -16,6 +16,8 @@ use Rattle.http_header.specs.FieldValue.{FieldValue, plain_value, is_visible_tex
 use Rattle.oidc_pairs.specs.Pairs.{pairs, IsTextPair}
 use Rattle.oidc_pairs.specs.Form.{form}
 use Rattle.oidc_pairs.proofs.Theorems.{pairs-form}
+use Rattle.oidc_members.specs.declared.reading.Reading.{Reading}
+use Rattle.oidc_members.specs.declared.reading.TheConstants.Reading.{STRICT}
 use Rattle.oidc_oauth2.specs.Messages.{SeenRequest}
 use Rattle.oidc_oauth2.specs.ClientAuth.{SeenClientAuth, basic_credentials, authorization_of}
 use Rattle.oidc_oauth2.specs.Requests.{SeenCodeRequest, request_headers, headers_with, code_pairs, post_of}
@@ -54,20 +56,22 @@ pairs_by RequestBody id secret code verifier redirect =
 abbrev pub client_by : AuthType → List ℕ → List ℕ → SeenClientAuth
 client_by kind id secret = record { client_id = id; client_secret = Some secret; auth_type = kind }
 
-abbrev pub request_by : AuthType → List ℕ → List ℕ → List ℕ → List ℕ → List ℕ → List ℕ → SeenCodeRequest
-request_by kind address id secret code verifier redirect = record {
+abbrev pub request_by : Reading → AuthType → List ℕ → List ℕ → List ℕ → List ℕ → List ℕ → List ℕ → SeenCodeRequest
+request_by reading kind address id secret code verifier redirect = record {
   address = address;
   client = client_by kind id secret;
   code = code;
   verifier = Some verifier;
   redirect_uri = Some redirect;
   extra = [];
+  reading = reading;
 }
 
-code_pairs_by : (kind : AuthType) (address id secret code verifier redirect : List ℕ)
-    → code_pairs (request_by kind address id secret code verifier redirect) ≡ pairs_by kind id secret code verifier redirect
-code_pairs_by BasicAuth address id secret code verifier redirect = refl
-code_pairs_by RequestBody address id secret code verifier redirect = refl
+-- whatever reading it has
+code_pairs_by : (reading : Reading) (kind : AuthType) (address id secret code verifier redirect : List ℕ)
+    → code_pairs (request_by reading kind address id secret code verifier redirect) ≡ pairs_by kind id secret code verifier redirect
+code_pairs_by reading BasicAuth address id secret code verifier redirect = refl
+code_pairs_by reading RequestBody address id secret code verifier redirect = refl
 
 -- the names of the pairs, and the grant type, are UTF-8
 grant_type_text : IsTextPair (codes "grant_type", codes "authorization_code")
@@ -171,7 +175,7 @@ module _ (p : SeenProvider) (g : SeenGrant) (client : Registration) (kind : Auth
   abbrev pub token_request : SeenRequest
   token_request =
       post_of address (client_by kind client.client_id client.secret)
-      (code_pairs (request_by kind address client.client_id client.secret g.code verifier redirect))
+      (code_pairs (request_by STRICT kind address client.client_id client.secret g.code verifier redirect))
 
   credentials_sent : credentials_in token_request ≡ credentials_of kind client.client_id client.secret
   credentials_sent =
@@ -181,7 +185,7 @@ module _ (p : SeenProvider) (g : SeenGrant) (client : Registration) (kind : Auth
   module _ (i : IsUtf8 client.client_id) (s : IsUtf8 client.secret) (c : IsUtf8 g.code) (v : IsUtf8 verifier) (r : IsUtf8 redirect) where
     pairs_sent : pairs token_request.body ≡ asked_pairs
     pairs_sent =
-        ap (λ list. pairs (form list)) (code_pairs_by kind address client.client_id client.secret g.code verifier redirect)
+        ap (λ list. pairs (form list)) (code_pairs_by STRICT kind address client.client_id client.secret g.code verifier redirect)
         ∙ pairs-form asked_pairs (pairs_text kind client.client_id client.secret g.code verifier redirect i s c v r)
 
     own_authentication : authenticates_by (credentials_in token_request) (pairs token_request.body) client ≡ true

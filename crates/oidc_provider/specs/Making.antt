@@ -1,8 +1,9 @@
 -- How a grant is made of its parts. No public clause cites this.
-use Rattle.std.specs.Prelude.{◌≡◌, ℕ, List, false, Some, String}
+use Rattle.std.specs.Prelude.{◌≡◌, ℕ, List, false, Some, Result, String, IsUtf8}
 use Rattle.std.specs.String.{string_bytes}
 use Rattle.serde_json.specs.Data.{Data}
-use Rattle.oidc_members.specs.Seen.{OutSeen}
+use Rattle.oidc_members.specs.Seen.{SeenMember, OutSeen}
+use Rattle.oidc_members.specs.declared.refusal.Refusal.{Refusal}
 use Rattle.oidc_types.specs.{TextAndUrl}
 use Rattle.oidc_id_token_claims.specs.IdTokenClaims.{SeenIdTokenClaims}
 use Rattle.oidc_login.specs.Token.{SeenIdToken}
@@ -32,12 +33,15 @@ abbrev pub claims_of : {AC GC : Type 0} → TextAndUrl → List (List ℕ) → L
 claims_of issuer audiences nonce claims =
     record claims { own = record claims.own { issuer = issuer; audiences = audiences; nonce = Some nonce } }
 
-module _ {AC GC : Type 0} (additional_out : AC → List OutSeen) (gender_data : GC → Data) where
+module _ {AC GC : Type 0} (additional : List SeenMember → Result AC Refusal) (gender : SeenMember → Result GC Refusal)
+    (additional_out : AC → List OutSeen) (gender_data : GC → Data) where
   -- a token response with an ID token that is issued of these claims
   pub record IsIssuedBody (secret token : List ℕ) (claims : SeenIdTokenClaims AC GC) (body : List ℕ) : Type 0 where
     pub id_token : SeenIdToken AC GC
-    pub issued : IsIssued additional_out gender_data secret token claims id_token
+    pub issued : IsIssued additional gender additional_out gender_data secret token claims id_token
     pub text : body ≡ token_body token id_token
+    pub token_text : IsUtf8 token
+    pub id_token_text : IsUtf8 id_token.text
 
   -- a grant with these texts and these bodies
   pub record IsGrantOf (texts : GrantTexts) (secret : List ℕ) (claims : SeenIdTokenClaims AC GC) (info_body : List ℕ)
@@ -50,3 +54,4 @@ module _ {AC GC : Type 0} (additional_out : AC → List OutSeen) (gender_data : 
     pub unredeemed : grant.redeemed ≡ false
     pub own_body : IsIssuedBody secret texts.token claims grant.token_body
     pub own_info : grant.info_body ≡ info_body
+    pub code_text : IsUtf8 texts.code

@@ -12,7 +12,8 @@ use Rattle.oidc_provider.specs.Provider.{SeenProvider}
 use Rattle.oidc_id_token_claims.specs.IdTokenClaims.{SeenIdTokenClaims}
 use Rattle.oidc_user_info.specs.UserInfoClaims.{SeenUserInfoClaims}
 use Rattle.serde_json.specs.Data.{Data}
-use Rattle.oidc_members.specs.Seen.{OutSeen}
+use Rattle.oidc_members.specs.Seen.{SeenMember, OutSeen}
+use Rattle.oidc_members.specs.declared.refusal.Refusal.{Refusal}
 use Rattle.oidc_provider.specs.declared.settings.ProviderSettings.{ProviderSettings}
 use Rattle.oidc_provider.specs.declared.settings.Registration.{Registration}
 use Rattle.oidc_provider.specs.declared.errors.AuthorizeError.{AuthorizeError}
@@ -51,17 +52,17 @@ abbrev pub allowed_to : Registration → AskedLogin → Allowed
 allowed_to client login = record { client = client; login = login }
 
 -- one more grant, of what this client is allowed
-pub record KeepsGrant {AC GC : Type 0} (additional_out : AC → List OutSeen) (gender_data : GC → Data)
-    (settings : ProviderSettings) (allowed : Allowed) (code token : List ℕ) (claims : SeenIdTokenClaims AC GC)
+pub record KeepsGrant {AC GC : Type 0} (additional : List SeenMember → Result AC Refusal) (gender : SeenMember → Result GC Refusal)
+    (additional_out : AC → List OutSeen) (gender_data : GC → Data) (settings : ProviderSettings) (allowed : Allowed) (code token : List ℕ) (claims : SeenIdTokenClaims AC GC)
     (user_info : SeenUserInfoClaims AC GC) (old new : SeenGrants) : Type 0 where
   pub grant : SeenGrant
-  pub granted : IsGranted additional_out gender_data settings allowed code token claims user_info grant
+  pub granted : IsGranted additional gender additional_out gender_data settings allowed code token claims user_info grant
   pub kept : new ≡ with_grant old grant
 
 -- one more grant, of what is asked
-pub record KeepsGrants {AC GC : Type 0} (additional_out : AC → List OutSeen) (gender_data : GC → Data)
-    (claims : SeenIdTokenClaims AC GC) (user_info : SeenUserInfoClaims AC GC) (asked : Asked)
+pub record KeepsGrants {AC GC : Type 0} (additional : List SeenMember → Result AC Refusal) (gender : SeenMember → Result GC Refusal)
+    (additional_out : AC → List OutSeen) (gender_data : GC → Data) (claims : SeenIdTokenClaims AC GC) (user_info : SeenUserInfoClaims AC GC) (asked : Asked)
     (p : SeenProvider) (new : SeenGrants) : Type 0 where
   pub allowed : Allowed
   pub was_allowed : authorization p asked ≡ Ok allowed
-  pub keeps : KeepsGrant additional_out gender_data p.settings allowed asked.code asked.token claims user_info p.grants new
+  pub keeps : KeepsGrant additional gender additional_out gender_data p.settings allowed asked.code asked.token claims user_info p.grants new
