@@ -1,6 +1,7 @@
 mod Entries
 mod Bearers
 mod Signed
+mod ReadAgain
 mod Made
 mod Table
 mod Serving

@@ -1,5 +1,5 @@
--- An ID token by HS256 is never refused.
-use Rattle.std.proofs.Common.{◌≡◌, ℕ, List, Option, None, Some, Result, Ok, Err, subst, ⊎_elim}
+-- An ID token by HS256 is never refused, and its algorithm is read back.
+use Rattle.std.proofs.Common.{◌≡◌, ℕ, List, length, ap, arith, Option, None, Some, Result, Ok, Err, refl, subst, ⊎_elim}
 use Rattle.oidc_members.specs.Seen.{OutSeen}
 use Rattle.oidc_types.specs.{signing_text}
 use Rattle.oidc_types.specs.declared.core_algorithms.CoreJwsSigningAlgorithm.TheVariants.{HmacSha256}
@@ -8,6 +8,8 @@ use Rattle.oidc_keys.specs.CoreJwk.{hash_function, symmetric_signature}
 use Rattle.oidc_tokens.specs.Hashes.{hashing, with_hashes}
 use Rattle.oidc_tokens.specs.Issuing.{IsUnsigned, IsUnissued}
 use Rattle.oidc_id_token_claims.specs.IdTokenClaims.{SeenIdTokenClaims}
+use Rattle.oidc_types.specs.{find_word, signing_algorithms}
+use Rattle.oidc_jwt.specs.Issuing.{IsNamed}
 use Rattle.oidc_jwt.specs.declared.jwt.JsonWebTokenError.{JsonWebTokenError}
 use Rattle.oidc_jwt.specs.declared.jwt.JsonWebTokenError.TheVariants as token_error
 
@@ -28,3 +30,7 @@ module _ {AC GC : Type 0} (secret token : List ℕ) (claims : SeenIdTokenClaims 
   never_unissued error refusal is unissued =
       ⊎_elim (no_missing_hash refusal) (no_signer_refusal refusal)
       (subst (λ e. IsUnissued hashes header (symmetric_signature secret HmacSha256) e) is unissued)
+
+-- the text of HS256 names it
+pub named : IsNamed signing_text (find_word signing_text signing_algorithms) HmacSha256
+named = record { read_back = refl; other_than_none = λ same. omega (arith, ap length same) }

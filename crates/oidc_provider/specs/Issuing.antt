@@ -70,10 +70,9 @@ abbrev pub own_header : List OutSeen
 own_header = written_header (signing_text HmacSha256) None
 
 -- An ID token of these claims, signed by HS256 under a secret. Where the additional claims hold a float, its payload's text
--- is open, since a float's digits are. It is read back, under every reading, where the claims are in range; and whoever
--- expects these claims accepts it.
-pub record IsIssued {AC GC : Type 0} (additional : List SeenMember → Result AC Refusal) (gender : SeenMember → Result GC Refusal)
-    (additional_out : AC → List OutSeen) (gender_data : GC → Data) (secret token : List ℕ) (claims : SeenIdTokenClaims AC GC) (id_token : SeenIdToken AC GC) : Type 0 where
+-- is open, since a float's digits are.
+pub record IsIssued {AC GC : Type 0} (additional_out : AC → List OutSeen) (gender_data : GC → Data)
+    (secret token : List ℕ) (claims : SeenIdTokenClaims AC GC) (id_token : SeenIdToken AC GC) : Type 0 where
   pub claimed : hashed token claims ≡ Ok id_token.payload
   pub header : id_token.header ≡ signed_with HmacSha256 None
   pub signed : symmetric_signature secret HmacSha256 id_token.message ≡ Ok id_token.signature
@@ -81,6 +80,12 @@ pub record IsIssued {AC GC : Type 0} (additional : List SeenMember → Result AC
   pub headed : IsHeadedBy id_token.message own_header
   pub message : any_float (additional_out claims.additional_claims) ≡ false
       → id_token.message ≡ message_of own_header (id_token_members additional_out gender_data id_token.payload)
+
+-- It is read back, under every reading, where the claims are in range; and whoever expects these claims accepts it.
+pub record IsUsable {AC GC : Type 0} (additional : List SeenMember → Result AC Refusal) (gender : SeenMember → Result GC Refusal)
+    (additional_out : AC → List OutSeen) (secret : List ℕ) (claims : SeenIdTokenClaims AC GC) (id_token : SeenIdToken AC GC)
+    : Type 0 where
+  pub text : IsUtf8 id_token.text
   pub reads_back : (reading : Reading) → IsTokenInRange additional_out claims
       → id_token_of (core_types additional gender) reading id_token.text ≡ Ok id_token
   pub accepted : (v : KeyVerifier SymmetricKey) (allows : Option (List ℕ) → Bool) (now : ℤ)
@@ -107,7 +112,8 @@ token_body access_token token =
 -- float, the text of that body is open, since a float's digits are. User info is read back from it, under every reading,
 -- where its claims are in range.
 pub record IsGranted {AC GC : Type 0} (additional : List SeenMember → Result AC Refusal) (gender : SeenMember → Result GC Refusal)
-    (additional_out : AC → List OutSeen) (gender_data : GC → Data) (settings : ProviderSettings) (allowed : Allowed) (new_code new_token : List ℕ)
+    (additional_out : AC → List OutSeen) (gender_data : GC → Data) (settings : ProviderSettings) (allowed : Allowed)
+    (new_code new_token : List ℕ)
     (claims : SeenIdTokenClaims AC GC) (user_info : SeenUserInfoClaims AC GC) (grant : SeenGrant) : Type 0 where
   pub client : grant.client ≡ allowed.client.client_id
   pub redirect : grant.redirect ≡ allowed.client.redirect.text
@@ -116,11 +122,11 @@ pub record IsGranted {AC GC : Type 0} (additional : List SeenMember → Result A
   pub token : grant.token ≡ new_token
   pub unredeemed : grant.redeemed ≡ false
   pub id_token : SeenIdToken AC GC
-  pub issued : IsIssued additional gender additional_out gender_data allowed.client.secret new_token (claims_for settings allowed claims) id_token
+  pub issued : IsIssued additional_out gender_data allowed.client.secret new_token (claims_for settings allowed claims) id_token
+  pub usable : IsUsable additional gender additional_out allowed.client.secret (claims_for settings allowed claims) id_token
   pub token_text : grant.token_body ≡ token_body new_token id_token
   pub info_text : any_float (additional_out user_info.additional_claims) ≡ false
       → grant.info_body ≡ object_text (user_info_members additional_out gender_data user_info)
   pub info_back : (reading : Reading) → IsInfoInRange additional_out user_info
       → claims_in additional gender reading grant.info_body ≡ Ok user_info
   pub texts : AreTexts allowed.client new_code new_token
-  pub id_token_text : IsUtf8 id_token.text

@@ -12,8 +12,8 @@ use Rattle.oidc_provider.specs.Issuing.{IsGranted}
 
 -- It has one more grant, that of what was asked, and is else as it was.
 pub record Keeps {AC GC : Type 0} (additional : List SeenMember → Result AC Refusal) (gender : SeenMember → Result GC Refusal)
-    (additional_out : AC → List OutSeen) (gender_data : GC → Data) (claims : SeenIdTokenClaims AC GC) (user_info : SeenUserInfoClaims AC GC) (asked : Asked)
-    (old new : SeenProvider) : Type 0 where
+    (additional_out : AC → List OutSeen) (gender_data : GC → Data) (claims : SeenIdTokenClaims AC GC)
+    (user_info : SeenUserInfoClaims AC GC) (asked : Asked) (old new : SeenProvider) : Type 0 where
   pub allowed : Allowed
   pub was_allowed : authorization old asked ≡ Ok allowed
   pub grant : SeenGrant

@@ -9,7 +9,7 @@ use Rattle.oidc_id_token_claims.specs.IdTokenClaims.{SeenIdTokenClaims}
 use Rattle.oidc_login.specs.Token.{SeenIdToken}
 use Rattle.oidc_provider.specs.Grants.{SeenGrant}
 use Rattle.oidc_provider.specs.Authorization.{AskedLogin}
-use Rattle.oidc_provider.specs.Issuing.{IsIssued, token_body}
+use Rattle.oidc_provider.specs.Issuing.{IsIssued, IsUsable, token_body}
 use Rattle.oidc_provider.specs.declared.issuing.Own.{Own}
 
 -- the texts of a grant
@@ -38,10 +38,10 @@ module _ {AC GC : Type 0} (additional : List SeenMember → Result AC Refusal) (
   -- a token response with an ID token that is issued of these claims
   pub record IsIssuedBody (secret token : List ℕ) (claims : SeenIdTokenClaims AC GC) (body : List ℕ) : Type 0 where
     pub id_token : SeenIdToken AC GC
-    pub issued : IsIssued additional gender additional_out gender_data secret token claims id_token
+    pub issued : IsIssued additional_out gender_data secret token claims id_token
+    pub usable : IsUsable additional gender additional_out secret claims id_token
     pub text : body ≡ token_body token id_token
     pub token_text : IsUtf8 token
-    pub id_token_text : IsUtf8 id_token.text
 
   -- a grant with these texts and these bodies
   pub record IsGrantOf (texts : GrantTexts) (secret : List ℕ) (claims : SeenIdTokenClaims AC GC) (info_body : List ℕ)

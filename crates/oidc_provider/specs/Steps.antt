@@ -53,16 +53,16 @@ allowed_to client login = record { client = client; login = login }
 
 -- one more grant, of what this client is allowed
 pub record KeepsGrant {AC GC : Type 0} (additional : List SeenMember → Result AC Refusal) (gender : SeenMember → Result GC Refusal)
-    (additional_out : AC → List OutSeen) (gender_data : GC → Data) (settings : ProviderSettings) (allowed : Allowed) (code token : List ℕ) (claims : SeenIdTokenClaims AC GC)
-    (user_info : SeenUserInfoClaims AC GC) (old new : SeenGrants) : Type 0 where
+    (additional_out : AC → List OutSeen) (gender_data : GC → Data) (settings : ProviderSettings) (allowed : Allowed)
+    (code token : List ℕ) (claims : SeenIdTokenClaims AC GC) (user_info : SeenUserInfoClaims AC GC) (old new : SeenGrants) : Type 0 where
   pub grant : SeenGrant
   pub granted : IsGranted additional gender additional_out gender_data settings allowed code token claims user_info grant
   pub kept : new ≡ with_grant old grant
 
 -- one more grant, of what is asked
 pub record KeepsGrants {AC GC : Type 0} (additional : List SeenMember → Result AC Refusal) (gender : SeenMember → Result GC Refusal)
-    (additional_out : AC → List OutSeen) (gender_data : GC → Data) (claims : SeenIdTokenClaims AC GC) (user_info : SeenUserInfoClaims AC GC) (asked : Asked)
-    (p : SeenProvider) (new : SeenGrants) : Type 0 where
+    (additional_out : AC → List OutSeen) (gender_data : GC → Data) (claims : SeenIdTokenClaims AC GC)
+    (user_info : SeenUserInfoClaims AC GC) (asked : Asked) (p : SeenProvider) (new : SeenGrants) : Type 0 where
   pub allowed : Allowed
   pub was_allowed : authorization p asked ≡ Ok allowed
   pub keeps : KeepsGrant additional gender additional_out gender_data p.settings allowed asked.code asked.token claims user_info p.grants new

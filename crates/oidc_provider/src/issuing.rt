@@ -1,17 +1,21 @@
 // What a grant answers with.
 
-ghost use Rattle.std.specs.Prelude.{◌≡◌, [], ◌∷◌, Some, false, IfOk};
+ghost use Rattle.std.specs.Prelude.{◌≡◌, [], ◌∷◌, Ok, Some, false, IfOk, IsUtf8};
 ghost use Rattle.oidc_members.specs.Write.{any_float, object_text};
+ghost use Rattle.oidc_members.specs.declared.reading.Reading.{Reading};
+ghost use Rattle.oidc_user_info.specs.InfoAnswers.{claims_in};
+ghost use Rattle.oidc_user_info.specs.RoundTrip.{IsInfoInRange};
 ghost use Rattle.oidc_user_info.specs.UserInfoClaims.{user_info_members};
 ghost use Rattle.oidc_provider.specs.Issuing as spec;
 ghost use Rattle.std.specs.String.{string_bytes};
-ghost use Rattle.oidc_provider.specs.Issuing.{IsIssued, IsGranted};
+ghost use Rattle.oidc_provider.specs.Issuing.{IsIssued, IsUsable, IsGranted};
 ghost use Rattle.oidc_provider.specs.Making.{IsIssuedBody, IsGrantOf, parts_of, claims_of};
 ghost use Rattle.oidc_provider.specs.Steps.{allowed_to};
 
 use crate::authorization::Login;
 use crate::grants::Grant;
 use crate::settings::{ProviderSettings, Registration};
+use crate::texts::{secret_is_utf8, text_is_utf8, token_is_utf8, url_is_utf8};
 use oidc_claims::{AdditionalClaims, GenderClaim};
 use oidc_keys::CoreHmacKey;
 use oidc_members::write_object;
@@ -68,12 +72,17 @@ fn signed_token<AC: AdditionalClaims, GC: GenderClaim>(
     claims: IdTokenClaims<AC, GC>,
     token: &AccessToken,
 ) -> Result<SignedToken<AC, GC>, AllocError>
-    ensures { IfOk result
+    ensures issued { IfOk result
         (λ made. IsIssued AC.write_of GC.write_of key.now token.now claims made) }
+    ensures usable { IfOk result
+        (λ made. IsUsable AC.read_of GC.read_of AC.write_of key.now claims made) }
 {
     let alg = CoreJwsSigningAlgorithm::HmacSha256;
     match IdToken::new(alloc, claims, key, alg, Some(token), None) {
-        Ok(made) => Ok(made),
+        Ok(made) => {
+            token_is_utf8(&made);
+            Ok(made)
+        }
         Err(JsonWebTokenError::Memory) => Err(AllocError),
         Err(JsonWebTokenError::SigningError(_)) => unreachable!(),
     }
@@ -122,8 +131,11 @@ fn info_body<AC: AdditionalClaims, GC: GenderClaim>(
     alloc: Global,
     claims: &UserInfoClaims<AC, GC>,
 ) -> Result<Vec<u8>, AllocError>
-    ensures { IfOk result (λ body. any_float (AC.write_of claims.now.additional_claims) ≡ false
+    ensures text { IfOk result (λ body. any_float (AC.write_of claims.now.additional_claims) ≡ false
         → body.items ≡ object_text (user_info_members AC.write_of GC.write_of claims.now)) }
+    ensures reads_back { (reading : Reading) → IsInfoInRange AC.write_of claims.now
+        → IfOk result (λ body.
+        claims_in AC.read_of GC.read_of reading body.items ≡ Ok claims.now) }
 {
     let members = claims.write(alloc)?;
     let body = write_object(alloc, &members)?;
@@ -139,9 +151,10 @@ fn issued_body<AC: AdditionalClaims, GC: GenderClaim>(
     claims: IdTokenClaims<AC, GC>,
     token: &AccessToken,
 ) -> Result<Vec<u8>, AllocError>
-    ensures { IfOk result (λ body.
-        IsIssuedBody AC.write_of GC.write_of key.now token.now claims body.items) }
+    ensures { IfOk result (λ body. IsIssuedBody AC.read_of GC.read_of AC.write_of GC.write_of
+        key.now token.now claims body.items) }
 {
+    secret_is_utf8(token);
     match signed_token(alloc, key, claims, token) {
         Ok(id_token) => match token.clone_in(alloc) {
             Ok(token) => token_body(alloc, token, id_token),
@@ -182,7 +195,13 @@ fn own_of(
     ensures key { IfOk result (λ own. own.key ≡ client.now.secret) }
     ensures client { IfOk result (λ own. string_bytes own.client ≡ client.now.client_id) }
     ensures redirect { IfOk result (λ own. string_bytes own.redirect ≡ client.now.redirect.text) }
+    ensures id_text { IsUtf8 client.now.client_id }
+    ensures secret_text { IsUtf8 client.now.secret }
+    ensures redirect_text { IsUtf8 client.now.redirect.text }
 {
+    text_is_utf8(&client.client_id);
+    secret_is_utf8(&client.secret);
+    url_is_utf8(&client.redirect);
     let audiences = audience_of(alloc, client)?;
     let key = key_of(alloc, client)?;
     let name = String::from_str(alloc, client.client_id.as_str())?;
@@ -207,7 +226,7 @@ fn grant_of<AC: AdditionalClaims, GC: GenderClaim>(
     info_body: Vec<u8>,
 ) -> Result<Grant, AllocError>
     ensures { let parts = parts_of own login given.0 given.1 in
-        IfOk result (λ grant. IsGrantOf AC.write_of GC.write_of parts own.key
+        IfOk result (λ grant. IsGrantOf AC.read_of GC.read_of AC.write_of GC.write_of parts own.key
         (claims_of own.issuer own.audiences.items login.nonce claims) info_body.items grant) }
 {
     let Own {
@@ -218,6 +237,7 @@ fn grant_of<AC: AdditionalClaims, GC: GenderClaim>(
         redirect,
     } = own;
     let (code, token) = given;
+    secret_is_utf8(&code);
     let claims = claims_with(claims, issuer, audiences, login.nonce);
     let token_body = issued_body(alloc, &key, claims, &token)?;
     Ok(Grant {
@@ -243,8 +263,8 @@ fn granted_with<AC: AdditionalClaims, GC: GenderClaim>(
     user_info: &UserInfoClaims<AC, GC>,
 ) -> Result<Grant, AllocError>
     ensures { let allowed = allowed_to client.now login in
-        IfOk result (λ grant. IsGranted AC.write_of GC.write_of settings.now allowed
-        given.0 given.1 claims user_info.now grant) }
+        IfOk result (λ grant. IsGranted AC.read_of GC.read_of AC.write_of GC.write_of settings.now
+        allowed given.0 given.1 claims user_info.now grant) }
 {
     match info_body(alloc, user_info) {
         Ok(info_body) => match own_of(alloc, settings, client) {
@@ -271,8 +291,8 @@ pub(crate) fn granted<AC: AdditionalClaims, GC: GenderClaim>(
     claims: (IdTokenClaims<AC, GC>, UserInfoClaims<AC, GC>),
 ) -> Result<Grant, AllocError>
     ensures { let allowed = allowed_to client.now login in
-        IfOk result (λ grant. IsGranted AC.write_of GC.write_of settings.now allowed
-        given.0 given.1 claims.0 claims.1 grant) }
+        IfOk result (λ grant. IsGranted AC.read_of GC.read_of AC.write_of GC.write_of settings.now
+        allowed given.0 given.1 claims.0 claims.1 grant) }
 {
     let (claims, user_info) = claims;
     let made = granted_with(alloc, settings, client, login, given, claims, &user_info);

@@ -25,6 +25,7 @@ mod issuing;
 pub mod laws;
 mod provider;
 mod settings;
+mod texts;
 mod transport;
 
 pub use errors::{AuthorizeError, NewProviderError};

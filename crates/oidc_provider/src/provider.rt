@@ -108,8 +108,8 @@ fn granted_query<AC: AdditionalClaims, GC: GenderClaim>(
     ensures query { IfOk result
         (λ query. string_bytes query ≡ spec.callback_query given.0 login.state) }
     ensures kept { let allowed = allowed_to client.now login in
-        OnOk result (KeepsGrant AC.write_of GC.write_of settings.now allowed given.0 given.1
-        claims.0 claims.1 grants.old grants.new) }
+        OnOk result (KeepsGrant AC.read_of GC.read_of AC.write_of GC.write_of settings.now allowed
+        given.0 given.1 claims.0 claims.1 grants.old grants.new) }
     ensures unchanged { OnErr result (grants.new ≡ grants.old) }
 {
     let state = String::from_str(alloc, login.state.secret());
@@ -159,7 +159,8 @@ fn authorized_query<AC: AdditionalClaims, GC: GenderClaim>(
     ensures kept { let p = provider_of settings.now registrations.now grants.old in
         let a = asked_by query.now claims.0.standard_claims.subject
         claims.1.standard_claims.subject given.0 given.1 in
-        OnOk result (KeepsGrants AC.write_of GC.write_of claims.0 claims.1 a p grants.new) }
+        OnOk result (KeepsGrants AC.read_of GC.read_of AC.write_of GC.write_of
+        claims.0 claims.1 a p grants.new) }
     ensures unchanged { OnErr result (grants.new ≡ grants.old) }
 {
     let Some(client) = client_of(registrations, query) else {
@@ -233,7 +234,8 @@ impl<AC: AdditionalClaims, GC: GenderClaim> Provider<AC, GC> {
             Replies (seen_reply result) (reply_to self.old a) }
         ensures kept { let subject = claims.standard_claims.subject in
             let a = asked url.now subject user_info.standard_claims.subject code token in
-            OnOk result (Keeps AC.write_of GC.write_of claims user_info a self.old self.new) }
+            OnOk result (Keeps AC.read_of GC.read_of AC.write_of GC.write_of
+            claims user_info a self.old self.new) }
         ensures unchanged { OnErr result (self.new ≡ self.old) }
 
         // Each refusal has its cause, and each cause its refusal.
