@@ -12,7 +12,7 @@ use Rattle.oidc_provider.specs.Provider.{SeenProvider}
 use Rattle.oidc_provider.specs.Values.{says}
 use Rattle.oidc_provider.specs.Rows.{provider_of}
 use Rattle.oidc_provider.specs.Authorization.{Asked, AskedLogin, Allowed, client_of, login_of, authorization, callback_query, reply_to, Replies}
-use Rattle.oidc_provider.specs.AuthorizationCauses.{Names, Asks, IsAbout, IsNewCode, IsNewToken, IsAllowed, NamesNoClient, NamesAnotherRedirect, AsksForNoCode, IsAboutTwo, HasUsedCode, HasUsedToken, HasNoTokenText, Cause}
+use Rattle.oidc_provider.specs.AuthorizationCauses.{Names, Asks, IsAbout, IsNewCode, IsNewToken, IsAllowed, NamesNoClient, NamesAnotherRedirect, AsksForNoCode, IsAboutTwo, HasUsedCode, HasUsedToken, HasNoTokenText, Cause, HasCause}
 use Rattle.oidc_provider.specs.declared.settings.Registration.{Registration}
 use Rattle.oidc_provider.specs.declared.errors.AuthorizeError.{AuthorizeError}
 use Rattle.oidc_provider.specs.declared.errors.AuthorizeError.TheVariants.{Client, Redirect, Request, Subject, CodeUsed, TokenUsed, TokenText, Memory}
@@ -105,7 +105,7 @@ module _ (p : SeenProvider) (a : Asked) where
   no_text : HasNoTokenText p a → authorization p a ≡ Err TokenText
   no_text x = rest_is x.allowed x.new_token.code.about ∙ rw (x.new_token.code.new_code, x.new_token.new_token, x.no_text) refl
 
-  allowed_back : (allowed : Allowed) → IsAllowed p a allowed → authorization p a ≡ Ok allowed
+  pub allowed_back : (allowed : Allowed) → IsAllowed p a allowed → authorization p a ≡ Ok allowed
   allowed_back allowed x = rest_is allowed x.new_token.code.about ∙ rw (x.new_token.code.new_code, x.new_token.new_token, x.token_text) refl
 
   cause_back : (e : AuthorizeError) → Cause p a e → authorization p a ≡ Err e
@@ -142,3 +142,14 @@ module _ (p : SeenProvider) (a : Asked) where
 
   pub why : (e : AuthorizeError) → Refuses e → Cause p a e
   why e is = refusal_of (authorization p a) e walk is
+
+  -- the cause of a refusal that isn't want of memory
+  pub cause_of : (e : AuthorizeError) → Replies {A = List ℕ} (Err e) (reply_to p a) → HasCause p a e
+  cause_of Client is = why Client is
+  cause_of Redirect is = why Redirect is
+  cause_of Request is = why Request is
+  cause_of Subject is = why Subject is
+  cause_of CodeUsed is = why CodeUsed is
+  cause_of TokenUsed is = why TokenUsed is
+  cause_of TokenText is = why TokenText is
+  cause_of Memory is = tt

@@ -1,5 +1,6 @@
 mod Entries
 mod Bearers
+mod Queries
 mod Signed
 mod ReadAgain
 mod Made
@@ -10,3 +11,6 @@ mod Registered
 mod Allowed
 mod Served
 mod HonestLogins
+mod Begun
+mod IssuedHash
+mod SignsIn

@@ -287,7 +287,7 @@ module _ (p : SeenProvider) (g : SeenGrant) (address : List ℕ) (kind : UserInf
 
 -- ---- the provider behind a grant that was redeemed
 
-ties_itself : (x : List ℕ) → eq_by_cmp (slice_cmp nat_cmp) x x ≡ true
+pub ties_itself : (x : List ℕ) → eq_by_cmp (slice_cmp nat_cmp) x x ≡ true
 ties_itself x = is_eq-slice_cmp x x ∙ same_text x
 
 module _ (p : SeenProvider) (g : SeenGrant) (request : SeenRequest) (of_own_code : of_code p.grants g.code ≡ Some g)

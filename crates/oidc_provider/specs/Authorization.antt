@@ -85,9 +85,12 @@ authorization p a = do
 
 -- ---- what is answered
 
--- the query with which the user comes back (RFC 6749 section 4.1.2)
+-- the pairs of the query with which the user comes back (RFC 6749 section 4.1.2), and the query
+abbrev pub callback_pairs : List ℕ → List ℕ → Pairs
+callback_pairs code state = (codes "code", code) ∷ (codes "state", state) ∷ []
+
 abbrev pub callback_query : List ℕ → List ℕ → List ℕ
-callback_query code state = form ((codes "code", code) ∷ (codes "state", state) ∷ [])
+callback_query code state = form (callback_pairs code state)
 
 abbrev pub reply_to : SeenProvider → Asked → Result (List ℕ) AuthorizeError
 reply_to p a = do

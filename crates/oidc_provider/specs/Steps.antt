@@ -1,12 +1,13 @@
 -- What single functions answer, between the rows of the tables. No public clause cites this.
 use Rattle.std.specs.Prelude.{◌≡◌, ℕ, List, not, Option, option_and_then, Result, Ok, codes}
 use Rattle.std.specs.Str.{bytes_eq}
+use Rattle.oidc_pairs.specs.Pairs.{pairs}
 use Rattle.http_header.specs.FieldValue.{is_visible_text}
 use Rattle.oidc_oauth2.specs.Replies.{◌>>=◌, ◌>>◌, ◌when◌, ◌or◌}
 use Rattle.oidc_provider.specs.Settings.{registered}
 use Rattle.oidc_provider.specs.Grants.{SeenGrant, SeenGrants, has_code, has_token, with_grant}
 use Rattle.oidc_provider.specs.Values.{Pairs, only, says}
-use Rattle.oidc_provider.specs.Authorization.{Asked, AskedLogin, Allowed, login_of, authorization}
+use Rattle.oidc_provider.specs.Authorization.{Asked, AskedLogin, Allowed, login_of, authorization, callback_pairs}
 use Rattle.oidc_provider.specs.Issuing.{IsGranted}
 use Rattle.oidc_provider.specs.Provider.{SeenProvider}
 use Rattle.oidc_id_token_claims.specs.IdTokenClaims.{SeenIdTokenClaims}
@@ -51,18 +52,21 @@ granted_login grants client a = do
 abbrev pub allowed_to : Registration → AskedLogin → Allowed
 allowed_to client login = record { client = client; login = login }
 
--- one more grant, of what this client is allowed
+-- one more grant, of what this client is allowed, and the query that names it
 pub record KeepsGrant {AC GC : Type 0} (additional : List SeenMember → Result AC Refusal) (gender : SeenMember → Result GC Refusal)
     (additional_out : AC → List OutSeen) (gender_data : GC → Data) (settings : ProviderSettings) (allowed : Allowed)
-    (code token : List ℕ) (claims : SeenIdTokenClaims AC GC) (user_info : SeenUserInfoClaims AC GC) (old new : SeenGrants) : Type 0 where
+    (code token : List ℕ) (claims : SeenIdTokenClaims AC GC) (user_info : SeenUserInfoClaims AC GC) (old new : SeenGrants)
+    (query : List ℕ) : Type 0 where
   pub grant : SeenGrant
   pub granted : IsGranted additional gender additional_out gender_data settings allowed code token claims user_info grant
   pub kept : new ≡ with_grant old grant
+  pub named : pairs query ≡ callback_pairs code allowed.login.state
 
--- one more grant, of what is asked
+-- one more grant, of what is asked, and the query that names it
 pub record KeepsGrants {AC GC : Type 0} (additional : List SeenMember → Result AC Refusal) (gender : SeenMember → Result GC Refusal)
     (additional_out : AC → List OutSeen) (gender_data : GC → Data) (claims : SeenIdTokenClaims AC GC)
-    (user_info : SeenUserInfoClaims AC GC) (asked : Asked) (p : SeenProvider) (new : SeenGrants) : Type 0 where
+    (user_info : SeenUserInfoClaims AC GC) (asked : Asked) (p : SeenProvider) (new : SeenGrants)
+    (query : List ℕ) : Type 0 where
   pub allowed : Allowed
   pub was_allowed : authorization p asked ≡ Ok allowed
-  pub keeps : KeepsGrant additional gender additional_out gender_data p.settings allowed asked.code asked.token claims user_info p.grants new
+  pub keeps : KeepsGrant additional gender additional_out gender_data p.settings allowed asked.code asked.token claims user_info p.grants new query

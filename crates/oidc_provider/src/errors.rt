@@ -1,6 +1,8 @@
-//! Why there is no provider double, and why it grants nothing.
+//! Why there is no provider double, why it grants nothing, and why a login over it signs nobody in.
 
+use oidc_login::LoginError;
 use std::alloc::AllocError;
+use std::convert::Infallible;
 use thiserror::Error;
 
 /// Why a provider isn't made.
@@ -52,4 +54,13 @@ impl From<AllocError> for AuthorizeError {
     fn from(_refused: AllocError) -> AuthorizeError {
         AuthorizeError::Memory
     }
+}
+
+/// Why a login over a provider double signs nobody in. It isn't printed, since a type without values isn't.
+#[derive(Drop)]
+pub enum SignInError {
+    /// The provider grants nothing.
+    Authorize(AuthorizeError),
+    /// The callback is refused.
+    Login(LoginError<Infallible>),
 }

@@ -23,11 +23,13 @@ mod errors;
 mod grants;
 mod issuing;
 pub mod laws;
+mod logins;
 mod provider;
 mod settings;
 mod texts;
 mod transport;
 
-pub use errors::{AuthorizeError, NewProviderError};
+pub use errors::{AuthorizeError, NewProviderError, SignInError};
+pub use logins::sign_in;
 pub use provider::Provider;
 pub use settings::{ProviderSettings, Registration};

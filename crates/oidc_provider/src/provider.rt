@@ -2,6 +2,7 @@
 
 ghost use Rattle.std.specs.Prelude.{◌≡◌, ◌∷◌, ◌++◌, [], Ok, Err, IfOk, IfErr, OnOk, OnErr, IsErrOf, ◌↔◌, true, false, unwrap_or};
 ghost use Rattle.std.specs.String.{string_bytes};
+ghost use Rattle.oidc_pairs.specs.Pairs.{pairs};
 ghost use Rattle.oidc_provider.specs.Settings.{has_same_client as same_client_in};
 ghost use Rattle.oidc_provider.specs.Provider.{new_provider};
 ghost use Rattle.oidc_provider.specs.Grants.{with_grant, has_code, has_token};
@@ -61,6 +62,27 @@ impl<AC, GC> Model for Provider<AC, GC> {
     } };
 }
 
+// The form text of a code and a state.
+fn written_query(alloc: Global, code: &str, state: &str) -> Result<String, AllocError>
+    ensures { IfOk result (λ query.
+        string_bytes query ≡ spec.callback_query code.now state.now) }
+{
+    let mut form = FormText::new(alloc);
+    form.push("code", code)?;
+    form.push("state", state)?;
+    Ok(form.into_string())
+}
+
+// The same, which is read back.
+fn query_of_grant(alloc: Global, code: &str, state: &str) -> Result<String, AllocError>
+    ensures query { IfOk result (λ query.
+        string_bytes query ≡ spec.callback_query code.now state.now) }
+    ensures named { IfOk result (λ query.
+        pairs (string_bytes query) ≡ spec.callback_pairs code.now state.now) }
+{
+    written_query(alloc, code, state)
+}
+
 // A grant is kept, and the query that names it.
 fn kept_query(
     alloc: Global,
@@ -72,13 +94,12 @@ fn kept_query(
     requires token { has_token grants.old grant.token ≡ false }
     ensures query { IfOk result
         (λ query. string_bytes query ≡ spec.callback_query grant.code state.now) }
+    ensures named { IfOk result
+        (λ query. pairs (string_bytes query) ≡ spec.callback_pairs grant.code state.now) }
     ensures kept { OnOk result (grants.new ≡ with_grant grants.old grant) }
     ensures unchanged { OnErr result (grants.new ≡ grants.old) }
 {
-    let mut form = FormText::new(alloc);
-    form.push("code", grant.code.as_str())?;
-    form.push("state", state)?;
-    let query = form.into_string();
+    let query = query_of_grant(alloc, grant.code.as_str(), state)?;
     grants.insert(alloc, grant)?;
     Ok(query)
 }
@@ -108,8 +129,8 @@ fn granted_query<AC: AdditionalClaims, GC: GenderClaim>(
     ensures query { IfOk result
         (λ query. string_bytes query ≡ spec.callback_query given.0 login.state) }
     ensures kept { let allowed = allowed_to client.now login in
-        OnOk result (KeepsGrant AC.read_of GC.read_of AC.write_of GC.write_of settings.now allowed
-        given.0 given.1 claims.0 claims.1 grants.old grants.new) }
+        IfOk result (λ query. KeepsGrant AC.read_of GC.read_of AC.write_of GC.write_of settings.now
+        allowed given.0 given.1 claims.0 claims.1 grants.old grants.new (string_bytes query)) }
     ensures unchanged { OnErr result (grants.new ≡ grants.old) }
 {
     let state = String::from_str(alloc, login.state.secret());
@@ -159,8 +180,8 @@ fn authorized_query<AC: AdditionalClaims, GC: GenderClaim>(
     ensures kept { let p = provider_of settings.now registrations.now grants.old in
         let a = asked_by query.now claims.0.standard_claims.subject
         claims.1.standard_claims.subject given.0 given.1 in
-        OnOk result (KeepsGrants AC.read_of GC.read_of AC.write_of GC.write_of
-        claims.0 claims.1 a p grants.new) }
+        IfOk result (λ query. KeepsGrants AC.read_of GC.read_of AC.write_of GC.write_of
+        claims.0 claims.1 a p grants.new (string_bytes query)) }
     ensures unchanged { OnErr result (grants.new ≡ grants.old) }
 {
     let Some(client) = client_of(registrations, query) else {
@@ -234,8 +255,8 @@ impl<AC: AdditionalClaims, GC: GenderClaim> Provider<AC, GC> {
             Replies (seen_reply result) (reply_to self.old a) }
         ensures kept { let subject = claims.standard_claims.subject in
             let a = asked url.now subject user_info.standard_claims.subject code token in
-            OnOk result (Keeps AC.read_of GC.read_of AC.write_of GC.write_of
-            claims user_info a self.old self.new) }
+            IfOk result (λ query. Keeps AC.read_of GC.read_of AC.write_of GC.write_of
+            claims user_info a self.old self.new (string_bytes query)) }
         ensures unchanged { OnErr result (self.new ≡ self.old) }
 
         // Each refusal has its cause, and each cause its refusal.
