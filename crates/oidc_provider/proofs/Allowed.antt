@@ -63,7 +63,7 @@ module _ (p : SeenProvider) (a : Asked) where
 
   -- ---- and back
 
-  no_client : NamesNoClient p a → authorization p a ≡ Err Client
+  pub no_client : NamesNoClient p a → authorization p a ≡ Err Client
   unfolding authorization
   no_client none = rw none refl
 

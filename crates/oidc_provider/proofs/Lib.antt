@@ -9,6 +9,7 @@ mod Serving
 mod RowOf
 mod Registered
 mod Allowed
+mod Authorized
 mod Served
 mod HonestLogins
 mod Begun

@@ -55,14 +55,14 @@ use Rattle.oidc_provider.specs.Settings.{registered}
 use Rattle.oidc_provider.specs.Grants.{SeenGrant, of_code, with_grant}
 use Rattle.oidc_provider.specs.Provider.{SeenProvider}
 use Rattle.oidc_provider.specs.Values.{Pairs, only}
-use Rattle.oidc_provider.specs.Authorization.{Allowed, authorization, asks_for_code, callback_pairs, callback_query, Replies}
+use Rattle.oidc_provider.specs.Authorization.{Asked, Allowed, authorization, reply_to, asks_for_code, callback_pairs, callback_query, Replies}
 use Rattle.oidc_provider.specs.AuthorizationCauses as causes
 use Rattle.oidc_provider.specs.Issuing.{core_types, key_of_secret, claims_for, hashed, tokens, token_body, IsIssued, IsGranted}
 use Rattle.oidc_provider.specs.Keeping.{Keeps}
 use Rattle.oidc_provider.specs.Answers.{served, after}
 use Rattle.oidc_provider.specs.Honest.{AreTexts, Names, Knows, Granted, HoldsToken, HoldsInfo, IsHonest, user_by, honest_reply}
 use Rattle.oidc_provider.specs.SignIn.{Consent, asked_with, login_of_begin, MayBeDemanded, IsHonestLogin, HasGranted, IsTooLong, MayRefuse, SignsIn, by_callback}
-use Rattle.oidc_provider.proofs.Allowed.{allowed_back}
+use Rattle.oidc_provider.proofs.Allowed.{allowed_back, cause_of}
 use Rattle.oidc_provider.proofs.Begun as begun
 use Rattle.oidc_provider.proofs.Begun.{same_Some}
 use Rattle.oidc_provider.proofs.HonestLogins.{honest}
@@ -379,3 +379,9 @@ module _ {AC GC : Type 0} (additional : List SeenMember → Result AC Refusal) (
   not_refused refusal.TokenUsed is = absurd cc
   not_refused refusal.TokenText is = absurd cc
   not_refused refusal.Memory is = tt
+
+-- why it refused
+pub caused_by : {A : Type 0} (p : SeenProvider) (a : Asked) (found e : AuthorizeError) → ◌≡◌ {A = Result A SignInError} (Err (Authorize found)) (Err (Authorize e))
+    → Replies {A = List ℕ} (Err found) (reply_to p a) → causes.HasCause p a e
+caused_by p a found e is replies =
+    let same : found ≡ e = cc in subst (causes.HasCause p a) same (cause_of p a found replies)

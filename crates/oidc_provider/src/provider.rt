@@ -11,7 +11,7 @@ ghost use Rattle.oidc_provider.specs.Authorization.{Replies, asked, reply_to, se
 ghost use Rattle.oidc_provider.specs.AuthorizationCauses as causes;
 ghost use Rattle.oidc_provider.specs.Keeping.{Keeps};
 ghost use Rattle.oidc_provider.specs.Steps as steps;
-ghost use Rattle.oidc_provider.specs.Steps.{asked_by, allowed_to, KeepsGrant, KeepsGrants};
+ghost use Rattle.oidc_provider.specs.Steps.{asked_by, allowed_to, client_reply, KeepsGrant, KeepsGrants, KeepsOfClient};
 ghost use Rattle.oidc_provider.specs.Rows.{provider_of};
 ghost use Rattle.oidc_provider.specs.declared.errors.AuthorizeError.{AuthorizeError};
 
@@ -163,6 +163,47 @@ fn login_granted<AC: AdditionalClaims, GC: GenderClaim>(
     granted_login(alloc, client, grants, query, handed_in)
 }
 
+// The refusal is want of memory.
+fn or_memory(made: Result<String, AllocError>) -> Result<String, AuthorizeError>
+    ensures { result ≡ steps.or_memory made }
+{
+    match made {
+        Ok(query) => Ok(query),
+        Err(_) => Err(AuthorizeError::Memory),
+    }
+}
+
+// The query that answers the request of a client that is registered.
+fn client_query<AC: AdditionalClaims, GC: GenderClaim>(
+    alloc: Global,
+    settings: &ProviderSettings,
+    client: &Registration,
+    grants: &mut Grants,
+    query: &BorrowedPairs<'_>,
+    given: (AuthorizationCode, AccessToken),
+    claims: (IdTokenClaims<AC, GC>, UserInfoClaims<AC, GC>),
+) -> Result<String, AuthorizeError>
+    ensures reply { let a = asked_by query.now claims.0.standard_claims.subject
+        claims.1.standard_claims.subject given.0 given.1 in
+        Replies (seen_reply result) (client_reply grants.old client.now a) }
+    ensures kept { let a = asked_by query.now claims.0.standard_claims.subject
+        claims.1.standard_claims.subject given.0 given.1 in
+        IfOk result (λ query. KeepsOfClient AC.read_of GC.read_of AC.write_of GC.write_of
+        settings.now client.now claims.0 claims.1 a grants.old grants.new (string_bytes query)) }
+    ensures unchanged { OnErr result (grants.new ≡ grants.old) }
+{
+    match login_granted(alloc, client, grants, query, &given, &claims) {
+        Ok(login) => or_memory(granted_query(
+            alloc, settings, client, grants, login, given, claims,
+        )),
+        Err(refusal) => {
+            drop(given);
+            drop(claims);
+            Err(refusal)
+        }
+    }
+}
+
 // The query that answers an authorization request.
 fn authorized_query<AC: AdditionalClaims, GC: GenderClaim>(
     alloc: Global,
@@ -184,20 +225,12 @@ fn authorized_query<AC: AdditionalClaims, GC: GenderClaim>(
         claims.0 claims.1 a p grants.new (string_bytes query)) }
     ensures unchanged { OnErr result (grants.new ≡ grants.old) }
 {
-    let Some(client) = client_of(registrations, query) else {
-        drop(given);
-        drop(claims);
-        return Err(AuthorizeError::Client);
-    };
-    match login_granted(alloc, client, grants, query, &given, &claims) {
-        Ok(login) => match granted_query(alloc, settings, client, grants, login, given, claims) {
-            Ok(query) => Ok(query),
-            Err(_) => Err(AuthorizeError::Memory),
-        },
-        Err(refusal) => {
+    match client_of(registrations, query) {
+        Some(client) => client_query(alloc, settings, client, grants, query, given, claims),
+        None => {
             drop(given);
             drop(claims);
-            Err(refusal)
+            Err(AuthorizeError::Client)
         }
     }
 }

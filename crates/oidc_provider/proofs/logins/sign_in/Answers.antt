@@ -1,5 +1,5 @@
-use Rattle.std.proofs.Common.{refl, sym, subst}
-use Rattle.oidc_provider.proofs.Allowed.{cause_of}
+use Rattle.std.proofs.Common.{refl}
+use Rattle.oidc_provider.proofs.SignsIn.{caused_by}
 use Rattle.oidc_provider.proofs.SignsIn.{signed_in, not_refused}
 use Rattle.oidc_provider.proofs.logins.sign_in.Goals as goal
 
@@ -14,4 +14,4 @@ returns-in-Err-clause-signs_in g c = λ h.
     (c.in-Err.ensures.granted h.allowed h.is_allowed)
 
 pub returns-in-Err-clause-refused : goal.returns-in-Err-clause-refused
-returns-in-Err-clause-refused g c = ?
+returns-in-Err-clause-refused g c = λ e is. caused_by _ _ c.in-Err.refusal e is c.in-Err.ensures.reply
