@@ -158,8 +158,8 @@ def registration_in(text):
     return found
 
 
-def authorization_in(text):
-    found, _ = pairs_of_call(text, {"url", "claims", "user_info", "code", "token"})
+def authorization_in(text, more=frozenset()):
+    found, _ = pairs_of_call(text, {"url", "claims", "user_info", "code", "token"} | more)
     found["url"] = check_url(found["url"])
     found["claims"] = members_by(plain_tokens.claim_members, found["claims"])
     found["user_info"] = members_by(plain_info.claim_members, found["user_info"])
@@ -242,6 +242,21 @@ def callback_in(text):
     return {"now": plain_tokens.now_in(found["now"]), "query": found["query"]}
 
 
+def sign_in_in(text):
+    found = authorization_in(text, {"now"})
+    return {**found, "now": plain_tokens.now_in(found["now"])}
+
+
+def sign_in_pairs(client, logins, played, asked):
+    """An authorization, and a callback with the query that comes of it."""
+    words = played.authorize(asked)
+    if not words.startswith("ok "):
+        return [("sign_in", words)]
+    query = dict(pairs(words[len("ok "):]))["query"]
+    told = callback_pairs(client, logins, played, {"now": asked["now"], "query": query})
+    return told[:-1] + [("sign_in", told[-1][1])]
+
+
 def callback_pairs(client, logins, played, callback):
     sent = []
     callback = {**callback, "answers": Served(played, sent)}
@@ -258,7 +273,7 @@ def begin_words(client, logins, begin):
 
 
 def provider_logins(line):
-    calls = {"begin": begin_in, "authorize": authorization_in, "callback": callback_in}
+    calls = {"begin": begin_in, "authorize": authorization_in, "callback": callback_in, "sign_in": sign_in_in}
     found, clients, steps = line_in(line, {"issuer", "token", "user_info", "client"}, calls)
     client = client_in(found["client"])
     if is_doubled(clients):
@@ -269,6 +284,8 @@ def provider_logins(line):
             told.append((name, begin_words(client, logins, value)))
         elif name == "authorize":
             told.append((name, played.authorize(value)))
+        elif name == "sign_in":
+            told += sign_in_pairs(client, logins, played, value)
         else:
             told += callback_pairs(client, logins, played, value)
     return ok(told)

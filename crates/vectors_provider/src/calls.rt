@@ -72,11 +72,11 @@ pub(crate) fn registrations_in(alloc: Global, case: &Case) -> Result<Vec<Registr
 /// What an authorization is asked with.
 #[derive(Drop)]
 pub(crate) struct Authorization {
-    url: AuthUrl,
-    claims: Claims,
-    user_info: Info,
-    code: AuthorizationCode,
-    token: AccessToken,
+    pub(crate) url: AuthUrl,
+    pub(crate) claims: Claims,
+    pub(crate) user_info: Info,
+    pub(crate) code: AuthorizationCode,
+    pub(crate) token: AccessToken,
 }
 
 fn members_in(alloc: Global, text: &str) -> Result<Members, CaseError> {
@@ -100,6 +100,11 @@ fn payload_in<P: Payload>(alloc: Global, text: &str) -> Result<P, CaseError> {
 pub(crate) fn authorization_in(alloc: Global, text: &str) -> Result<Authorization, CaseError> {
     let case = call_in(alloc, text)?;
     case.check(&["url", "claims", "user_info", "code", "token"])?;
+    authorization_of(alloc, &case)
+}
+
+/// What stands in a call of an authorization.
+pub(crate) fn authorization_of(alloc: Global, case: &Case) -> Result<Authorization, CaseError> {
     let code = AuthorizationCode::new(String::from_str(alloc, case.value("code"))?);
     let token = AccessToken::new(String::from_str(alloc, case.value("token"))?);
     let url: AuthUrl = url_of(alloc, case.value("url"))?;
@@ -114,7 +119,8 @@ pub(crate) fn authorization_in(alloc: Global, text: &str) -> Result<Authorizatio
     })
 }
 
-fn refusal_word(refusal: AuthorizeError) -> Result<&'static str, CaseError> {
+/// The words of a refusal.
+pub(crate) fn refusal_words(refusal: AuthorizeError) -> Result<&'static str, CaseError> {
     match refusal {
         AuthorizeError::Client => Ok("refused client"),
         AuthorizeError::Redirect => Ok("refused redirect"),
@@ -146,7 +152,7 @@ pub(crate) fn authorized_line(
             form.push("query", query.as_str())?;
             case_lines::ok_form(alloc, form)
         }
-        Err(refusal) => Ok(String::from_str(alloc, refusal_word(refusal)?)?),
+        Err(refusal) => Ok(String::from_str(alloc, refusal_words(refusal)?)?),
     }
 }
 

@@ -1,8 +1,8 @@
 //! Whole logins over one provider double.
 
 use crate::calls::{
-    Authorization, Double, authorization_in, authorized_line, call_in, registrations_in,
-    settings_in,
+    Authorization, Double, authorization_in, authorization_of, authorized_line, call_in,
+    refusal_words, registrations_in, settings_in,
 };
 use case_lines::{
     Case, CaseError, algorithms, moment, ok_form, ok_pair, refused_word, request_line, url_of,
@@ -12,10 +12,12 @@ use oidc_claims::AllOtherClaims;
 use oidc_cli::verdict_line;
 use oidc_client::{AuthenticationFlow, Client, ProviderMetadata};
 use oidc_keys::CoreJsonWebKey;
-use oidc_login::{BeginError, LoginClient, LoginError, LoginRequest, Logins, UserInfoDemand};
+use oidc_login::{
+    BeginError, LoginClient, LoginError, LoginRequest, Logins, SignedIn, UserInfoDemand,
+};
 use oidc_oauth2::{CoreRequestTokenError, Fault, RequestTokenError};
 use oidc_pairs::FormText;
-use oidc_provider::NewProviderError;
+use oidc_provider::{NewProviderError, SignInError, sign_in};
 use oidc_types::{
     AuthUrl, ClientId, ClientSecret, CoreGenderClaim, CsrfToken, IssuerUrl, JsonWebKeySetUrl,
     Nonce, PkceCodeVerifier, RedirectUrl, TokenUrl, UserInfoUrl,
@@ -26,6 +28,8 @@ use std::convert::Infallible;
 use url::Url;
 
 type Metadata = ProviderMetadata<EmptyAdditionalProviderMetadata, CoreJsonWebKey>;
+
+type User = SignedIn<AllOtherClaims, CoreGenderClaim>;
 
 type Pending<'c> = Logins<'c, AllOtherClaims, CoreGenderClaim, CoreJsonWebKey>;
 
@@ -140,11 +144,27 @@ fn callback_in(alloc: Global, text: &str) -> Result<Callback, CaseError> {
     })
 }
 
+// An authorization, and a callback with the query that comes of it.
+#[derive(Drop)]
+struct SignIn {
+    asked: Authorization,
+    now: Timestamp,
+}
+
+fn sign_in_in(alloc: Global, text: &str) -> Result<SignIn, CaseError> {
+    let case = call_in(alloc, text)?;
+    case.check(&["url", "claims", "user_info", "code", "token", "now"])?;
+    let now = moment(case.value("now"))?;
+    let asked = authorization_of(alloc, &case)?;
+    Ok(SignIn { asked, now })
+}
+
 #[derive(Drop)]
 enum Step {
     Begin(Begin),
     Authorize(Authorization),
     Callback(Callback),
+    SignIn(SignIn),
 }
 
 fn steps_in(alloc: Global, case: &Case) -> Result<Vec<Step>, CaseError> {
@@ -156,6 +176,7 @@ fn steps_in(alloc: Global, case: &Case) -> Result<Vec<Step>, CaseError> {
                 steps.push(Step::Authorize(authorization_in(alloc, pair.value())?))?;
             }
             "callback" => steps.push(Step::Callback(callback_in(alloc, pair.value())?))?,
+            "sign_in" => steps.push(Step::SignIn(sign_in_in(alloc, pair.value())?))?,
             _ => {}
         }
     }
@@ -261,6 +282,17 @@ fn login_refusal(refusal: LoginError<Infallible>) -> LoginError<Fault> {
 }
 
 // What the report says of a callback, behind its first word.
+fn reported(
+    alloc: Global,
+    reply: Result<User, LoginError<Infallible>>,
+) -> Result<String, CaseError> {
+    let line = verdict_line(alloc, &reply.map_err(login_refusal))?;
+    match line.as_str().strip_prefix("callback ") {
+        Some(words) => Ok(String::from_str(alloc, words.trim_end_matches('\n'))?),
+        None => Err(CaseError::NoCase),
+    }
+}
+
 fn callback_line(
     alloc: Global,
     logins: &mut Pending<'_>,
@@ -268,10 +300,30 @@ fn callback_line(
     callback: Callback,
 ) -> Result<String, CaseError> {
     let reply = logins.callback(callback.query.as_str().as_bytes(), provider, callback.now);
-    let line = verdict_line(alloc, &reply.map_err(login_refusal))?;
-    match line.as_str().strip_prefix("callback ") {
-        Some(words) => Ok(String::from_str(alloc, words.trim_end_matches('\n'))?),
-        None => Err(CaseError::NoCase),
+    reported(alloc, reply)
+}
+
+// The same of a whole login, or why nothing was granted.
+fn sign_in_line(
+    alloc: Global,
+    logins: &mut Pending<'_>,
+    provider: &mut Double,
+    call: SignIn,
+) -> Result<String, CaseError> {
+    let SignIn { asked, now } = call;
+    let Authorization {
+        url,
+        claims,
+        user_info,
+        code,
+        token,
+    } = asked;
+    match sign_in(provider, logins, url.url(), claims, user_info, code, token, now) {
+        Ok(user) => reported(alloc, Ok(user)),
+        Err(SignInError::Login(refusal)) => reported(alloc, Err(refusal)),
+        Err(SignInError::Authorize(refusal)) => {
+            Ok(String::from_str(alloc, refusal_words(refusal)?)?)
+        }
     }
 }
 
@@ -307,6 +359,19 @@ fn push_callback(
     Ok(form.push("callback", line.as_str())?)
 }
 
+fn push_sign_in(
+    alloc: Global,
+    form: &mut FormText,
+    logins: &mut Pending<'_>,
+    provider: &mut Double,
+    call: SignIn,
+) -> Result<(), CaseError> {
+    let before = provider.requests().len();
+    let line = sign_in_line(alloc, logins, provider, call)?;
+    push_requests(alloc, form, provider, before)?;
+    Ok(form.push("sign_in", line.as_str())?)
+}
+
 fn push_step<'c>(
     alloc: Global,
     form: &mut FormText,
@@ -325,6 +390,7 @@ fn push_step<'c>(
             Ok(form.push("authorize", line.as_str())?)
         }
         Step::Callback(callback) => push_callback(alloc, form, logins, provider, callback),
+        Step::SignIn(call) => push_sign_in(alloc, form, logins, provider, call),
     }
 }
 
@@ -347,7 +413,7 @@ fn run_line(
 
 /// `provider_logins`: logins of one client, from their begin to their callback, over one provider.
 pub(crate) fn provider_logins(alloc: Global, case: &Case) -> Result<String, CaseError> {
-    let repeated = ["registration", "begin", "authorize", "callback"];
+    let repeated = ["registration", "begin", "authorize", "callback", "sign_in"];
     case.check_all(&["issuer", "token", "user_info", "client"], &[], &repeated)?;
     let settings = settings_in(alloc, case)?;
     let registrations = registrations_in(alloc, case)?;
