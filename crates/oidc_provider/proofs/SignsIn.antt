@@ -332,7 +332,7 @@ module _ {AC GC : Type 0} (additional : List SeenMember → Result AC Refusal) (
       reply_is all =
           honest types p1 a g login id_token c.user_info answers is_honest
           (came_by (outcome types a answers).sent answers new.script
-          (subst (λ script. Plays script (take (length answers) (outcome types a answers).sent) answers new.script) plays follows.plays) all)
+          (subst (λ (script : Option Script). Plays script (take (length answers) (outcome types a answers).sent) answers new.script) plays follows.plays) all)
 
       refused : (wants : Bool) (e : Error) → Unless wants (length answers ≡ length (outcome types a answers).sent)
           → Unless wants ((outcome types a answers).reply ≡ Err e) → Unless wants (May e)
@@ -350,7 +350,7 @@ module _ {AC GC : Type 0} (additional : List SeenMember → Result AC Refusal) (
 -- ---- what the two calls say
 
 same_query : (x y : List ℕ) → Replies {A = List ℕ} (Ok x) (Ok y) → x ≡ y
-same_query x y is = cc
+same_query x y is = let e : ◌≡◌ {A = Result (List ℕ) AuthorizeError} (Ok x) (Ok y) = is in cc
 
 module _ {AC GC : Type 0} (additional : List SeenMember → Result AC Refusal) (gender : SeenMember → Result GC Refusal) (additional_out : AC → List OutSeen) (gender_data : GC → Data)
     (p p1 : SeenProvider) (logins : SeenLogins SymmetricKey) (url : Parts) (c : Consent AC GC) (now : ℤ)
