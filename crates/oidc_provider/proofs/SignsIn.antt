@@ -385,3 +385,8 @@ pub caused_by : {A : Type 0} (p : SeenProvider) (a : Asked) (found e : Authorize
     → Replies {A = List ℕ} (Err found) (reply_to p a) → causes.HasCause p a e
 caused_by p a found e is replies =
     let same : found ≡ e = cc in subst (causes.HasCause p a) same (cause_of p a found replies)
+
+-- a callback's reply is no refusal of the provider
+pub no_refusal : {A : Type 0} (reply : Result A (LoginError Infallible)) (e : AuthorizeError) → by_callback reply ≡ Err (Authorize e) → ⊥
+no_refusal (Ok signed) e is = cc
+no_refusal (Err refused) e is = cc
