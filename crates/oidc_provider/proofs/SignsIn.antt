@@ -271,8 +271,12 @@ module _ {AC GC : Type 0} (additional : List SeenMember → Result AC Refusal) (
   abbrev Demanded : Type 0
   Demanded = (demand : UserInfoDemand) × (login.user_info ≡ Some demand) × HoldsInfo types p1 a g id_token demand c.user_info
 
+  demanded : (demand : UserInfoDemand) × (b.user_info ≡ Some demand) × MayBeDemanded additional gender additional_out p.settings logins.client c.user_info demand
+      → (login.user_info ≡ None) ⊎ Demanded
+  demanded (demand, is, may) = inr (demand, is, info_held demand may)
+
   info : (login.user_info ≡ None) ⊎ Demanded
-  info = ⊎_elim (λ none. inl none) (λ x. inr (x.0, x.1, info_held x.0 x.2)) h.info
+  info = ⊎_elim (λ none. inl none) demanded h.info
 
   -- ---- the whole
 

@@ -10,7 +10,7 @@ use Rattle.http_header.specs.HeaderMap.{get}
 use Rattle.http_header.specs.FieldValue.{is_visible_text}
 use Rattle.oidc_pairs.specs.Pairs.{pairs}
 use Rattle.oidc_oauth2.specs.Messages.{SeenRequest, SeenResponse, SeenAnswer}
-use Rattle.oidc_oauth2.specs.Transport.{Log, Script}
+use Rattle.oidc_oauth2.specs.Transport.{Log}
 use Rattle.oidc_oauth2.specs.ClientAuth.{basic_credentials}
 use Rattle.oidc_oauth2.specs.Pkce.{s256}
 use Rattle.oidc_oauth2.specs.Replies.{◌>>=◌, ◌>>◌, ◌when◌, ◌for◌}
@@ -138,6 +138,6 @@ abbrev pub log_of : SeenProvider → Option Log
 log_of p = Some (record { requests = p.requests; answers = p.answers })
 
 -- what it answers to requests, one after another
-abbrev pub served : SeenProvider → Script
+abbrev pub served : SeenProvider → List SeenRequest → List SeenAnswer
 served p [] = []
 served p (request ∷ later) = Some (provider_answer p request).response ∷ served (after p request) later
