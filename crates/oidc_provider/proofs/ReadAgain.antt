@@ -1,6 +1,7 @@
 -- What stands in a body that was written is read back from it.
-use Rattle.std.proofs.Common.{◌≡◌, ◌≤◌, ℕ, List, [], ◌∷◌, map, Option, None, Some, Result, Ok, Err, All, false, refl, ap, sym, ◌∙◌, lit≤}
-use Rattle.std.specs.Prelude.{codes, option_map, IsUtf8, IfOk}
+use Rattle.std.proofs.Common.{◌≡◌, ℕ, List, [], ◌∷◌, map, Option, None, Some, Result, Ok, Err, All, false, refl, ap, ◌∙◌, length, arith}
+use Rattle.std.proofs.lemmas.Bool.{ne_eqb}
+use Rattle.std.specs.Prelude.{codes, option_map, IsUtf8}
 use Rattle.std.proofs.lemmas.List.Elements.{All-cons, All-nil}
 use Rattle.serde_json.specs.Data.{string}
 use Rattle.oidc_members.specs.Seen.{SeenMember, OutSeen}
@@ -8,9 +9,10 @@ use Rattle.oidc_members.specs.Objects.{members_of, loose_members_of, members_or_
 use Rattle.oidc_members.specs.Write.{any_float, object_text}
 use Rattle.oidc_members.specs.declared.reading.Reading.{Reading}
 use Rattle.oidc_members.specs.declared.refusal.Refusal.{Refusal}
-use Rattle.oidc_readers.specs.WrittenBack.{MayBeWritten, MayStand, as_read}
+use Rattle.oidc_readers.specs.WrittenBack.{MayBeWritten, as_read}
 use Rattle.oidc_readers.proofs.Theorems.{written_split_back, standing_free}
 use Rattle.oidc_readers.specs.Fields.{judged}
+use Rattle.oidc_id_token_claims.proofs.Theorems.{text_stands}
 use Rattle.oidc_oauth2.specs.Replies.{◌>>=◌}
 use Rattle.oidc_oauth2.specs.TokenAnswers.{is_empty, record_in}
 use Rattle.oidc_oauth2.specs.TokenResponse.{tokens_among, written_tokens}
@@ -43,7 +45,7 @@ module _ {A : Type 0} (read : List SeenMember → Result A Refusal) (value : A) 
   pub some_body : (body : List ℕ) → record_in read body ≡ Ok value → is_empty body ≡ false
   unfolding split_of members_of loose_members_of trimmed is_braced
   some_body [] is = absurd cc
-  some_body (b ∷ body) is = refl
+  some_body (b ∷ body) is = ne_eqb (length (b ∷ body)) 0 (λ e. omega arith)
 
 -- ---- user info
 
@@ -76,7 +78,7 @@ token_name = (codes "id_token", (refl, refl))
 
 -- a member whose value is a text
 text_member : (name text : List ℕ) → IsUtf8 name → IsUtf8 text → MayBeWritten (record { name = name; value = string text })
-text_member name text n t = record { texts = (n, t); value = (tt, lit≤ tt) }
+text_member name text n t = record { texts = (n, t); value = text_stands text }
 
 module _ {AC GC Key Use : Type 0} (types : SiteTypes AC GC Key Use) (reading : Reading) (token : List ℕ) (id_token : SeenIdToken AC GC) where
   abbrev own : Tokens AC GC
