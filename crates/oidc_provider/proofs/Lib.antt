@@ -1,3 +1,4 @@
+mod AsciiNames
 mod Entries
 mod Bearers
 mod Queries

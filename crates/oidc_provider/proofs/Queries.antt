@@ -4,15 +4,14 @@ use Rattle.std.specs.Prelude.{codes, IsUtf8, IfOk}
 use Rattle.std.proofs.lemmas.List.Elements.{All-cons, All-nil}
 use Rattle.oidc_pairs.specs.Pairs.{pairs, IsTextPair}
 use Rattle.oidc_pairs.proofs.Theorems.{pairs-form}
+use Rattle.oidc_provider.proofs.AsciiNames.{ascii}
 use Rattle.oidc_provider.specs.Authorization.{callback_pairs, callback_query}
 
 code_name : IsUtf8 (codes "code")
-unfolding lib.Utf8.encode
-code_name = (codes "code", (refl, refl))
+code_name = ascii (codes "code") refl
 
 state_name : IsUtf8 (codes "state")
-unfolding lib.Utf8.encode
-state_name = (codes "state", (refl, refl))
+state_name = ascii (codes "state") refl
 
 module _ (code state : List ℕ) (c : IsUtf8 code) (s : IsUtf8 state) where
   texts : All IsTextPair (callback_pairs code state)

@@ -23,6 +23,7 @@ use Rattle.oidc_user_info.specs.InfoAnswers.{claims_in}
 use Rattle.oidc_user_info.specs.RoundTrip.{IsInfoInRange, GivesInfoClaims}
 use Rattle.oidc_login.specs.Types.{SiteTypes}
 use Rattle.oidc_login.specs.Token.{SeenIdToken, Tokens, id_token_of, tokens_read}
+use Rattle.oidc_provider.proofs.AsciiNames.{ascii}
 use Rattle.oidc_provider.specs.Issuing.{tokens, token_body}
 
 -- ---- a body that is the text of some members
@@ -61,20 +62,16 @@ module _ {AC GC : Type 0} (additional : List SeenMember → Result AC Refusal) (
 -- ---- the token body
 
 access_name : IsUtf8 (codes "access_token")
-unfolding lib.Utf8.encode
-access_name = (codes "access_token", (refl, refl))
+access_name = ascii (codes "access_token") refl
 
 type_name : IsUtf8 (codes "token_type")
-unfolding lib.Utf8.encode
-type_name = (codes "token_type", (refl, refl))
+type_name = ascii (codes "token_type") refl
 
 type_text : IsUtf8 (codes "bearer")
-unfolding lib.Utf8.encode
-type_text = (codes "bearer", (refl, refl))
+type_text = ascii (codes "bearer") refl
 
 token_name : IsUtf8 (codes "id_token")
-unfolding lib.Utf8.encode
-token_name = (codes "id_token", (refl, refl))
+token_name = ascii (codes "id_token") refl
 
 -- a member whose value is a text
 text_member : (name text : List ℕ) → IsUtf8 name → IsUtf8 text → MayBeWritten (record { name = name; value = string text })

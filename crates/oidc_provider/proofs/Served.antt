@@ -35,6 +35,7 @@ use Rattle.oidc_provider.specs.Provider.{SeenProvider}
 use Rattle.oidc_provider.specs.Values.{Pairs, only, is_it, says}
 use Rattle.oidc_provider.specs.Answers.{Answer, credentials_in, authenticates_by, asks_for_tokens, asks_for_info, is_authenticated, is_of_client, proves, may_redeem, asked_grant, bearer_in, borne_grant, tokens_of, user_info_of, provider_answer, after}
 use Rattle.oidc_provider.proofs.Table.{by_rows, answer_by_rows, tokens_row, info_row}
+use Rattle.oidc_provider.proofs.AsciiNames.{ascii}
 use Rattle.oidc_provider.proofs.Registered.{any_of_found, own_id, same_text, equal_texts}
 
 -- ---- the request for tokens
@@ -75,28 +76,22 @@ code_pairs_by reading RequestBody address id secret code verifier redirect = ref
 
 -- the names of the pairs, and the grant type, are UTF-8
 grant_type_text : IsTextPair (codes "grant_type", codes "authorization_code")
-unfolding lib.Utf8.encode
-grant_type_text = ((codes "grant_type", (refl, refl)), (codes "authorization_code", (refl, refl)))
+grant_type_text = (ascii (codes "grant_type") refl, ascii (codes "authorization_code") refl)
 
 code_name : IsUtf8 (codes "code")
-unfolding lib.Utf8.encode
-code_name = (codes "code", (refl, refl))
+code_name = ascii (codes "code") refl
 
 verifier_name : IsUtf8 (codes "code_verifier")
-unfolding lib.Utf8.encode
-verifier_name = (codes "code_verifier", (refl, refl))
+verifier_name = ascii (codes "code_verifier") refl
 
 redirect_name : IsUtf8 (codes "redirect_uri")
-unfolding lib.Utf8.encode
-redirect_name = (codes "redirect_uri", (refl, refl))
+redirect_name = ascii (codes "redirect_uri") refl
 
 id_name : IsUtf8 (codes "client_id")
-unfolding lib.Utf8.encode
-id_name = (codes "client_id", (refl, refl))
+id_name = ascii (codes "client_id") refl
 
 secret_name : IsUtf8 (codes "client_secret")
-unfolding lib.Utf8.encode
-secret_name = (codes "client_secret", (refl, refl))
+secret_name = ascii (codes "client_secret") refl
 
 one_more : (pair : List ℕ × List ℕ) (list : Pairs) → IsTextPair pair → All IsTextPair list → All IsTextPair (pair ∷ list)
 one_more pair list one all = All-cons IsTextPair pair list one all
