@@ -44,12 +44,12 @@ abbrev pub key_of_secret : List ℕ → SymmetricKey
 key_of_secret secret = record { secret = secret; id = None }
 
 -- The texts of a client and of what is granted to it are UTF-8, as those of a program are.
-pub record AreTexts (client : Registration) (code token : List ℕ) : Type 0 where
+pub record AreTexts (client : Registration) (new_code new_token : List ℕ) : Type 0 where
   pub id : IsUtf8 client.client_id
   pub secret : IsUtf8 client.secret
   pub redirect : IsUtf8 client.redirect.text
-  pub code : IsUtf8 code
-  pub token : IsUtf8 token
+  pub code : IsUtf8 new_code
+  pub token : IsUtf8 new_token
 
 -- the claims with their issuer, the client as sole audience, and the nonce of the login
 abbrev pub claims_for : {AC GC : Type 0} → ProviderSettings → Allowed → SeenIdTokenClaims AC GC → SeenIdTokenClaims AC GC
@@ -113,8 +113,8 @@ token_body access_token token =
 -- where its claims are in range.
 pub record IsGranted {AC GC : Type 0} (additional : List SeenMember → Result AC Refusal) (gender : SeenMember → Result GC Refusal)
     (additional_out : AC → List OutSeen) (gender_data : GC → Data) (settings : ProviderSettings) (allowed : Allowed)
-    (new_code new_token : List ℕ)
-    (claims : SeenIdTokenClaims AC GC) (user_info : SeenUserInfoClaims AC GC) (grant : SeenGrant) : Type 0 where
+    (new_code new_token : List ℕ) (claims : SeenIdTokenClaims AC GC) (user_info : SeenUserInfoClaims AC GC) (grant : SeenGrant)
+    : Type 0 where
   pub client : grant.client ≡ allowed.client.client_id
   pub redirect : grant.redirect ≡ allowed.client.redirect.text
   pub challenge : grant.challenge ≡ allowed.login.challenge
