@@ -123,11 +123,11 @@ module _ (p : SeenProvider) (a : Asked) where
   module _ (result : Result (List ℕ) AuthorizeError) (replies : Replies result (reply_to p a)) where
     pub refused : (e : AuthorizeError) → Cause p a e → Replies result (Err e)
     refused e cause =
-        subst (λ meant. Replies result (meant >>= λ allowed. Ok (callback_query a.code allowed.login.state))) (cause_back e cause) replies
+        subst (λ (meant : Result Allowed AuthorizeError). Replies result (meant >>= λ allowed. Ok (callback_query a.code allowed.login.state))) (cause_back e cause) replies
 
     pub granted : (allowed : Allowed) → IsAllowed p a allowed → Replies result (Ok (callback_query a.code allowed.login.state))
     granted allowed is =
-        subst (λ meant. Replies result (meant >>= λ allowed. Ok (callback_query a.code allowed.login.state))) (allowed_back allowed is) replies
+        subst (λ (meant : Result Allowed AuthorizeError). Replies result (meant >>= λ allowed. Ok (callback_query a.code allowed.login.state))) (allowed_back allowed is) replies
 
   same_error : (x y : AuthorizeError) → ◌≡◌ {A = Result (List ℕ) AuthorizeError} (Err x) (Err y) → y ≡ x
   same_error x y e = let same : x ≡ y = cc in sym same

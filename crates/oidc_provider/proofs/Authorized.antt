@@ -46,7 +46,7 @@ after_client client code (Err e) = refl
 module _ (p : SeenProvider) (a : Asked) where
   -- nothing is granted where no client is named
   pub none_replied : client_of p a.query ≡ None → ◌≡◌ {A = Result (List ℕ) AuthorizeError} (Err Client) (reply_to p a)
-  none_replied none = sym (ap (λ meant. meant >>= λ allowed. Ok (callback_query a.code allowed.login.state)) (no_client p a none))
+  none_replied none = sym (ap (λ (meant : Result Allowed AuthorizeError). meant >>= λ allowed. Ok (callback_query a.code allowed.login.state)) (no_client p a none))
 
   module _ (client : Registration) (found : client_of p a.query ≡ Some client) where
     by_client : authorization p a ≡ (granted_login p.grants client a >>= λ l. Ok (allowed_to client l))
@@ -57,7 +57,7 @@ module _ (p : SeenProvider) (a : Asked) where
 
     same_reply : reply_to p a ≡ client_reply p.grants client a
     same_reply =
-        ap (λ meant. meant >>= λ allowed. Ok (callback_query a.code allowed.login.state)) by_client
+        ap (λ (meant : Result Allowed AuthorizeError). meant >>= λ allowed. Ok (callback_query a.code allowed.login.state)) by_client
         ∙ after_client client a.code (granted_login p.grants client a)
 
     pub client_replied : (result : Result (List ℕ) AuthorizeError) → Replies result (client_reply p.grants client a) → Replies result (reply_to p a)
@@ -69,7 +69,7 @@ module _ (p : SeenProvider) (a : Asked) where
           → KeepsGrants additional gender additional_out gender_data claims user_info a p new query
       kept query k = record {
         allowed = allowed_to client k.login;
-        was_allowed = by_client ∙ ap (λ meant. meant >>= λ l. Ok (allowed_to client l)) k.was_granted;
+        was_allowed = by_client ∙ ap (λ (meant : Result Allowed AuthorizeError). meant >>= λ l. Ok (allowed_to client l)) k.was_granted;
         keeps = k.keeps;
       }
 
@@ -100,19 +100,19 @@ module _ (grants : SeenGrants) (client : Registration) (a : Asked) where
 
   -- a refusal of its login is its reply
   pub login_refused : (e : AuthorizeError) → Replies {A = AskedLogin} (Err e) (granted_login grants client a) → Replies {A = List ℕ} (Err e) (client_reply grants client a)
-  login_refused Client is = ap (λ r. r >>= λ l. Ok (callback_query a.code l.state)) is
-  login_refused Redirect is = ap (λ r. r >>= λ l. Ok (callback_query a.code l.state)) is
-  login_refused Request is = ap (λ r. r >>= λ l. Ok (callback_query a.code l.state)) is
-  login_refused Subject is = ap (λ r. r >>= λ l. Ok (callback_query a.code l.state)) is
-  login_refused CodeUsed is = ap (λ r. r >>= λ l. Ok (callback_query a.code l.state)) is
-  login_refused TokenUsed is = ap (λ r. r >>= λ l. Ok (callback_query a.code l.state)) is
-  login_refused TokenText is = ap (λ r. r >>= λ l. Ok (callback_query a.code l.state)) is
+  login_refused Client is = ap (λ (r : Result AskedLogin AuthorizeError). r >>= λ l. Ok (callback_query a.code l.state)) is
+  login_refused Redirect is = ap (λ (r : Result AskedLogin AuthorizeError). r >>= λ l. Ok (callback_query a.code l.state)) is
+  login_refused Request is = ap (λ (r : Result AskedLogin AuthorizeError). r >>= λ l. Ok (callback_query a.code l.state)) is
+  login_refused Subject is = ap (λ (r : Result AskedLogin AuthorizeError). r >>= λ l. Ok (callback_query a.code l.state)) is
+  login_refused CodeUsed is = ap (λ (r : Result AskedLogin AuthorizeError). r >>= λ l. Ok (callback_query a.code l.state)) is
+  login_refused TokenUsed is = ap (λ (r : Result AskedLogin AuthorizeError). r >>= λ l. Ok (callback_query a.code l.state)) is
+  login_refused TokenText is = ap (λ (r : Result AskedLogin AuthorizeError). r >>= λ l. Ok (callback_query a.code l.state)) is
   login_refused Memory is = tt
 
   module _ (login : AskedLogin) (was_granted : Replies {A = AskedLogin} (Ok login) (granted_login grants client a)) {Y E : Type 0} (made : Result (String Y) E) where
     replied_by : (r : Result (String Y) E) → IfOk r (λ query. string_bytes query ≡ callback_query a.code login.state)
         → Replies (seen_reply (or_memory r)) (client_reply grants client a)
-    replied_by (Ok query) is = ap Ok is ∙ ap (λ r. r >>= λ l. Ok (callback_query a.code l.state)) was_granted
+    replied_by (Ok query) is = ap Ok is ∙ ap (λ (r : Result AskedLogin AuthorizeError). r >>= λ l. Ok (callback_query a.code l.state)) was_granted
     replied_by (Err e) is = tt
 
     -- a query that was made is its reply
@@ -142,7 +142,7 @@ module _ (p : SeenProvider) (here asked : Asked) (same : here ≡ asked) where
   pub replied : (result : Result (List ℕ) AuthorizeError) → Replies result (reply_to (provider_of p.settings p.registrations p.grants) here) → Replies result (reply_to p asked)
   replied result replies =
       subst (λ a. Replies result (reply_to p a)) same
-      (subst (λ meant. Replies result (meant >>= λ allowed. Ok (callback_query here.code allowed.login.state))) (authorization_of_parts p here) replies)
+      (subst (λ (meant : Result Allowed AuthorizeError). Replies result (meant >>= λ allowed. Ok (callback_query here.code allowed.login.state))) (authorization_of_parts p here) replies)
 
   module _ {AC GC : Type 0} (additional : List SeenMember → Result AC Refusal) (gender : SeenMember → Result GC Refusal) (additional_out : AC → List OutSeen) (gender_data : GC → Data)
       (claims : SeenIdTokenClaims AC GC) (user_info : SeenUserInfoClaims AC GC) (grants : SeenGrants) (new : SeenProvider) (is : new ≡ record p { grants = grants }) where
