@@ -38,5 +38,5 @@ login_parts true (Some s) (Some n) (Some c) l is =
 -- the redirect of a request whose URL names this text
 pub redirect_of : (own : Option TextAndUrl) (found : Option (List ℕ)) (text : List ℕ) → found ≡ only_of (at_most_one (option_map (λ u. u.text) own)) → is_it found text ≡ true
     → (u : TextAndUrl) × (own ≡ Some u) × (u.text ≡ text)
-redirect_of None found text is says = absurd (false≢true (ap (λ f. is_it f text) (sym is) ∙ says))
-redirect_of (Some u) found text is says = (u, refl, (bytes_decides u.text text).0 (ap (λ f. is_it f text) (sym is) ∙ says))
+redirect_of None found text is says = absurd (false≢true (ap (λ (f : Option (List ℕ)). is_it f text) (sym is) ∙ says))
+redirect_of (Some u) found text is says = (u, refl, (bytes_decides u.text text).0 (ap (λ (f : Option (List ℕ)). is_it f text) (sym is) ∙ says))

@@ -40,7 +40,7 @@ module _ {A : Type 0} (read : List SeenMember → Result A Refusal) (value : A) 
       → body ≡ object_text members → record_in read body ≡ Ok value
   unfolding split_of
   read_again members body back is =
-      ap (λ text. record_in read text) is ∙ by_members (members_of (object_text members)) (loose_members_of (object_text members)) back
+      ap (λ (text : List ℕ). record_in read text) is ∙ by_members (members_of (object_text members)) (loose_members_of (object_text members)) back
 
   -- a body without bytes holds nothing
   pub some_body : (body : List ℕ) → record_in read body ≡ Ok value → is_empty body ≡ false

@@ -15,4 +15,4 @@ served_one old new request response answer is = record {
 
 -- it gave none, and is as it was
 pub served_none : (old new : SeenProvider) → new ≡ old → Leaves (served old) [] [] (served new)
-served_none old new is = record { gives = λ later. ap (λ p. served p later) (sym is) }
+served_none old new is = record { gives = λ later. ap (λ (p : SeenProvider). served p later) (sym is) }

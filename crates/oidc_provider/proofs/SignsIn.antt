@@ -18,7 +18,7 @@ use Rattle.oidc_types.specs.declared.core_algorithms.CoreJweContentEncryptionAlg
 use Rattle.oidc_keys.specs.CoreJwk.{SymmetricKey, hash_function}
 use Rattle.oidc_keys.specs.declared.core_jwk.CoreJsonWebKeyUse.{CoreJsonWebKeyUse}
 use Rattle.oidc_keys.specs.declared.refusals.SignatureVerificationError.TheVariants.{DisallowedAlg}
-use Rattle.oidc_jwt.specs.Issuing.{signed_with}
+use Rattle.oidc_jwt.specs.declared.header.TokenHeader.{TokenHeader}
 use Rattle.oidc_jwt.specs.declared.header.JsonWebTokenAlgorithm.{JsonWebTokenAlgorithm}
 use Rattle.oidc_jwt.specs.declared.header.JsonWebTokenAlgorithm.TheVariants as algorithm
 use Rattle.oidc_oauth2.specs.Messages.{SeenRequest, SeenAnswer}
@@ -181,13 +181,13 @@ module _ {AC GC : Type 0} (additional : List SeenMember → Result AC Refusal) (
   by_code =
       ap (λ (q : SeenProvider). of_code q.grants g.code) k.kept
       ∙ finite.get-insert nat_list_cmp_total p.grants.by_code g.code g g.code
-      ∙ ap (λ t. cond t (Some g) (finite.get p.grants.by_code g.code)) (ties_itself g.code)
+      ∙ ap (λ (t : Bool). cond t (Some g) (finite.get p.grants.by_code g.code)) (ties_itself g.code)
 
   by_token : finite.get p1.grants.codes g.token ≡ Some g.code
   by_token =
       ap (λ (q : SeenProvider). finite.get q.grants.codes g.token) k.kept
       ∙ finite.get-insert nat_list_cmp_total p.grants.codes g.token g.code g.token
-      ∙ ap (λ t. cond t (Some g.code) (finite.get p.grants.codes g.token)) (ties_itself g.token)
+      ∙ ap (λ (t : Bool). cond t (Some g.code) (finite.get p.grants.codes g.token)) (ties_itself g.token)
 
   was_granted : Granted types p1 a g login
   was_granted = record {
@@ -216,14 +216,14 @@ module _ {AC GC : Type 0} (additional : List SeenMember → Result AC Refusal) (
   read =
       tokens_again types logins.client.reading c.token id_token (granted.usable.reads_back logins.client.reading h.in_range)
       g.token_body granted.token_text granted.texts.token granted.usable.text
-      ∙ ap (λ token. Ok (tokens token id_token)) (sym granted.token)
+      ∙ ap (λ (token : List ℕ). Ok (tokens token id_token)) (sym granted.token)
 
   expects : Expects types.keys (verifier_of types logins.client) (is_sent b.request.nonce) now HmacSha256 (key_of_secret client.secret) (claims_for p.settings h.allowed c.claims)
   expects = record {
     issuer = h.provider.issuer;
     audience = ap (λ (id : List ℕ). id ∷ []) (id_is ∙ h.begun.own_client);
     allowed = h.provider.allows_hs256;
-    chosen = ap (λ o. ok_or (option_map key_of_secret o) DisallowedAlg) h.provider.own_secret;
+    chosen = ap (λ (o : Option (List ℕ)). ok_or (option_map key_of_secret o) DisallowedAlg) h.provider.own_secret;
     unexpired = h.unexpired;
     nonce = equal_texts h.allowed.login.nonce b.request.nonce nonce_is;
   }
@@ -232,7 +232,7 @@ module _ {AC GC : Type 0} (additional : List SeenMember → Result AC Refusal) (
   accepted = granted.usable.accepted (verifier_of types logins.client) (is_sent b.request.nonce) now expects
 
   alg_is : accepted.alg ≡ HmacSha256
-  alg_is = same_alg accepted.alg HmacSha256 (sym accepted.signed ∙ ap (λ header. header.alg) granted.issued.header)
+  alg_is = same_alg accepted.alg HmacSha256 (sym accepted.signed ∙ ap (λ (header : TokenHeader CoreJweContentEncryptionAlgorithm CoreJwsSigningAlgorithm). header.alg) granted.issued.header)
 
   fits_hash : FitsHash types id_token accepted.key accepted.alg g.token
   fits_hash claim is =
@@ -322,7 +322,7 @@ module _ {AC GC : Type 0} (additional : List SeenMember → Result AC Refusal) (
         → length answers ≡ length sent → answers ≡ served p1 sent
     came_by sent answers None plays all = absurd plays
     came_by sent answers (Some left) plays all =
-        let whole : take (length answers) sent ≡ sent = ap (λ n. take n sent) all ∙ take-length sent in
+        let whole : take (length answers) sent ≡ sent = ap (λ (n : ℕ). take n sent) all ∙ take-length sent in
         sym (gave (served p1) (take (length answers) sent) answers left plays
         (served_length p1 (take (length answers) sent) ∙ ap length whole ∙ sym all))
         ∙ ap (served p1) whole
