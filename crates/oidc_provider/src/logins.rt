@@ -36,6 +36,9 @@ fn as_sign_in<AC: AdditionalClaims, GC: GenderClaim>(
 /// memory. Honest is a login whose begin was accepted and is pending, with a URL that has each of the begin's own
 /// names once; over a provider that grants what is asked, is the client's own, and knows its secret; where the claims
 /// are in the range of the round trip and expire later than `now`.
+///
+/// Where the provider grants nothing, both are as they were; else the login is spent as `Logins::callback` says, and the
+/// provider has the grant.
 pub fn sign_in<AC: AdditionalClaims, GC: GenderClaim>(
     provider: &mut Provider<AC, GC>,
     logins: &mut Logins<'_, AC, GC, CoreJsonWebKey>,
@@ -53,6 +56,9 @@ pub fn sign_in<AC: AdditionalClaims, GC: GenderClaim>(
     ensures refused { let c = consent_of claims user_info code token in
         (e : AuthorizeError) → result ≡ Err (SignInError.Authorize e)
         → HasCause provider.old (asked_with url.now c) e }
+    ensures unchanged { (e : AuthorizeError) → result ≡ Err (SignInError.Authorize e)
+        → (provider.new ≡ provider.old) × (logins.new ≡ logins.old) }
+    ensures client { logins.new.client ≡ logins.old.client }
 {
     match provider.authorize(url, claims, user_info, code, token) {
         Ok(query) => as_sign_in(logins.callback(query.as_bytes(), provider, now)),

@@ -17,3 +17,6 @@ returns-in-Err-clause-signs_in g c = λ h.
 
 pub returns-in-Err-clause-refused : goal.returns-in-Err-clause-refused
 returns-in-Err-clause-refused g c = λ e is. caused_by _ _ c.in-Err.refusal e is c.in-Err.ensures.reply
+
+pub returns-in-Ok-clause-unchanged : goal.returns-in-Ok-clause-unchanged
+returns-in-Ok-clause-unchanged g c = λ e is. absurd (no_refusal c.callback.result e (sym c.as_sign_in.ensures ∙ is))
