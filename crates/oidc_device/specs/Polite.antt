@@ -1,0 +1,123 @@
+-- Whole runs of steps: no device polls too fast, or behind the end, whatever it is answered, and whenever its steps are
+-- made (RFC 8628 section 3.5).
+use Rattle.std.specs.Prelude.{◌≡◌, ◌⊎◌, ◌↔◌, ℕ, ℤ, pos, ◌+ℤ◌, ◌<ℤ◌, ◌≤ℤ◌, List, [], ◌∷◌, ◌++◌, Bool, true, false, Some, Ok, Err, if◌then◌else◌}
+use Rattle.std.specs.List.{list_any}
+use Rattle.oidc_oauth2.specs.Messages.{SeenRequest, SeenAnswer}
+use Rattle.oidc_oauth2.specs.TokenResponse.{seconds, whole_seconds}
+use Rattle.oidc_oauth2.specs.declared.token_answers.RequestTokenError.TheVariants as token_error
+use Rattle.oidc_oauth2_requests.specs.FormRequests.{SeenFormRequest, form_request}
+use Rattle.oidc_device.specs.Types.{DeviceTypes, SeenDeviceClient}
+use Rattle.oidc_device.specs.Logins.{SeenCodes, SeenDeviceLogin, first_login, poll_ask}
+use Rattle.oidc_device.specs.DeviceStep.{Reply, DeviceRun, raised, doubled, login_behind, device_step}
+use Rattle.oidc_device.specs.declared.step.DeviceStep.TheVariants as step
+use Rattle.oidc_device.specs.declared.errors.DeviceError.TheVariants as device
+
+-- ---- steps, and what comes of them
+
+-- What comes of the poll of a step, where one is due: an answer, or want of memory, before the request is handed over or
+-- behind that.
+pub data Outcome : Type 0 where
+  answered : SeenAnswer → Outcome
+  wanting_before : Outcome
+  wanting_behind : Outcome
+
+pub record Step : Type 0 where
+  pub now : ℤ
+  pub outcome : Outcome
+
+-- a step that was made, with what it answered and sent
+pub record Turn (AC GC : Type 0) : Type 0 where
+  pub now : ℤ
+  pub reply : Reply AC GC
+  pub sent : List SeenRequest
+
+module _ {AC GC : Type 0} where
+  -- a poll was due
+  abbrev pub polls : Reply AC GC → Bool
+  polls (Ok (step.Wait wait)) = false
+  polls (Ok answered) = true
+  polls (Err device.Over) = false
+  polls (Err device.Expired) = false
+  polls (Err e) = true
+
+  -- the login ends with this answer
+  abbrev pub ends : Reply AC GC → Bool
+  ends (Ok (step.Done user)) = true
+  ends (Ok answered) = false
+  ends (Err device.Over) = false
+  ends (Err device.Memory) = false
+  ends (Err (device.Token (token_error.Request cause))) = false
+  ends (Err e) = true
+
+module _ {AC GC Key Use : Type 0} (types : DeviceTypes AC GC Key Use) where
+  -- there is no memory for what would be answered, where a poll is due
+  abbrev pub wanting : DeviceRun types → List SeenRequest → DeviceRun types
+  wanting meant sent =
+      if polls meant.reply then record { reply = Err device.Memory; sent = sent } else meant
+
+  -- a step by what comes of it
+  abbrev pub run_by : SeenDeviceLogin Key → ℤ → Outcome → DeviceRun types
+  run_by login now (answered answer) = device_step types login now (answer ∷ [])
+  run_by login now wanting_before = wanting (device_step types login now []) []
+  run_by login now wanting_behind =
+      let meant = device_step types login now [] in wanting meant meant.sent
+
+  abbrev pub turn_by : SeenDeviceLogin Key → Step → Turn AC GC
+  turn_by login s =
+      let run = run_by login s.now s.outcome in
+      record { now = s.now; reply = run.reply; sent = run.sent }
+
+  -- steps one after another, and the state behind them
+  abbrev pub turns_from : SeenDeviceLogin Key → List Step → List (Turn AC GC)
+  turns_from login [] = []
+  turns_from login (s ∷ later) =
+      let turn = turn_by login s in turn ∷ turns_from (login_behind s.now login turn.reply) later
+
+-- ---- what is said of them, without the state
+
+module _ {AC GC : Type 0} where
+  -- the moment of the last poll, and the start where there is none
+  abbrev pub last_poll : ℤ → List (Turn AC GC) → ℤ
+  last_poll start [] = start
+  last_poll start (turn ∷ later) = last_poll (if polls turn.reply then turn.now else start) later
+
+  -- an interval, in seconds, behind an answer: five more for each `slow_down`, and the double, five at least, for each
+  -- fault of the transport
+  abbrev pub interval_after : ℕ → Reply AC GC → ℕ
+  interval_after interval (Ok step.SlowDown) = raised interval
+  interval_after interval (Err (device.Token (token_error.Request cause))) = doubled interval
+  interval_after interval reply = interval
+
+  abbrev pub interval_behind : ℕ → List (Turn AC GC) → ℕ
+  interval_behind interval [] = interval
+  interval_behind interval (turn ∷ later) = interval_behind (interval_after interval turn.reply) later
+
+  -- one of them has ended the login
+  abbrev pub has_ended : List (Turn AC GC) → Bool
+  has_ended turns = list_any (λ turn. ends turn.reply) turns
+
+-- a turn behind earlier ones, of a login that started so
+pub record IsPolite {AC GC Key : Type 0} (client : SeenDeviceClient Key) (codes : SeenCodes) (start : ℤ)
+    (earlier : List (Turn AC GC)) (turn : Turn AC GC) : Type 0 where
+  -- Nothing is sent but at a poll, and then no more than the client's one request for tokens by the device code.
+  pub sent_at_polls : polls turn.reply ≡ false → turn.sent ≡ []
+  pub own_request : (turn.sent ≡ []) ⊎
+      ((ask : SeenFormRequest) × (request : SeenRequest)
+      × (poll_ask (first_login client start codes) ≡ Some ask) × (form_request ask ≡ Some request)
+      × (turn.sent ≡ request ∷ []))
+  -- A poll comes no earlier than the interval by all answers so far after the poll before it, or after the start,
+  pub spaced : polls turn.reply ≡ true
+      → last_poll start earlier +ℤ pos (seconds (interval_behind (whole_seconds codes.interval) earlier)) ≤ℤ turn.now
+  -- and before the expiry.
+  pub unexpired : polls turn.reply ≡ true → turn.now <ℤ start +ℤ pos codes.expires_in
+  -- The step is over exactly where an earlier one has ended the login, and then nothing is sent.
+  pub over : (turn.reply ≡ Err device.Over) ↔ (has_ended earlier ≡ true)
+  pub silent : has_ended earlier ≡ true → turn.sent ≡ []
+
+-- In every run of every login each turn is.
+abbrev pub Polite : {AC GC Key Use : Type 0} → DeviceTypes AC GC Key Use → Type 0
+Polite {AC} {GC} {Key} types =
+    (client : SeenDeviceClient Key) (codes : SeenCodes) (start : ℤ) (steps : List Step)
+    (earlier : List (Turn AC GC)) (turn : Turn AC GC) (later : List (Turn AC GC))
+    → turns_from types (first_login client start codes) steps ≡ earlier ++ turn ∷ later
+    → IsPolite client codes start earlier turn
