@@ -1,0 +1,6 @@
+mod Walks
+mod Verdicts
+mod TokenHash
+mod Signing
+mod Users
+mod Moments

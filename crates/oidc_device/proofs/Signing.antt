@@ -1,0 +1,128 @@
+-- The rows on tokens and on an ID token, by what was found of them.
+use Rattle.std.proofs.Common.{◌≡◌, ℕ, ℤ, List, true, false, Option, None, Some, Result, Ok, Err, refl, sym, ap, subst, ◌∙◌}
+use Rattle.std.specs.Prelude.{is_some, IfOk, IfErr}
+use Rattle.oidc_oauth2.specs.Replies.{◌>>=◌, ◌>>◌, ◌when◌, ◌for◌, ◌or◌, Unless, Gives}
+use Rattle.oidc_oauth2.proofs.Runs.{unless_map}
+use Rattle.oidc_tokens.specs.declared.verification.refusals.ClaimsVerificationError.{ClaimsVerificationError}
+use Rattle.oidc_tokens.specs.declared.verification.refusals.ClaimsVerificationError.TheVariants as check
+use Rattle.oidc_tokens.specs.Verification.{first_failure, Judges}
+use Rattle.oidc_device.specs.Types.{DeviceTypes, SeenDeviceClient}
+use Rattle.oidc_device.specs.Token.{SeenIdToken, KeyVerifier, verifier_of, any_nonce, failure_for, claimed_hash, hash_beside, hash_refusal, has_another_hash, Tokens}
+use Rattle.oidc_device.specs.SignedIn.{SeenDeviceSignedIn, signed_by}
+use Rattle.oidc_device.specs.Errors.{Error, seen, wants_memory, faulted, device_errors}
+use Rattle.oidc_device.specs.DeviceStep.{user_of_tokens}
+use Rattle.oidc_device.specs.declared.errors.DeviceError.{DeviceError}
+use Rattle.oidc_device.specs.declared.errors.DeviceError.TheVariants as device
+use Rattle.oidc_device.specs.Steps.{of_check, IsPassed, checked_hash, accepted_token}
+
+-- ---- the checks
+
+module _ (E : Type 0) where
+  pub of_check_no_fault : (e : ClaimsVerificationError) → faulted (of_check {E = E} e) ≡ false
+  of_check_no_fault check.Unsupported = refl
+  of_check_no_fault check.InvalidIssuer = refl
+  of_check_no_fault check.InvalidAudience = refl
+  of_check_no_fault (check.SignatureVerification refusal) = refl
+  of_check_no_fault check.Expired = refl
+  of_check_no_fault check.InvalidNonce = refl
+  of_check_no_fault check.InvalidSubject = refl
+  of_check_no_fault check.Memory = refl
+
+module _ {AC GC Key Use : Type 0} (types : DeviceTypes AC GC Key Use) (client : SeenDeviceClient Key) (now : ℤ) (token : SeenIdToken AC GC) (access_token : List ℕ) where
+  abbrev pub hash_meant : Result (Unit {0}) Error
+  hash_meant = checked_hash (claimed_hash token) (hash_beside types (verifier_of types client) token access_token)
+
+  accepting_by : (failure : Option ClaimsVerificationError) → failure_for types client now token ≡ failure
+      → accepted_token types client now token access_token ≡ ((device.Claims for failure) >> hash_meant)
+  unfolding accepted_token
+  accepting_by failure is = ap (λ o. (device.Claims for o) >> hash_meant) is
+
+  pub passed : {E : Type 0} (result : Result (Unit {0}) (DeviceError E)) → failure_for types client now token ≡ None → Gives device_errors result hash_meant
+      → Gives device_errors result (accepted_token types client now token access_token)
+  passed result none gives = subst (Gives device_errors result) (sym (accepting_by None none)) gives
+
+  failed : (kind : ClaimsVerificationError) → failure_for types client now token ≡ Some kind → accepted_token types client now token access_token ≡ Err (device.Claims kind)
+  failed kind is = accepting_by (Some kind) is
+
+  -- the first check that fails, or want of memory
+  refused_check : (E C : Type 0) (e : ClaimsVerificationError) → Judges {C = C} (failure_for types client now token) (Err e)
+      → Gives (device_errors {E = E}) {A = Unit {0}} (Err (of_check e)) (accepted_token types client now token access_token)
+  refused_check E C check.Unsupported judged = failed _ judged
+  refused_check E C check.InvalidIssuer judged = failed _ judged
+  refused_check E C check.InvalidAudience judged = failed _ judged
+  refused_check E C (check.SignatureVerification refusal) judged = failed _ judged
+  refused_check E C check.Expired judged = failed _ judged
+  refused_check E C check.InvalidNonce judged = failed _ judged
+  refused_check E C check.InvalidSubject judged = failed _ judged
+  refused_check E C check.Memory judged = tt
+
+  pub refused_by : (E C : Type 0) (failure : Option ClaimsVerificationError) → failure ≡ failure_for types client now token → (e : ClaimsVerificationError) → Judges {C = C} failure (Err e)
+      → Gives (device_errors {E = E}) {A = Unit {0}} (Err (of_check e)) (accepted_token types client now token access_token)
+  refused_by E C failure same e judged = refused_check E C e (subst (λ f. Judges {C = C} f (Err e)) same judged)
+
+  -- the verifier of a client, by another name
+  pub same_failure : (verifier : KeyVerifier Key) → verifier ≡ verifier_of types client → first_failure types.keys verifier any_nonce now token ≡ failure_for types client now token
+  same_failure verifier own = ap (λ v. first_failure types.keys v any_nonce now token) own
+
+  pub same_hash : {E : Type 0} (result : Result (Unit {0}) (DeviceError E)) (verifier : KeyVerifier Key) → verifier ≡ verifier_of types client
+      → Gives device_errors result (checked_hash (claimed_hash token) (hash_beside types verifier token access_token)) → Gives device_errors result hash_meant
+  same_hash result verifier own gives = subst (λ v. Gives device_errors result (checked_hash (claimed_hash token) (hash_beside types v token access_token))) own gives
+
+-- ---- the tokens
+
+then_row : {B F : Type 0} (m n : Result (Unit {0}) F) (next : Result B F) → (m >> (n >> next)) ≡ ((m >> n) >> next)
+then_row (Ok u) n next = refl
+then_row (Err e) n next = refl
+
+same_some : {A : Type 0} (a b : A) → Some a ≡ Some b → a ≡ b
+same_some a b h = cc
+
+module _ {AC GC Key Use : Type 0} (types : DeviceTypes AC GC Key Use) (client : SeenDeviceClient Key) (now : ℤ) (tokens : Tokens AC GC) where
+  by_id_token : (token : SeenIdToken AC GC)
+      → ((device.Claims for failure_for types client now token) >> ((device.Signing for hash_refusal types client token tokens.access_token)
+      >> ((device.TokenHash when has_another_hash types client token tokens.access_token) >> Ok (signed_by token tokens))))
+      ≡ (accepted_token types client now token tokens.access_token >> Ok (signed_by token tokens))
+  unfolding accepted_token
+  by_id_token token =
+      let check = device.Claims for failure_for types client now token in
+      let none = device.Signing for hash_refusal types client token tokens.access_token in
+      let another = device.TokenHash when has_another_hash types client token tokens.access_token in
+      ap (λ m. check >> m) (then_row none another (Ok (signed_by token tokens))) ∙ then_row check (none >> another) (Ok (signed_by token tokens))
+
+  abbrev accepting : Option (SeenIdToken AC GC) → Result (SeenDeviceSignedIn AC GC) Error
+  accepting found = (found or device.NoIdToken) >>= λ token. accepted_token types client now token tokens.access_token >> Ok (signed_by token tokens)
+
+  user_by : user_of_tokens types client now tokens ≡ accepting tokens.extra_fields.id_token
+  unfolding user_of_tokens
+  user_by = λ i. (tokens.extra_fields.id_token or device.NoIdToken) >>= λ token. by_id_token token i
+
+  pub no_token : tokens.extra_fields.id_token ≡ None → user_of_tokens types client now tokens ≡ Err device.NoIdToken
+  no_token is = user_by ∙ ap accepting is
+
+  module _ (token : SeenIdToken AC GC) (is : tokens.extra_fields.id_token ≡ Some token) where
+    signing_by : (m : Result (Unit {0}) Error) → accepted_token types client now token tokens.access_token ≡ m → user_of_tokens types client now tokens ≡ (m >> Ok (signed_by token tokens))
+    signing_by m accepts =
+        user_by ∙ ap accepting is ∙ ap (λ m. m >> Ok (signed_by token tokens)) accepts
+
+    signed : accepted_token types client now token tokens.access_token ≡ Ok tt → user_of_tokens types client now tokens ≡ Ok (signed_by token tokens)
+    signed accepts = signing_by (Ok tt) accepts
+
+    pub passes : {E : Type 0} (result : Result (Unit {0}) (DeviceError E)) → Gives device_errors result (accepted_token types client now token tokens.access_token)
+        → IfOk result (λ u. IsPassed types client now tokens)
+    passes (Ok u) gives = λ other also. let same : token ≡ other = same_some _ _ (sym is ∙ also) in
+        signed gives ∙ ap (λ t. Ok (signed_by t tokens)) same
+    passes (Err e) gives = tt
+
+    pub refuses : {E : Type 0} (result : Result (Unit {0}) (DeviceError E)) → Gives device_errors result (accepted_token types client now token tokens.access_token)
+        → IfErr result (λ e. Unless (wants_memory e) (user_of_tokens types client now tokens ≡ Err (seen e)))
+    refuses (Ok u) gives = tt
+    refuses (Err e) gives = unless_map (wants_memory e) (λ accepts. signing_by (Err (seen e)) accepts) gives
+
+  signed_where : (o : Option (SeenIdToken AC GC)) → is_some o ≡ true → (m : Result (SeenDeviceSignedIn AC GC) Error) (user : SeenDeviceSignedIn AC GC) → ((token : SeenIdToken AC GC) → o ≡ Some token → user ≡ signed_by token tokens)
+      → ((token : SeenIdToken AC GC) → o ≡ Some token → m ≡ Ok (signed_by token tokens)) → m ≡ Ok user
+  signed_where None none m user own meant = cc
+  signed_where (Some token) some m user own meant = meant token refl ∙ ap Ok (sym (own token refl))
+
+  pub signs : (user : SeenDeviceSignedIn AC GC) → is_some tokens.extra_fields.id_token ≡ true → ((token : SeenIdToken AC GC) → tokens.extra_fields.id_token ≡ Some token → user ≡ signed_by token tokens)
+      → IsPassed types client now tokens → user_of_tokens types client now tokens ≡ Ok user
+  signs user some own passed = signed_where tokens.extra_fields.id_token some (user_of_tokens types client now tokens) user own passed
