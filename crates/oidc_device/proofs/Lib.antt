@@ -2,5 +2,11 @@ mod Walks
 mod Verdicts
 mod TokenHash
 mod Signing
-mod Users
 mod Moments
+mod Mapped
+mod Users
+mod Polls
+mod Idle
+mod Starts
+mod Polite
+mod Called

@@ -3,6 +3,12 @@ use Rattle.std.proofs.Common.{◌≡◌, ℕ, ℤ, List, true, false, Option, No
 use Rattle.std.specs.Prelude.{is_some, IfOk, IfErr}
 use Rattle.oidc_oauth2.specs.Replies.{◌>>=◌, ◌>>◌, ◌when◌, ◌for◌, ◌or◌, Unless, Gives}
 use Rattle.oidc_oauth2.proofs.Runs.{unless_map}
+use Rattle.oidc_oauth2.specs.TokenAnswers.{TokenRefusal, token_errors, wants_memory as poll_wants, is_fault}
+use Rattle.oidc_oauth2.specs.declared.token_answers.RequestTokenError.{RequestTokenError}
+use Rattle.oidc_oauth2.specs.declared.token_answers.RequestTokenError.TheVariants as token
+use Rattle.oidc_oauth2_requests.specs.RequestAnswers.{DeviceError as PollError}
+use Rattle.oidc_oauth2_requests.specs.declared.device.PollStep.{PollStep}
+use Rattle.oidc_oauth2_requests.specs.declared.device.PollStep.TheVariants as poll
 use Rattle.oidc_tokens.specs.declared.verification.refusals.ClaimsVerificationError.{ClaimsVerificationError}
 use Rattle.oidc_tokens.specs.declared.verification.refusals.ClaimsVerificationError.TheVariants as check
 use Rattle.oidc_tokens.specs.Verification.{first_failure, Judges}
@@ -10,10 +16,12 @@ use Rattle.oidc_device.specs.Types.{DeviceTypes, SeenDeviceClient}
 use Rattle.oidc_device.specs.Token.{SeenIdToken, KeyVerifier, verifier_of, any_nonce, failure_for, claimed_hash, hash_beside, hash_refusal, has_another_hash, Tokens}
 use Rattle.oidc_device.specs.SignedIn.{SeenDeviceSignedIn, signed_by}
 use Rattle.oidc_device.specs.Errors.{Error, seen, wants_memory, faulted, device_errors}
-use Rattle.oidc_device.specs.DeviceStep.{user_of_tokens}
+use Rattle.oidc_device.specs.DeviceStep.{user_of_tokens, judged_step, poll_reply}
 use Rattle.oidc_device.specs.declared.errors.DeviceError.{DeviceError}
 use Rattle.oidc_device.specs.declared.errors.DeviceError.TheVariants as device
-use Rattle.oidc_device.specs.Steps.{of_check, IsPassed, checked_hash, accepted_token}
+use Rattle.oidc_device.specs.declared.step.DeviceStep.{DeviceStep}
+use Rattle.oidc_device.specs.declared.step.DeviceStep.TheVariants as step
+use Rattle.oidc_device.specs.Steps.{of_check, of_poll, IsPassed, checked_hash, accepted_token}
 
 -- ---- the checks
 
@@ -126,3 +134,50 @@ module _ {AC GC Key Use : Type 0} (types : DeviceTypes AC GC Key Use) (client : 
   pub signs : (user : SeenDeviceSignedIn AC GC) → is_some tokens.extra_fields.id_token ≡ true → ((token : SeenIdToken AC GC) → tokens.extra_fields.id_token ≡ Some token → user ≡ signed_by token tokens)
       → IsPassed types client now tokens → user_of_tokens types client now tokens ≡ Ok user
   signs user some own passed = signed_where tokens.extra_fields.id_token some (user_of_tokens types client now tokens) user own passed
+
+  -- the step that they are worth
+  pub step_signed : (user : SeenDeviceSignedIn AC GC) → user_of_tokens types client now tokens ≡ Ok user
+      → judged_step types client now (poll.Done tokens) ≡ Ok (step.Done user)
+  step_signed user is = ap (λ (m : Result (SeenDeviceSignedIn AC GC) Error). m >>= λ user. Ok (step.Done user)) is
+
+  pub step_refused : {E : Type 0} (e : DeviceError E) → Unless (wants_memory e) (user_of_tokens types client now tokens ≡ Err (seen e))
+      → Gives device_errors {A = DeviceStep AC GC} (Err e) (judged_step types client now (poll.Done tokens))
+  step_refused e refused =
+      unless_map (wants_memory e) (λ is. ap (λ (m : Result (SeenDeviceSignedIn AC GC) Error). m >>= λ user. Ok (step.Done user)) is) refused
+
+-- ---- a poll, by what came of it
+
+module _ {AC GC Key Use : Type 0} (types : DeviceTypes AC GC Key Use) (client : SeenDeviceClient Key) (now : ℤ) {E : Type 0} where
+  abbrev PollMeant : Type 0
+  PollMeant = Result (PollStep (Tokens AC GC)) (TokenRefusal PollError)
+
+  -- a step that was said
+  pub said_given : (said : PollStep (Tokens AC GC)) (reply : PollMeant) (result : Result (DeviceStep AC GC) (DeviceError E)) → reply ≡ Ok said
+      → Gives device_errors result (judged_step types client now said) → Gives device_errors result (poll_reply types client now reply)
+  said_given said reply result is gives = subst (Gives device_errors result) (sym (ap (poll_reply types client now) is)) gives
+
+  -- a refusal
+  pub err_given : (e : RequestTokenError E PollError) (reply : PollMeant) → Gives token_errors {A = PollStep (Tokens AC GC)} (Err e) reply
+      → Gives device_errors {A = DeviceStep AC GC} (Err (of_poll e)) (poll_reply types client now reply)
+  err_given (token.ServerResponse error) reply is = ap (poll_reply types client now) is
+  err_given (token.Request cause) reply is = ap (poll_reply types client now) is
+  err_given (token.Parse refusal body) reply is = ap (poll_reply types client now) is
+  err_given (token.Other cause) reply is = ap (poll_reply types client now) is
+  err_given (token.TooLong body) reply is = ap (poll_reply types client now) is
+  err_given token.Memory reply is = tt
+
+  pub err_memory : (e : RequestTokenError E PollError) → poll_wants e ≡ true → of_poll e ≡ device.Memory
+  err_memory (token.ServerResponse error) is = absurd (cc)
+  err_memory (token.Request cause) is = absurd (cc)
+  err_memory (token.Parse refusal body) is = absurd (cc)
+  err_memory (token.Other cause) is = absurd (cc)
+  err_memory (token.TooLong body) is = absurd (cc)
+  err_memory token.Memory is = refl
+
+  pub err_fault : (e : RequestTokenError E PollError) → faulted (of_poll e) ≡ true → is_fault e ≡ true
+  err_fault (token.ServerResponse error) is = absurd (cc)
+  err_fault (token.Request cause) is = refl
+  err_fault (token.Parse refusal body) is = absurd (cc)
+  err_fault (token.Other cause) is = absurd (cc)
+  err_fault (token.TooLong body) is = absurd (cc)
+  err_fault token.Memory is = absurd (cc)

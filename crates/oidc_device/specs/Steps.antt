@@ -102,5 +102,8 @@ abbrev pub started_by : {Key E : Type 0} → SeenDeviceClient Key → ℤ → Re
 started_by client now (Ok codes) = Ok (first_login client now codes)
 started_by client now (Err e) = Err e
 
+abbrev pub login_at : {Key : Type 0} → SeenDeviceClient Key → SeenCodes → Polling → SeenDeviceLogin Key
+login_at client codes p = record { client = client; codes = codes; polling = p }
+
 abbrev pub login_by : {Key : Type 0} → SeenDeviceClient Key → SeenCodes → Clock → SeenDeviceLogin Key
-login_by client codes clock = record { client = client; codes = codes; polling = polling_of clock }
+login_by client codes clock = login_at client codes (polling_of clock)

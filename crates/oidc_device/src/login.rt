@@ -7,11 +7,11 @@ ghost use Rattle.oidc_oauth2.specs.Exchanges.{known, IsRequestBlamed};
 ghost use Rattle.oidc_device.specs.Types.{device_types};
 ghost use Rattle.oidc_device.specs.Token.{IsAcceptedBy, HasOwnHash};
 ghost use Rattle.oidc_device.specs.Errors.{start_errors, start_hides_memory, device_errors, hides_memory, seen_reply};
-ghost use Rattle.oidc_device.specs.Logins.{SeenDeviceLogin, first_login, codes_ask, poll_ask};
+ghost use Rattle.oidc_device.specs.Logins.{Polling, first_login, codes_ask, poll_ask};
 ghost use Rattle.oidc_device.specs.DeviceStep.{login_behind};
 ghost use Rattle.oidc_device.specs.Causes.{HasExpired, Waits, IsDue, HasNoAddress, IfDone};
 ghost use Rattle.oidc_device.specs.Runs.{Started, Stepped};
-ghost use Rattle.oidc_device.specs.Steps.{polling_of, login_by, started_by};
+ghost use Rattle.oidc_device.specs.Steps.{polling_of, login_at, login_by, started_by};
 ghost use Rattle.oidc_oauth2.specs.declared.token_answers.OtherCause.TheVariants as other;
 ghost use Rattle.oidc_oauth2.specs.declared.token_answers.RequestTokenError.TheVariants as token;
 
@@ -78,9 +78,8 @@ fn polled<
         K.JsonWebKey K.KeyUse.JsonWebKeyUse in
         let before = known (C.log http.old) (C.script http.old) in
         let after = known (C.log http.new) (C.script http.new) in
-        (login : SeenDeviceLogin K) → login.client ≡ client.now → login.codes ≡ codes.now
-        → IsDue login.polling now.nanosecond
-        → Stepped types login now.nanosecond before after result }
+        (p : Polling) → IsDue p now.nanosecond
+        → Stepped types (login_at client.now codes.now p) now.nanosecond before after result }
     ensures never_falls { C.faults http.old ≤ C.faults http.new }
     ensures blamed { IsRequestBlamed device_errors (C.faults http.old) (C.faults http.new) result }
 {

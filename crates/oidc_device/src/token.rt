@@ -1,6 +1,6 @@
 // What a poll that was answered is worth: the ID token among its tokens, and the `at_hash` in that.
 
-ghost use Rattle.std.specs.Prelude.{◌≡◌, [], is_some, not, true, false, Err, IfErr, IfOk, MatchOption, OnOk, Result};
+ghost use Rattle.std.specs.Prelude.{◌≡◌, [], is_some, not, true, false, Err, IfErr, IfOk, IsErrAnd, MatchOption, OnOk, Result};
 ghost use Rattle.oidc_types.specs.{signing_text};
 ghost use Rattle.oidc_types.specs.declared.signing_error.SigningError.TheVariants.{UnsupportedAlg};
 ghost use Rattle.oidc_oauth2.specs.Replies.{Gives, Unless};
@@ -265,7 +265,7 @@ pub(crate) fn step_of_poll<
         → Gives token_errors polled reply
         → Gives device_errors result (poll_reply types client.now now.nanosecond reply) }
     ensures memory { IfErr polled (λ e. poll_wants_memory e ≡ true → result ≡ Err DeviceError.Memory) }
-    ensures fault { IfErr result (λ e. faulted e ≡ true → IfErr polled (λ p. is_fault p ≡ true)) }
+    ensures fault { IfErr result (λ e. faulted e ≡ true → IsErrAnd polled (λ p. is_fault p ≡ true)) }
 {
     match polled {
         Ok(PollStep::Pending) => Ok(DeviceStep::Pending),
