@@ -8,12 +8,14 @@
 //! - [`login`] has what that crate leaves to its callers: pending logins, from the URL that sends a user to the
 //!   provider to the claims that sign the user in, [`login::LoginSecrets`], drawn from a generator, and
 //!   [`login::front_channel`], which judges the answer of an implicit or a hybrid flow.
+//! - [`device`] has the login of a device: a command-line tool or a television, whose user signs in elsewhere.
 //!
 //! What each item promises stands in the page of its crate. The words of `oidc_login` that its contracts cite are passed on
 //! by `specs/Lib.antt`; a contract that speaks of the crates below logins lists the crate that it speaks of.
 #![tactic(auto)]
 
 pub mod core_types;
+pub mod device;
 pub mod login;
 
 // Texts, URLs and vocabularies.
