@@ -35,7 +35,7 @@ fn shown(alloc: Global, text: &str) -> Result<String, AllocError>
 {
     let mut line = String::new(alloc);
     for character in text.chars() {
-        if (' '..='~').contains(&character) {
+        if matches!(character, ' '..='~') {
             line.push(character)?;
         }
     }
@@ -68,9 +68,11 @@ enum Outcome {
     Over(String),
 }
 
+// The seconds of some thirty thousand years: behind that no moment is left.
+const LONGEST_WAIT: u128 = 1_000_000_000_000;
+
 fn later(now: i64, seconds: u128) -> Outcome {
-    // A wait that no moment is behind is one for the expiry.
-    let wait = i64::try_from(seconds).unwrap_or(i64::MAX);
+    let wait = seconds.min(LONGEST_WAIT) as i64;
     Outcome::Later(now.saturating_add(wait))
 }
 

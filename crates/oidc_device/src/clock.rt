@@ -18,6 +18,7 @@ use std::time::Duration;
 const NANOSECONDS: u128 = 1_000_000_000;
 
 // What is due at a moment.
+#[derive(Clone, Copy)]
 pub(crate) enum Turn {
     // Nothing any more.
     Over,
@@ -31,7 +32,7 @@ pub(crate) enum Turn {
 
 // The moments of a device login, in nanoseconds since the Unix epoch, and the seconds between two polls. The expiry is
 // kept as a number, since it may lie behind the last moment there is.
-#[derive(Clone, Copy, Drop)]
+#[derive(Clone, Copy)]
 pub(crate) struct Clock {
     expiry: i128,
     last_poll: Timestamp,
