@@ -88,12 +88,12 @@ module _ {AC GC Key Use : Type 0} (types : DeviceTypes AC GC Key Use) (login : S
       → (result : Result (DeviceStep AC GC) (DeviceError E)) → seen_reply result ≡ idle_reply t → Stepped types login now known known result
   idle_stepped known t is idle result own =
       let given : Gives device_errors result (idle_reply t) = or_known device_errors result (sym own) in
-      let step = idle_step t is idle [] in
+      let idling = idle_step t is idle [] in
       let all = rests device_errors (RestsOn types login now []) (Cause types login now []) (idle_reply t) result (idle-walk [] t (facts_at t is) idle) given in
       record {
         exchanged =
-            settled device_errors (device_step types login now) known result (or_known device_errors result (ap (λ (r : DeviceRun types). r.sent) step))
-            (subst (Gives device_errors result) (sym (ap (λ (r : DeviceRun types). r.reply) step)) given);
+            settled device_errors (device_step types login now) known result (or_known device_errors result (ap (λ (r : DeviceRun types). r.sent) idling))
+            (subst (Gives device_errors result) (sym (ap (λ (r : DeviceRun types). r.reply) idling)) given);
         cause = all.cause;
         refused = λ e c. subst (Gives device_errors result) (sym (refused t is idle [] e c)) given;
         answered = all.held;

@@ -1,7 +1,8 @@
 -- What is due at a moment, by its cases, and back.
 use Rattle.std.proofs.Common.{◌≡◌, ℕ, ◌+◌, ◌*◌, ◌<◌, ◌≤◌, ℤ, Bool, true, false, cond, refl, sym, ap, subst, ◌∙◌, arith}
-use Rattle.std.specs.Prelude.{pos, ◌+ℤ◌, ◌<ℤ◌, ◌≤ℤ◌, int_lt, not}
-use Rattle.std.specs.Int.{int_gap, div_ceil}
+use Rattle.std.specs.Prelude.{pos, negsuc, ◌+ℤ◌, ◌-ℤ◌, ◌<ℤ◌, ◌≤ℤ◌, int_lt, not}
+use Rattle.std.specs.Int.{int_gap, div_ceil, Width}
+use mir.Val.{of_z}
 use Rattle.std.proofs.lemmas.Int.{ints}
 use Rattle.std.proofs.lemmas.Grind.{div_ceil_times}
 use Rattle.std.proofs.lemmas.Bool.{true≢false}
@@ -31,11 +32,35 @@ pub never_both : (a b : ℤ) → a <ℤ b → b ≤ℤ a → ⊥
 never_both a b less more = omega (arith, ints)
 
 -- what is left up to a later moment
-gap_of : (moment now : ℤ) → now <ℤ moment → (moment ≡ now +ℤ pos (int_gap now moment)) × (0 < int_gap now moment)
-gap_of moment now h = (omega (arith, ints), omega (arith, ints))
+gap_sum : (moment now : ℤ) → now <ℤ moment → moment ≡ now +ℤ pos (int_gap now moment)
+gap_sum (pos m) (pos n) h = omega (arith, ints)
+gap_sum (pos m) (negsuc n) h = omega (arith, ints)
+gap_sum (negsuc m) (pos n) h = absurd (omega (arith, ints))
+gap_sum (negsuc m) (negsuc n) h = omega (arith, ints)
 
-same_gap : (moment now : ℤ) (left : ℕ) → 0 < left → moment ≡ now +ℤ pos left → int_gap now moment ≡ left
-same_gap moment now left some is = omega (arith, ints)
+gap_some : (moment now : ℤ) → now <ℤ moment → 0 < int_gap now moment
+gap_some (pos m) (pos n) h = omega (arith, ints)
+gap_some (pos m) (negsuc n) h = omega (arith, ints)
+gap_some (negsuc m) (pos n) h = absurd (omega (arith, ints))
+gap_some (negsuc m) (negsuc n) h = omega (arith, ints)
+
+same_gap : (moment now : ℤ) (left : ℕ) → moment ≡ now +ℤ pos left → int_gap now moment ≡ left
+same_gap (pos m) (pos n) left is = omega (arith, ints)
+same_gap (pos m) (negsuc n) left is = omega (arith, ints)
+same_gap (negsuc m) (pos n) left is = absurd (omega (arith, ints))
+same_gap (negsuc m) (negsuc n) left is = omega (arith, ints)
+
+less_gap : (moment now : ℤ) (left : ℕ) → moment ≡ now +ℤ pos left → moment -ℤ now ≡ pos left
+less_gap moment now left is = omega (arith, ints)
+
+-- the same by what the code takes
+pub gap_bits : (w : Width) (moment now : ℤ) → now <ℤ moment → of_z w (moment -ℤ now) ≡ int_gap now moment
+gap_bits w moment now h =
+    let is : moment -ℤ now ≡ pos (int_gap now moment) = less_gap moment now (int_gap now moment) (gap_sum moment now h) in
+    ap (of_z w) is
+
+less_by : (moment now : ℤ) (left : ℕ) → 0 < left → moment ≡ now +ℤ pos left → now <ℤ moment
+less_by moment now left some is = omega (arith, ints)
 
 -- ---- seconds, rounded up
 
@@ -61,13 +86,12 @@ module _ (p : Polling) (now : ℤ) where
 
   waits : p.is_over ≡ false → now <ℤ p.expiry → now <ℤ due p → Waits p now (seconds_until (due p) now)
   waits not_over unexpired early =
-      let gap = gap_of (due p) now early in
       let up = rounded (int_gap now (due p)) in record {
         not_over = not_over;
         unexpired = unexpired;
         left = int_gap now (due p);
-        some_left = gap.1;
-        due_then = gap.0;
+        some_left = gap_some (due p) now early;
+        due_then = gap_sum (due p) now early;
         enough = up.0;
         no_second_more = up.1;
       }
@@ -105,13 +129,11 @@ module _ (p : Polling) (now : ℤ) where
 
   early : (wait : ℕ) → Waits p now wait → now <ℤ due p
   early wait x =
-      let some = x.some_left in
-      let then = x.due_then in
-      omega (arith, ints)
+      less_by (due p) now x.left x.some_left x.due_then
 
   own_wait : (wait : ℕ) → Waits p now wait → seconds_until (due p) now ≡ wait
   own_wait wait x =
-      let gap = same_gap (due p) now x.left x.some_left x.due_then in
+      let gap = same_gap (due p) now x.left x.due_then in
       let up = rounded x.left in
       ap (λ n. div_ceil n 1_000_000_000) gap ∙ least x.left _ wait up.0 up.1 x.enough x.no_second_more
 

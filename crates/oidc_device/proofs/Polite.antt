@@ -22,7 +22,7 @@ use Rattle.oidc_device.specs.Causes.{IsDue}
 use Rattle.oidc_device.specs.Steps.{turn_of}
 use Rattle.oidc_device.specs.Polite.{Outcome, answered, wanting_before, wanting_behind, Step, Turn, polls, ends, wanting, run_by, turn_by, turns_from, last_poll, interval_after, interval_behind, has_ended, IsPolite, Polite}
 use Rattle.oidc_device.specs.declared.clock.Turn.{Turn as Due}
-use Rattle.oidc_device.specs.declared.clock.Turn.TheVariants as turn
+use Rattle.oidc_device.specs.declared.clock.Turn.TheVariants as dues
 use Rattle.oidc_device.specs.declared.step.DeviceStep.TheVariants as step
 use Rattle.oidc_device.specs.declared.errors.DeviceError.TheVariants as device
 use Rattle.oidc_device.proofs.Walks.{Walk, at_or, at_when, at_for, at_value}
@@ -102,28 +102,28 @@ module _ {AC GC Key Use : Type 0} (types : DeviceTypes AC GC Key Use) where
     -- ---- a step, by what is due
 
     at_turn : (t : Due) → IsTurn login.polling now t → IsFair login now (run_by_turn types login now answers t)
-    at_turn turn.Over fact = record {
+    at_turn dues.Over fact = record {
       sent_at_polls = λ none. refl;
       own_request = inl refl;
       is_due = λ polled. absurd (false≢true polled);
       over = (λ is. fact, λ is. refl);
       silent = λ is. refl;
     }
-    at_turn turn.Expired fact = record {
+    at_turn dues.Expired fact = record {
       sent_at_polls = λ none. refl;
       own_request = inl refl;
       is_due = λ polled. absurd (false≢true polled);
       over = (λ is. absurd (cc), λ is. never _ is fact.not_over);
       silent = λ is. refl;
     }
-    at_turn (turn.Wait wait) fact = record {
+    at_turn (dues.Wait wait) fact = record {
       sent_at_polls = λ none. refl;
       own_request = inl refl;
       is_due = λ polled. absurd (false≢true polled);
       over = (λ is. absurd (cc), λ is. never _ is fact.not_over);
       silent = λ is. refl;
     }
-    at_turn turn.Poll fact = poll_fair fact
+    at_turn dues.Poll fact = poll_fair fact
 
     step_fair : IsFair login now (device_step types login now answers)
     step_fair = subst (IsFair login now) (sym (step_at types login now answers _ refl)) (at_turn (turn_of login.polling now) (turn_facts login.polling now))

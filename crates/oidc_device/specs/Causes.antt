@@ -9,7 +9,7 @@ use Rattle.oidc_oauth2.specs.AnswerCauses.{AnswerCause, IsTokenAnswer}
 use Rattle.oidc_oauth2.specs.TokenAnswers.{TokenRefusal}
 use Rattle.oidc_oauth2.specs.TokenResponse.{seconds}
 use Rattle.oidc_oauth2_requests.specs.FormRequests.{SeenFormRequest}
-use Rattle.oidc_oauth2_requests.specs.RequestAnswers as requests
+use Rattle.oidc_oauth2_requests.specs.RequestAnswers.{DeviceError as PollError}
 use Rattle.oidc_oauth2_requests.specs.RequestCauses as requests
 use Rattle.oidc_oauth2_requests.specs.RequestCauses.{PollCause, StepCause, IsHeld}
 use Rattle.oidc_oauth2_requests.specs.declared.device.PollStep.{PollStep}
@@ -93,7 +93,7 @@ module _ {AC GC Key Use : Type 0} (types : DeviceTypes AC GC Key Use) (login : S
     pub said : IsHeld ask answers (StepCause (tokens_read types login.client.reading)) answered
 
   -- a poll was due, and is refused with this
-  pub record IsRefused (e : TokenRefusal requests.DeviceError) : Type 0 where
+  pub record IsRefused (e : TokenRefusal PollError) : Type 0 where
     pub is_due : IsDue login.polling now
     pub ask : SeenFormRequest
     pub own_ask : poll_ask login ≡ Some ask
