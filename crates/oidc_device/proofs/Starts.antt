@@ -1,12 +1,12 @@
 -- A start: it is the one request for codes, and what its result rests on.
-use Rattle.std.proofs.Common.{◌≡◌, ℤ, List, Bool, true, false, Option, Some, Result, Ok, Err, refl, sym, ap, subst, ◌∙◌}
+use Rattle.std.proofs.Common.{◌≡◌, ℕ, ℤ, List, Bool, true, false, Option, Some, Result, Ok, Err, refl, sym, ap, subst, ◌∙◌}
 use Rattle.std.specs.Prelude.{IfOk, IfErr}
 use Rattle.oidc_types.specs.{TextAndUrl}
 use Rattle.oidc_oauth2.specs.Messages.{SeenAnswer}
 use Rattle.oidc_oauth2.specs.Replies.{Unless, OrMemory, Gives}
 use Rattle.oidc_oauth2.specs.Exchanges.{Known, Run, Follows, Untouched}
 use Rattle.oidc_oauth2.specs.AnswerCauses.{AnswerCause, IsTokenAnswer}
-use Rattle.oidc_oauth2.specs.TokenAnswers.{TokenRefusal, token_answer, token_errors, seen_refusal, wants_memory as request_wants}
+use Rattle.oidc_oauth2.specs.TokenAnswers.{TokenRefusal, token_answer, token_errors, seen_refusal, is_fault, wants_memory as request_wants}
 use Rattle.oidc_oauth2.specs.declared.token_answers.RequestTokenError.{RequestTokenError}
 use Rattle.oidc_oauth2.specs.declared.token_answers.RequestTokenError.TheVariants as token
 use Rattle.oidc_oauth2.proofs.Runs.{unless_map, memory_first, left_alone}
@@ -15,11 +15,11 @@ use Rattle.oidc_oauth2_requests.specs.RequestCauses as requests
 use Rattle.oidc_oauth2_requests.specs.RequestRuns.{request_run, RanForRecord}
 use Rattle.oidc_client.specs.Client.{device_request_at}
 use Rattle.oidc_device.specs.Types.{SeenDeviceClient}
-use Rattle.oidc_device.specs.Errors.{StartRefusal, start_errors, start_wants_memory, start_hides_memory, seen_start}
-use Rattle.oidc_device.specs.Logins.{SeenCodes, SeenDeviceLogin, CoreError, error_read, codes_read, first_login, codes_ask, asked_run, start_reply, start_run}
+use Rattle.oidc_device.specs.Errors.{StartRefusal, start_errors, start_wants_memory, start_faulted, start_hides_memory, seen_start}
+use Rattle.oidc_device.specs.Logins.{Polling, SeenCodes, SeenDeviceLogin, CoreError, error_read, codes_read, first_login, codes_ask, asked_run, start_reply, start_run}
 use Rattle.oidc_device.specs.Causes.{HasNoCodes, StartCause, IsStarted}
 use Rattle.oidc_device.specs.Runs.{Started}
-use Rattle.oidc_device.specs.Steps.{start_of, started_by}
+use Rattle.oidc_device.specs.Steps.{start_of, codes_or_refusal, started_by, polling_from, login_at}
 use Rattle.oidc_device.specs.declared.errors.StartError.{StartError}
 use Rattle.oidc_device.specs.declared.errors.StartError.TheVariants as start
 use Rattle.oidc_device.proofs.Mapped.{follows_by, asked_at}
@@ -35,6 +35,31 @@ module _ {E : Type 0} where
   start_hides (token.TooLong body) = refl
   start_hides token.Memory = refl
 
+module _ {E : Type 0} where
+  pub codes_hide : (asked : Result SeenCodes (RequestTokenError E CoreError)) → IfErr (codes_or_refusal asked) (λ e. start_hides_memory e ≡ false)
+  codes_hide (Ok codes) = tt
+  codes_hide (Err e) = start_hides e
+
+  err_blamed : (e : RequestTokenError E CoreError) (R : Type 0) → (is_fault e ≡ true → R) → start_faulted (start_of e) ≡ true → R
+  err_blamed (token.ServerResponse error) R blamed is = blamed is
+  err_blamed (token.Request cause) R blamed is = blamed is
+  err_blamed (token.Parse refusal body) R blamed is = blamed is
+  err_blamed (token.Other cause) R blamed is = blamed is
+  err_blamed (token.TooLong body) R blamed is = blamed is
+  err_blamed token.Memory R blamed is = absurd (cc)
+
+  pub codes_blamed : (asked : Result SeenCodes (RequestTokenError E CoreError)) (R : Type 0) → IfErr asked (λ e. is_fault e ≡ true → R)
+      → IfErr (codes_or_refusal asked) (λ e. start_faulted e ≡ true → R)
+  codes_blamed (Ok codes) R blamed = tt
+  codes_blamed (Err e) R blamed = err_blamed e R blamed
+
+-- ---- the first state
+
+pub first_is : {Key : Type 0} (client : SeenDeviceClient Key) (now : ℤ) (codes : SeenCodes) (p : Polling) (expires_in interval : ℕ) → p ≡ polling_from now expires_in interval
+    → expires_in ≡ codes.expires_in → interval ≡ codes.interval → login_at client codes p ≡ first_login client now codes
+first_is client now codes p expires_in interval is own_expiry own_interval =
+    ap (login_at client codes) (is ∙ ap (λ n. polling_from now n interval) own_expiry ∙ ap (polling_from now codes.expires_in) own_interval)
+
 module _ {Key : Type 0} (client : SeenDeviceClient Key) (now : ℤ) where
   abbrev Given : {E : Type 0} → Result (SeenDeviceLogin Key) (StartError E) → Result (SeenDeviceLogin Key) StartRefusal → Type 0
   Given result reply = Gives start_errors result reply
@@ -42,8 +67,7 @@ module _ {Key : Type 0} (client : SeenDeviceClient Key) (now : ℤ) where
   module _ {E : Type 0} where
     -- the login by what came of the request
     abbrev pub made_of : Result SeenCodes (RequestTokenError E CoreError) → Result (SeenDeviceLogin Key) (StartError E)
-    made_of (Ok codes) = Ok (first_login client now codes)
-    made_of (Err e) = Err (start_of e)
+    made_of asked = started_by client now (codes_or_refusal asked)
 
     err_given : (e : RequestTokenError E CoreError) (r : Result SeenCodes (TokenRefusal CoreError)) → Gives token_errors {A = SeenCodes} (Err e) r
         → Given (Err (start_of e)) (start_reply client now r)

@@ -96,6 +96,11 @@ accepted_token types client now token access_token = do
 
 -- ---- a start and a step, on the parts of a login
 
+-- the codes, or the refusal of a start, by what came of the request
+abbrev pub codes_or_refusal : {E : Type 0} → Result SeenCodes (RequestTokenError E CoreError) → Result SeenCodes (StartError E)
+codes_or_refusal (Ok codes) = Ok codes
+codes_or_refusal (Err e) = Err (start_of e)
+
 -- a login that starts at this moment, by its codes
 abbrev pub started_by : {Key E : Type 0} → SeenDeviceClient Key → ℤ → Result SeenCodes (StartError E)
     → Result (SeenDeviceLogin Key) (StartError E)

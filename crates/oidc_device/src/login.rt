@@ -11,7 +11,7 @@ ghost use Rattle.oidc_device.specs.Logins.{Polling, first_login, codes_ask, poll
 ghost use Rattle.oidc_device.specs.DeviceStep.{login_behind};
 ghost use Rattle.oidc_device.specs.Causes.{HasExpired, Waits, IsDue, HasNoAddress, IfDone};
 ghost use Rattle.oidc_device.specs.Runs.{Started, Stepped};
-ghost use Rattle.oidc_device.specs.Steps.{polling_of, login_at, login_by, started_by};
+ghost use Rattle.oidc_device.specs.Steps.{codes_or_refusal, polling_of, login_at, login_by, started_by};
 ghost use Rattle.oidc_oauth2.specs.declared.token_answers.OtherCause.TheVariants as other;
 ghost use Rattle.oidc_oauth2.specs.declared.token_answers.RequestTokenError.TheVariants as token;
 
@@ -23,12 +23,24 @@ use crate::token::step_of_poll;
 use jiff::Timestamp;
 use oidc_claims::{AdditionalClaims, GenderClaim};
 use oidc_keys::JsonWebKey;
-use oidc_oauth2::{CoreDeviceAuthorizationResponse, SyncHttpClient};
+use oidc_oauth2::{CoreDeviceAuthorizationResponse, CoreRequestTokenError, SyncHttpClient};
 use oidc_types::{
     CoreJwsSigningAlgorithm, EndUserVerificationUrl, UserCode, VerificationUriComplete,
 };
 use std::alloc::Global;
 use std::marker::Model;
+
+// The codes, by what came of the request.
+fn codes_of<E>(
+    asked: Result<CoreDeviceAuthorizationResponse, CoreRequestTokenError<E>>,
+) -> Result<CoreDeviceAuthorizationResponse, StartError<E>>
+    ensures { result ≡ codes_or_refusal asked }
+{
+    match asked {
+        Ok(codes) => Ok(codes),
+        Err(error) => Err(StartError::of_request(error)),
+    }
+}
 
 // The codes of a device.
 fn codes_for<
@@ -51,10 +63,10 @@ fn codes_for<
     ensures no_inner_memory { IfErr result (λ e. start_hides_memory e ≡ false) }
 {
     match client.exchange_device_code(alloc) {
-        Ok(request) => match request.request(alloc, http) {
-            Ok(codes) => Ok(codes),
-            Err(error) => Err(StartError::of_request(error)),
-        },
+        Ok(request) => {
+            let asked = request.request(alloc, http);
+            codes_of(asked)
+        }
         Err(_) => Err(StartError::Memory),
     }
 }
