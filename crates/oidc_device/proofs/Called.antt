@@ -15,10 +15,11 @@ use Rattle.oidc_tokens.specs.declared.verification.refusals.ClaimsVerificationEr
 use Rattle.oidc_device.specs.Types.{DeviceTypes, SeenDeviceClient}
 use Rattle.oidc_device.specs.Token.{IsAcceptedBy, HasOwnHash}
 use Rattle.oidc_device.specs.SignedIn.{SeenDeviceSignedIn}
-use Rattle.oidc_device.specs.Errors.{Error, seen, wants_memory, faulted, hides_memory, device_errors, StartRefusal, seen_start, start_wants_memory, start_errors}
-use Rattle.oidc_device.specs.Logins.{SeenDeviceLogin, first_login, codes_ask, poll_ask}
+use Rattle.oidc_device.specs.Errors.{Error, seen, wants_memory, faulted, hides_memory, device_errors, StartRefusal, seen_start, start_wants_memory, start_faulted, start_hides_memory, start_errors}
+use Rattle.oidc_device.specs.Logins.{SeenCodes, SeenDeviceLogin, first_login, codes_ask, poll_ask}
 use Rattle.oidc_device.specs.Causes.{IsRefused, HasNoAddress, HasExpired, Waits, IsDue, HasNoCodes, StartCause, IsStarted, IsSignedIn, RestsOn, Cause, IfDone}
 use Rattle.oidc_device.specs.Runs.{Started, Stepped}
+use Rattle.oidc_device.specs.Steps.{started_by}
 use Rattle.oidc_device.specs.declared.step.DeviceStep.{DeviceStep}
 use Rattle.oidc_device.specs.declared.step.DeviceStep.TheVariants as step
 use Rattle.oidc_device.specs.declared.errors.StartError.{StartError}
@@ -193,6 +194,17 @@ module _ {AC GC Key Use E : Type 0} (types : DeviceTypes AC GC Key Use) (login :
     no_inner_memory = by_cause result ran.cause
 
 -- ---- a start
+
+module _ {Key E : Type 0} (client : SeenDeviceClient Key) (now : ℤ) where
+  pub start_blamed : (codes : Result SeenCodes (StartError E)) (R : Type 0) → IfErr codes (λ e. start_faulted e ≡ true → R)
+      → IfErr (started_by client now codes) (λ e. start_faulted e ≡ true → R)
+  start_blamed (Ok codes) R blamed = tt
+  start_blamed (Err e) R blamed = blamed
+
+  pub start_hides : (codes : Result SeenCodes (StartError E)) → IfErr codes (λ e. start_hides_memory e ≡ false)
+      → IfErr (started_by client now codes) (λ e. start_hides_memory e ≡ false)
+  start_hides (Ok codes) hidden = tt
+  start_hides (Err e) hidden = hidden
 
 module _ {Key E : Type 0} (client : SeenDeviceClient Key) (now : ℤ) (before after : Known) (result : Result (SeenDeviceLogin Key) (StartError E))
     (ran : Started client now before after result) where

@@ -211,7 +211,20 @@ impl<
         // Want of memory is `Memory`, and never stands inside another refusal.
         ensures no_inner_memory { IfErr result (λ e. start_hides_memory e ≡ false) }
     {
-        match codes_for(alloc, client, http) {
+        let codes = codes_for(alloc, client, http);
+        DeviceLogin::of_codes(alloc, client, codes, now)
+    }
+
+    // The login that starts now, by its codes.
+    fn of_codes<E>(
+        alloc: Global,
+        client: &'c DeviceClient<AC, GC, K>,
+        codes: Result<CoreDeviceAuthorizationResponse, StartError<E>>,
+        now: Timestamp,
+    ) -> Result<Self, StartError<E>>
+        ensures { result ≡ started_by client.now now.nanosecond codes }
+    {
+        match codes {
             Ok(codes) => {
                 let clock = Clock::new(now, codes.expires_in(), codes.interval());
                 Ok(DeviceLogin {
