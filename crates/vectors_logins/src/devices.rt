@@ -133,7 +133,7 @@ fn moment_in(call: &Case) -> Result<Timestamp, CaseError> {
     let Some(text) = call.optional("nanos") else {
         return Ok(seconds);
     };
-    if text.len() > 9 || text.bytes().any(|digit| !digit.is_ascii_digit()) {
+    if text.len() > 9 || text.as_bytes().first() == Some(&b'+') {
         return Err(CaseError::NoCase);
     }
     let nanoseconds = number::<u32>(text)?;
@@ -186,11 +186,19 @@ fn transport(alloc: Global, answer: Answer) -> Result<Recorded, CaseError> {
     Ok(Recorded::new(alloc, answers))
 }
 
+// What stands behind the first word of a line.
+fn behind<'t>(line: &'t str, word: &str) -> &'t str {
+    match line.strip_prefix(word) {
+        Some(rest) => rest,
+        None => line,
+    }
+}
+
 // Puts the requests that were sent.
 fn push_requests(alloc: Global, form: &mut FormText, http: &Recorded) -> Result<(), CaseError> {
     for request in http.requests() {
         let line = request_line(alloc, request)?;
-        form.push("request", line.as_str().trim_start_matches("ok "))?;
+        form.push("request", behind(line.as_str(), "ok "))?;
     }
     Ok(())
 }
@@ -204,8 +212,9 @@ fn login_line(
     steps: Vec<Call>,
 ) -> Result<String, CaseError> {
     let mut form = FormText::new(alloc);
-    let mut http = transport(alloc, start.answer)?;
-    let started = DeviceLogin::start(alloc, client, &mut http, start.now);
+    let Call { now, answer } = start;
+    let mut http = transport(alloc, answer)?;
+    let started = DeviceLogin::start(alloc, client, &mut http, now);
     push_requests(alloc, &mut form, &http)?;
     match started {
         Ok(mut login) => {
@@ -256,8 +265,9 @@ fn push_step(
     login: &mut Login<'_>,
     step: Call,
 ) -> Result<(), CaseError> {
-    let mut http = transport(alloc, step.answer)?;
-    let reply = login.step(&mut http, step.now);
+    let Call { now, answer } = step;
+    let mut http = transport(alloc, answer)?;
+    let reply = login.step(&mut http, now);
     push_requests(alloc, form, &http)?;
     let line = match reply {
         Ok(step) => step_line(alloc, step)?,
@@ -315,11 +325,9 @@ fn token_line(
     refusal: &RequestTokenError<Fault, DeviceCodeErrorResponse>,
 ) -> Result<String, CaseError> {
     let line = refused_line(alloc, refusal)?;
-    match line.as_str() {
-        "refused too_long" => Ok(line),
-        words => {
-            let words = format!(in alloc; "token {}", words.trim_start_matches("refused "))?;
-            refused_word(alloc, words.as_str())
-        }
+    if line.as_str() == "refused too_long" {
+        return Ok(line);
     }
+    let words = format!(in alloc; "token {}", behind(line.as_str(), "refused "))?;
+    refused_word(alloc, words.as_str())
 }

@@ -18,7 +18,12 @@ pub(crate) enum Operation {
 
 impl Operation {
     /// Every operation.
-    const ALL: [Operation; 4] = [Operation::Run, Operation::Front, Operation::DeviceLogin, Operation::Display];
+    const ALL: [Operation; 4] = [
+        Operation::Run,
+        Operation::Front,
+        Operation::DeviceLogin,
+        Operation::Display,
+    ];
 
     // Its name, the value of `op`.
     fn name(self) -> &'static str
