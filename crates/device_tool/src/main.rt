@@ -43,7 +43,10 @@ fn shown(alloc: Global, text: &str) -> Result<String, AllocError>
 }
 
 // An address as it is shown: none where it isn't `https`.
-fn shown_address(alloc: Global, address: &EndUserVerificationUrl) -> anyhow::Result<Option<String>> {
+fn shown_address(
+    alloc: Global,
+    address: &EndUserVerificationUrl,
+) -> anyhow::Result<Option<String>> {
     if address.url().scheme() != "https" {
         return Ok(None);
     }

@@ -2,7 +2,7 @@
 
 use http::StatusCode;
 use http_header::{CONTENT_TYPE, HeaderValue};
-use oidc::core_types::CoreJwsSigningAlgorithm;
+use oidc::core_types::{CoreJsonWebKey, CoreJwsSigningAlgorithm};
 use oidc::device::CoreDeviceClient;
 use oidc::login::LoginClient;
 use oidc::{
@@ -10,7 +10,6 @@ use oidc::{
     EmptyAdditionalProviderMetadata, IssuerUrl, JsonWebKeySetUrl, ProviderMetadata, Recorded,
     TokenUrl,
 };
-use oidc::core_types::CoreJsonWebKey;
 use std::alloc::Global;
 
 type Metadata = ProviderMetadata<EmptyAdditionalProviderMetadata, CoreJsonWebKey>;
@@ -36,9 +35,11 @@ pub fn client(alloc: Global) -> anyhow::Result<CoreDeviceClient> {
     let device = DeviceAuthorizationUrl::new(alloc, text(alloc, "https://example/device")?)?;
     let token = TokenUrl::new(alloc, text(alloc, "https://example/token")?)?;
     let client: LoginClient = Client::from_provider_metadata(metadata(alloc)?, id, Some(secret));
-    Ok(client
-        .set_device_authorization_url(device)
-        .set_token_uri(token))
+    Ok(
+        client
+            .set_device_authorization_url(device)
+            .set_token_uri(token),
+    )
 }
 
 // A bell stands in the code, which the tool doesn't show.

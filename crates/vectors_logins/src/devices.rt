@@ -10,9 +10,7 @@ use oidc_claims::AllOtherClaims;
 use oidc_client::{Client, ProviderMetadata};
 use oidc_device::{DeviceClient, DeviceError, DeviceLogin, DeviceSignedIn, DeviceStep, StartError};
 use oidc_login::{LoginError, MetadataClient};
-use oidc_oauth2::{
-    Answer, AuthType, DeviceCodeErrorResponse, Fault, Recorded, RequestTokenError,
-};
+use oidc_oauth2::{Answer, AuthType, DeviceCodeErrorResponse, Fault, Recorded, RequestTokenError};
 use oidc_pairs::FormText;
 use oidc_tokens::Payload;
 use oidc_types::{
@@ -39,7 +37,11 @@ type Metadata = ProviderMetadata<EmptyAdditionalProviderMetadata, VerifierKey>;
 /// `device_login`: what the start and each step answer, in the order in which they stand.
 pub(crate) fn device_login(alloc: Global, case: &Case) -> Result<String, CaseError> {
     let required = ["id", "auth", "issuer", "algs", "device", "token", "start"];
-    case.check_all(&required, &["secret", "reading"], &["key", "openid", "step"])?;
+    case.check_all(
+        &required,
+        &["secret", "reading"],
+        &["key", "openid", "step"],
+    )?;
     let start = call_in(alloc, "start", case.value("start"))?;
     let steps = steps_in(alloc, case)?;
     let client = client_in(alloc, case)?;
@@ -113,9 +115,11 @@ fn client_in(alloc: Global, case: &Case) -> Result<EndpointsClient, CaseError> {
     let device: DeviceAuthorizationUrl = url_of(alloc, case.value("device"))?;
     let token: TokenUrl = url_of(alloc, case.value("token"))?;
     let client = switched_client(alloc, case)?;
-    Ok(client
-        .set_device_authorization_url(device)
-        .set_token_uri(token))
+    Ok(
+        client
+            .set_device_authorization_url(device)
+            .set_token_uri(token),
+    )
 }
 
 // ---- the calls
