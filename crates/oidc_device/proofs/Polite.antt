@@ -20,7 +20,7 @@ use Rattle.oidc_device.specs.Logins.{Polling, due, SeenCodes, SeenDeviceLogin, f
 use Rattle.oidc_device.specs.DeviceStep.{Reply, DeviceRun, user_of_tokens, judged_step, poll_reply, poll_run, polling_refused, polling_behind, login_behind, device_step}
 use Rattle.oidc_device.specs.Causes.{IsDue}
 use Rattle.oidc_device.specs.Steps.{turn_of}
-use Rattle.oidc_device.specs.Polite.{Outcome, answered, wanting_before, wanting_behind, Step, Turn, polls, ends, wanting, run_by, turn_by, turns_from, last_poll, interval_after, interval_behind, has_ended, IsPolite, Polite}
+use Rattle.oidc_device.specs.Polite.{Outcome, answered, wanting_before, wanting_behind, Step, Turn, polls, ends, in_want, wanting, run_by, turn_by, turns_from, last_poll, interval_after, interval_behind, has_ended, IsPolite, Polite}
 use Rattle.oidc_device.specs.declared.clock.Turn.{Turn as Due}
 use Rattle.oidc_device.specs.declared.clock.Turn.TheVariants as dues
 use Rattle.oidc_device.specs.declared.step.DeviceStep.TheVariants as step
@@ -131,7 +131,7 @@ module _ {AC GC Key Use : Type 0} (types : DeviceTypes AC GC Key Use) where
   -- ---- want of memory
 
   wanting_by : (login : SeenDeviceLogin Key) (now : ℤ) (meant : DeviceRun types) (sent : List SeenRequest) → IsFair login now meant → OwnRequest login sent
-      → (b : Bool) → polls meant.reply ≡ b → IsFair login now (cond b (record { reply = Err device.Memory; sent = sent }) meant)
+      → (b : Bool) → polls meant.reply ≡ b → IsFair login now (cond b (in_want types sent) meant)
   wanting_by login now meant sent fair own true polled =
       let never_over : login.polling.is_over ≡ true → ⊥ = λ is. true≢false (sym polled ∙ ap polls (fair.over.1 is)) in record {
         sent_at_polls = λ none. absurd (true≢false none);
@@ -201,7 +201,7 @@ module _ {AC GC : Type 0} (now : ℤ) (p : Polling) where
 record IsPoliteFrom {AC GC Key : Type 0} (login : SeenDeviceLogin Key) (earlier : List (Turn AC GC)) (turn : Turn AC GC) : Type 0 where
   pub sent_at_polls : polls turn.reply ≡ false → turn.sent ≡ []
   pub own_request : OwnRequest login turn.sent
-  pub spaced : polls turn.reply ≡ true → last_poll login.polling.last_poll earlier +ℤ pos (seconds (interval_behind login.polling.interval earlier)) ≤ℤ turn.now
+  pub spaced : polls turn.reply ≡ true → (last_poll login.polling.last_poll earlier +ℤ pos (seconds (interval_behind login.polling.interval earlier))) ≤ℤ turn.now
   pub unexpired : polls turn.reply ≡ true → turn.now <ℤ login.polling.expiry
   pub over : (turn.reply ≡ Err device.Over) ↔ ((login.polling.is_over || has_ended earlier) ≡ true)
   pub silent : (login.polling.is_over || has_ended earlier) ≡ true → turn.sent ≡ []
@@ -228,9 +228,9 @@ module _ {AC GC Key Use : Type 0} (types : DeviceTypes AC GC Key Use) where
         sent_at_polls = polite.sent_at_polls;
         own_request = polite.own_request;
         spaced = λ polled.
-            subst (λ m. m +ℤ pos (seconds (interval_behind (interval_after login.polling.interval reply) rest)) ≤ℤ turn.now) (ap (λ m. last_poll m rest) l.last)
-            (subst (λ i. last_poll (polling_behind s.now login.polling reply).last_poll rest +ℤ pos (seconds (interval_behind i rest)) ≤ℤ turn.now) l.interval (polite.spaced polled));
-        unexpired = λ polled. subst (λ m. turn.now <ℤ m) l.expiry (polite.unexpired polled);
+            subst (λ (m : ℤ). (m +ℤ pos (seconds (interval_behind (interval_after login.polling.interval reply) rest))) ≤ℤ turn.now) (ap (λ (m : ℤ). last_poll m rest) l.last)
+            (subst (λ (i : ℕ). (last_poll (polling_behind s.now login.polling reply).last_poll rest +ℤ pos (seconds (interval_behind i rest))) ≤ℤ turn.now) l.interval (polite.spaced polled));
+        unexpired = λ polled. subst (λ (m : ℤ). turn.now <ℤ m) l.expiry (polite.unexpired polled);
         over = (λ is. sym over ∙ polite.over.0 is, λ is. polite.over.1 (over ∙ is));
         silent = λ is. polite.silent (over ∙ is);
       }

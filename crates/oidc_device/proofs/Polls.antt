@@ -1,6 +1,6 @@
 -- A step where a poll is due: it is the one request of polling, and what its result rests on.
 use Rattle.std.proofs.Common.{◌≡◌, ℕ, ℤ, List, Bool, true, false, cond, Option, None, Some, Result, Ok, Err, refl, sym, ap, subst, ◌∙◌}
-use Rattle.std.specs.Prelude.{IfOk, IfErr, IsSomeAnd}
+use Rattle.std.specs.Prelude.{IfOk, IfErr, not}
 use Rattle.oidc_types.specs.{TextAndUrl}
 use Rattle.oidc_oauth2.specs.Messages.{SeenAnswer}
 use Rattle.oidc_oauth2.specs.Replies.{Unless, OrMemory, Gives}
@@ -19,8 +19,8 @@ use Rattle.oidc_client.specs.Client.{token_request_at}
 use Rattle.oidc_device.specs.Types.{DeviceTypes, SeenDeviceClient}
 use Rattle.oidc_device.specs.Token.{Tokens, tokens_read}
 use Rattle.oidc_device.specs.Errors.{Error, device_errors, wants_memory}
-use Rattle.oidc_device.specs.Logins.{Polling, SeenCodes, SeenDeviceLogin, poll_ask, asked_run}
-use Rattle.oidc_device.specs.DeviceStep.{Reply, DeviceRun, unsent, seconds_until, judged_step, poll_reply, poll_run, device_step}
+use Rattle.oidc_device.specs.Logins.{Polling, due, SeenCodes, SeenDeviceLogin, poll_ask, asked_run}
+use Rattle.oidc_device.specs.DeviceStep.{Reply, DeviceRun, unsent, has_come, seconds_until, judged_step, poll_reply, poll_run, device_step}
 use Rattle.oidc_device.specs.Causes.{IsDue, Waits, Polled, IsRefused, RestsOn, Cause}
 use Rattle.oidc_device.specs.Runs.{Stepped}
 use Rattle.oidc_device.specs.Steps.{turn_of, login_at}
@@ -51,14 +51,15 @@ module _ {AC GC Key Use : Type 0} (types : DeviceTypes AC GC Key Use) (login : S
   abbrev turn_by : Bool → Bool → Bool → ℕ → Turn
   turn_by over expired come wait = cond over turn.Over (cond expired turn.Expired (cond come turn.Poll (turn.Wait wait)))
 
-  by_cases : (over expired come : Bool) (wait : ℕ) → step_by over expired (cond come false true) wait ≡ run_by_turn (turn_by over expired come wait)
+  by_cases : (over expired come : Bool) (wait : ℕ) → step_by over expired (not come) wait ≡ run_by_turn (turn_by over expired come wait)
   by_cases true expired come wait = refl
   by_cases false true come wait = refl
   by_cases false false true wait = refl
   by_cases false false false wait = refl
 
   pub step_by_turn : device_step types login now answers ≡ run_by_turn (turn_of login.polling now)
-  step_by_turn = by_cases _ _ _ _
+  step_by_turn =
+      by_cases login.polling.is_over (has_come login.polling.expiry now) (has_come (due login.polling) now) (seconds_until (due login.polling) now)
 
   pub step_at : (t : Turn) → turn_of login.polling now ≡ t → device_step types login now answers ≡ run_by_turn t
   step_at t is = step_by_turn ∙ ap run_by_turn is

@@ -110,6 +110,12 @@ module _ {AC GC Key Use : Type 0} (types : DeviceTypes AC GC Key Use) (login : S
   unfolding user_of_tokens
   tokens_by tokens found is = ap (by_token tokens) is
 
+  abbrev done : SeenDeviceSignedIn AC GC → Reply AC GC
+  done user = Ok (step.Done user)
+
+  abbrev unhashed : SigningError → Reply AC GC
+  unhashed refusal = Err (device.Signing refusal)
+
   abbrev judged : Result (SeenDeviceSignedIn AC GC) Error → Reply AC GC
   judged m = m >>= λ user. Ok (step.Done user)
 
@@ -148,7 +154,7 @@ module _ {AC GC Key Use : Type 0} (types : DeviceTypes AC GC Key Use) (login : S
   pub signed_back : (user : SeenDeviceSignedIn AC GC) (is : IsUser user) → judged_step types login.client now (poll.Done is.held.tokens) ≡ Ok (step.Done user)
   signed_back user is =
       judged_as is.held.tokens _ (fitting is.held (record { holds = is.holds; accepts = is.accepted }) is.fits_hash _ refl)
-      ∙ ap (λ u. Ok (step.Done u)) (own_user user is)
+      ∙ ap done (own_user user is)
 
   pub lacks_back : (x : LacksIdToken types login now answers) → judged_step types login.client now (poll.Done x.tokens) ≡ Err device.NoIdToken
   lacks_back x = judged_as x.tokens _ (tokens_by x.tokens None x.no_id_token)
@@ -159,7 +165,7 @@ module _ {AC GC Key Use : Type 0} (types : DeviceTypes AC GC Key Use) (login : S
   pub unhashed_back : (refusal : SigningError) (x : LacksHash types login now answers refusal) → judged_step types login.client now (poll.Done x.held.tokens) ≡ Err (device.Signing refusal)
   unhashed_back refusal x =
       judged_as x.held.tokens _ (claimed x.held x.names_hash.accepted (Some x.claim) None x.names_hash.own_claim x.no_hash)
-      ∙ ap (λ r. Err (device.Signing r)) (sym x.names_algorithm)
+      ∙ ap unhashed (sym x.names_algorithm)
 
   pub other_back : (x : HasOtherHash types login now answers) → judged_step types login.client now (poll.Done x.held.tokens) ≡ Err device.TokenHash
   other_back x =

@@ -35,7 +35,7 @@ module _ {AC GC : Type 0} where
   -- a poll was due
   abbrev pub polls : Reply AC GC → Bool
   polls (Ok (step.Wait wait)) = false
-  polls (Ok answered) = true
+  polls (Ok said) = true
   polls (Err device.Over) = false
   polls (Err device.Expired) = false
   polls (Err e) = true
@@ -43,17 +43,20 @@ module _ {AC GC : Type 0} where
   -- the login ends with this answer
   abbrev pub ends : Reply AC GC → Bool
   ends (Ok (step.Done user)) = true
-  ends (Ok answered) = false
+  ends (Ok said) = false
   ends (Err device.Over) = false
   ends (Err device.Memory) = false
   ends (Err (device.Token (token_error.Request cause))) = false
   ends (Err e) = true
 
 module _ {AC GC Key Use : Type 0} (types : DeviceTypes AC GC Key Use) where
+  -- want of memory, where these were sent
+  abbrev pub in_want : List SeenRequest → DeviceRun types
+  in_want sent = record { reply = Err device.Memory; sent = sent }
+
   -- there is no memory for what would be answered, where a poll is due
   abbrev pub wanting : DeviceRun types → List SeenRequest → DeviceRun types
-  wanting meant sent =
-      if polls meant.reply then record { reply = Err device.Memory; sent = sent } else meant
+  wanting meant sent = if polls meant.reply then in_want sent else meant
 
   -- a step by what comes of it
   abbrev pub run_by : SeenDeviceLogin Key → ℤ → Outcome → DeviceRun types
@@ -107,9 +110,9 @@ pub record IsPolite {AC GC Key : Type 0} (client : SeenDeviceClient Key) (codes 
       × (turn.sent ≡ request ∷ []))
   -- A poll comes no earlier than the interval by all answers so far after the poll before it, or after the start,
   pub spaced : polls turn.reply ≡ true
-      → last_poll start earlier +ℤ pos (seconds (interval_behind (whole_seconds codes.interval) earlier)) ≤ℤ turn.now
+      → (last_poll start earlier +ℤ pos (seconds (interval_behind (whole_seconds codes.interval) earlier))) ≤ℤ turn.now
   -- and before the expiry.
-  pub unexpired : polls turn.reply ≡ true → turn.now <ℤ start +ℤ pos codes.expires_in
+  pub unexpired : polls turn.reply ≡ true → turn.now <ℤ (start +ℤ pos codes.expires_in)
   -- The step is over exactly where an earlier one has ended the login, and then nothing is sent.
   pub over : (turn.reply ≡ Err device.Over) ↔ (has_ended earlier ≡ true)
   pub silent : has_ended earlier ≡ true → turn.sent ≡ []
