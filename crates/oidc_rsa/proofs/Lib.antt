@@ -1,0 +1,8 @@
+mod Congruence
+mod Digits
+mod Masks
+mod Powers
+mod Residues
+mod Rows
+mod Steps
+mod Values

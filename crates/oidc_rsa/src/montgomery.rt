@@ -1,6 +1,6 @@
 //! Arithmetic modulo an odd number n, by Montgomery's product: R is 2^64 to the count of limbs, and
 //! a number x is held as x * R modulo n.
-ghost use Rattle.std.specs.Prelude.{◌≡◌, ℕ, ◌+◌, ◌-◌, ◌*◌, ◌^◌, ◌%◌, ◌<◌, ◌≤◌, length};
+ghost use Rattle.std.specs.Prelude.{◌≡◌, ℕ, ◌+◌, ◌-◌, ◌*◌, ◌^◌, ◌%◌, ◌<◌, ◌≤◌, length, slice_index};
 ghost use Rattle.oidc_rsa.specs.Limbs.{value, value_with_bit, weight, StandsFor};
 
 use crate::limbs::{MAX_LIMBS, compare, double, set_one, subtract};
@@ -35,22 +35,24 @@ fn add_row(sum: &mut [u64], top: bool, b: &[u64], digit: u64, n: &[u64], inverse
     requires not_empty { 0 < length sum.old }
     requires length_of_b { length sum.old ≡ length b.now }
     requires length_of_n { length sum.old ≡ length n.now }
-    requires inverse { (value n.now * inverse + 1) % 2 ^ 64 ≡ 0 }
+    requires inverse { (slice_index n.now 0 * inverse + 1) % 2 ^ 64 ≡ 0 }
     ensures { (m : ℕ) × (m < 2 ^ 64) × (2 ^ 64 * value_with_bit sum.new result
         ≡ value_with_bit sum.old top + value b.now * digit + value n.now * m) }
 {
+    let len = sum.len();
     let (lowest, mut product_carry) = b[0].carrying_mul_add(digit, sum[0], 0);
     let multiple = lowest.wrapping_mul(inverse);
-    let (_, mut multiple_carry) = n[0].carrying_mul_add(multiple, lowest, 0);
-    for i in 1..sum.len() {
-        let (limb, product_more) = b[i].carrying_mul_add(digit, sum[i], product_carry);
-        let (limb, multiple_more) = n[i].carrying_mul_add(multiple, limb, multiple_carry);
+    let cleared = n[0].carrying_mul_add(multiple, lowest, 0);
+    let mut multiple_carry = cleared.1;
+    for i in 1..len {
+        let (added, product_more) = b[i].carrying_mul_add(digit, sum[i], product_carry);
+        let (limb, multiple_more) = n[i].carrying_mul_add(multiple, added, multiple_carry);
         sum[i - 1] = limb;
         product_carry = product_more;
         multiple_carry = multiple_more;
     }
     let (last, carry) = product_carry.carrying_add(multiple_carry, top);
-    sum[sum.len() - 1] = last;
+    sum[len - 1] = last;
     carry
 }
 
