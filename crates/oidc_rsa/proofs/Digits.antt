@@ -1,7 +1,7 @@
 -- Octets, the highest first, and limbs: a part of the octets and its weight, one octet of a number.
 use Rattle.std.proofs.Common.{◌≡◌, ℕ, zero, suc, ◌+◌, ◌-◌, ◌*◌, ◌/◌, ◌^◌, ◌%◌, ◌<◌, ◌≤◌, List, [], ◌∷◌, ◌++◌, length, get_or, take, drop, set, ◌⊎◌, inl, inr, Fits, w8, w64, refl, ap, sym, ◌∙◌, arith}
-use Rattle.std.proofs.Math.Nat.{add-mul-div_left, add-mul-mod_self_left, mul-le-mul_left, mul-le-mul_right, div-one, pow-succ'}
-use Rattle.std.proofs.lemmas.Nat.{pow-add, pow_pos, shr-shr, and_mask}
+use Rattle.std.proofs.Math.Nat.{add-mul-div_left, add-mul-mod_self_left, mod-eq_of_lt, mul-le-mul_left, mul-le-mul_right, div-one, pow-succ'}
+use Rattle.std.proofs.lemmas.Nat.{pow-add, pow_pos, shr-shr, mod-pow-add, and_mask}
 use Rattle.std.proofs.lemmas.Int.Digits.{number_after_append}
 use Rattle.std.proofs.Math.Pow.{pow_mono}
 use Rattle.std.proofs.lemmas.Bool.{cases_lt}
@@ -99,3 +99,51 @@ write_step xs out i p b h within place is before =
     let octet = ap (λ (e : ℕ). value xs / 2 ^ e % 2 ^ 8) (sym bits) ∙ octet_of_limbs xs (i / 8) (i % 8) (omega arith) (omega arith) h in
     let same : b ≡ byte_at i (value xs) = masked ∙ (sym octet ∙ sym (octet_at i (value xs))) in
     drop-set out p b place ∙ (ap (λ rest. b ∷ rest) before ∙ ap (λ first. first ∷ bytes_high_first i (value xs)) same)
+
+-- ---- octets that write a number
+
+length-octets : (k n : ℕ) → length (bytes_high_first k n) ≡ k
+length-octets zero n = refl
+length-octets (suc k) n = ap suc (length-octets k n)
+
+number_of_octets : (k n : ℕ) → number_from_digits 256 (bytes_high_first k n) ≡ n % 2 ^ (8 * k)
+number_of_octets zero n = omega arith
+number_of_octets (suc k) n =
+    let rest = bytes_high_first k n in
+    let len : 8 * length rest ≡ 8 * k = ap (λ l. 8 * l) (length-octets k n) in
+    let more : 8 * suc k ≡ 8 + 8 * k = omega arith in
+    let split = ap (λ (e : ℕ). n % 2 ^ e) more ∙ mod-pow-add n 8 (8 * k) in
+    omega (arith, number_after (0 * 256 + byte_at k n) rest, ap (λ (e : ℕ). byte_at k n * 2 ^ e) len, number_of_octets k n, split, ap (λ b. b * 2 ^ (8 * k)) (octet_at k n))
+
+-- octets write the number that they were made of, where it fits
+pub number_of_fitting : (k n : ℕ) → n < 2 ^ (8 * k) → number_from_digits 256 (bytes_high_first k n) ≡ n
+number_of_fitting k n h = number_of_octets k n ∙ mod-eq_of_lt h
+
+-- without the highest ones they write the same by fewer
+pub drop-octets : (above k j n : ℕ) → k ≡ above + j → drop above (bytes_high_first k n) ≡ bytes_high_first j n
+drop-octets zero k j n e = ap (λ m. bytes_high_first m n) (omega arith)
+drop-octets (suc above) zero j n e = absurd (omega arith)
+drop-octets (suc above) (suc k) j n e = drop-octets above k j n (omega arith)
+
+-- a number fits fewer octets by one exactly where its first octet is zero
+pub fits_whole : (bs : List ℕ) (len : ℕ) → ((k : ℕ) → Fits w8 (get_or bs k 0)) → length bs ≡ len → number_from_digits 256 bs < 256 ^ len
+fits_whole bs len h e =
+    let weight : 256 ^ len ≡ 2 ^ (8 * length bs) = octet_power len ∙ ap (λ (k : ℕ). 2 ^ (8 * k)) (sym e) in
+    omega (arith, number-lt bs h)
+
+pub fits_below : (b len : ℕ) (bs : List ℕ) → ((k : ℕ) → Fits w8 (get_or bs k 0)) → length bs ≡ len → b ≡ 0 → number_from_digits 256 (b ∷ bs) < 256 ^ len
+fits_below b len bs h e none =
+    let weight : 256 ^ len ≡ 2 ^ (8 * length bs) = octet_power len ∙ ap (λ (k : ℕ). 2 ^ (8 * k)) (sym e) in
+    omega (arith, number-lt bs h, number_after (0 * 256 + b) bs, ap (λ x. x * 2 ^ (8 * length bs)) none)
+
+pub fits_not : (b len : ℕ) (bs : List ℕ) → length bs ≡ len → 0 < b → 256 ^ len ≤ number_from_digits 256 (b ∷ bs)
+fits_not b len bs e some =
+    let weight : 256 ^ len ≡ 2 ^ (8 * length bs) = octet_power len ∙ ap (λ (k : ℕ). 2 ^ (8 * k)) (sym e) in
+    omega (arith, number_after (0 * 256 + b) bs, mul-le-mul_right (2 ^ (8 * length bs)) some)
+
+-- a first octet that isn't zero bounds a number from both sides
+pub first-le : (b : ℕ) (bs : List ℕ) → b * 2 ^ (8 * length bs) ≤ number_from_digits 256 (b ∷ bs)
+first-le b bs = omega (arith, number_after (0 * 256 + b) bs)
+
+pub first-lt : (b : ℕ) (bs : List ℕ) → ((k : ℕ) → Fits w8 (get_or bs k 0)) → number_from_digits 256 (b ∷ bs) < (b + 1) * 2 ^ (8 * length bs)
+first-lt b bs h = omega (arith, number-lt bs h, number_after (0 * 256 + b) bs)

@@ -1,8 +1,10 @@
+mod Bits
 mod Congruence
 mod Digits
 mod Masks
 mod Powers
 mod Residues
 mod Rows
+mod Sizes
 mod Steps
 mod Values

@@ -1,5 +1,6 @@
 -- RSA public keys, and what one makes of a signature (RFC 8017 sections 3.1 and 5.2.2).
-use Rattle.std.specs.Prelude.{◌≡◌, ℕ, ◌+◌, ◌-◌, ◌/◌, ◌%◌, ◌^◌, ◌<◌, ◌≤◌, List, length, slice_index}
+use Rattle.std.specs.Prelude.{◌≡◌, ℕ, ◌-◌, ◌%◌, ◌^◌, ◌<◌, ◌≤◌, List, length, slice_index}
+use Rattle.std.specs.Int.{div_ceil}
 use Rattle.oidc_rsa.specs.Octets.{os2ip}
 
 -- a public key: its modulus n, how many bits that has (modBits), and its exponent e
@@ -32,7 +33,7 @@ pub record IsKeyOf (modulus exponent : List ℕ) (key : PublicKey) : Type 0 wher
 
 -- the octets that so many bits need
 abbrev pub octets_for : ℕ → ℕ
-octets_for bits = (bits + 7) / 8
+octets_for bits = div_ceil bits 8
 
 -- how many octets the modulus has (k)
 abbrev pub octet_len : PublicKey → ℕ

@@ -1,9 +1,7 @@
 //! The check of an encoded message of RSASSA-PSS (RFC 8017 section 9.1.2).
-ghost use Rattle.std.specs.Prelude.{◌≡◌, ◌+◌, ◌-◌, ◌*◌, ◌/◌, ◌≤◌, ◌<◌, [], ◌∷◌, ◌++◌, length, replicate, take};
-ghost use Rattle.arrayvec.specs.ArrayVec.{array_vec_len};
+ghost use Rattle.std.specs.Prelude.{◌≡◌, ◌+◌, ◌-◌, ◌*◌, ◌%◌, ◌^◌, ◌≤◌, ◌<◌, [], ◌∷◌, ◌++◌, length, replicate, nat_lt};
 ghost use Rattle.oidc_rsa.specs.Octets.{i2osp};
 ghost use Rattle.oidc_rsa.specs.Hash.{hash_of, hash_len};
-ghost use Rattle.oidc_rsa.specs.Key.{octets_for};
 ghost use Rattle.oidc_rsa.specs.Pss as spec;
 
 use crate::hash::{HashFunction, MAX_HASH_LEN};
@@ -23,6 +21,7 @@ const MAX_SALTED_LEN: usize = 8 + 2 * MAX_HASH_LEN;
 const TRAILER: u8 = 0xbc;
 
 // One block of a mask.
+#[tactic(auto, unfolding(crate::specs::Octets::i2osp))]
 fn mask_block(hash: HashFunction, seed: &[u8], counter: u32) -> ArrayVec<u8, MAX_HASH_LEN>
     requires { length seed.now ≤ 64 }
     ensures block { result.items ≡ hash_of hash (seed.now ++ i2osp counter 4) }
@@ -34,7 +33,7 @@ fn mask_block(hash: HashFunction, seed: &[u8], counter: u32) -> ArrayVec<u8, MAX
     hash.hash(block.as_slice())
 }
 
-// The mask of at least that length, in whole blocks (MGF1).
+// The first blocks of a mask (MGF1).
 fn mask_blocks(hash: HashFunction, seed: &[u8], count: u32) -> ArrayVec<u8, MAX_MASK_LEN>
     requires seed { length seed.now ≤ 64 }
     requires room { count * hash_len hash ≤ 1088 }
@@ -62,29 +61,48 @@ fn xored(octets: &[u8], mask: &[u8]) -> Octets
     out
 }
 
-// Sets the leftmost bits of the first octet to zero.
-fn clear_leftmost(octets: &mut [u8], count: u32)
-    requires few { count < 8 }
-    requires not_empty { 0 < length octets.old }
-    ensures { octets.new ≡ spec.clear_leftmost count octets.old }
+// The octets xored with the mask of their length that a seed has.
+#[tactic(auto, unfolding(crate::specs::Pss::mgf1))]
+fn masked(hash: HashFunction, octets: &[u8], seed: &[u8]) -> Octets
+    requires seed { length seed.now ≤ 64 }
+    requires limit { length octets.now ≤ 1024 }
+    ensures items { result.items
+        ≡ spec.xored octets.now (spec.mgf1 hash seed.now (length octets.now)) }
+    ensures len { length result.items ≡ length octets.now }
 {
-    octets[0] = (u16::from(octets[0]) % (1u16 << (8 - count))) as u8;
+    let count = octets.len().div_ceil(hash.len());
+    let mask = mask_blocks(hash, seed, count as u32);
+    xored(octets, &mask.as_slice()[..octets.len()])
 }
 
-// DB, unmasked.
-#[tactic(auto, unfolding(crate::specs::Pss::unmasked))]
-fn unmasked(hash: HashFunction, em: &[u8], unused: u32) -> Octets
-    requires room { 2 * hash_len hash + 2 ≤ length em.now }
-    requires limit { length em.now ≤ 1024 }
-    requires few { unused < 8 }
-    ensures { result.items ≡ spec.unmasked hash em.now (8 * length em.now - unused) }
+// Whether the leftmost bits of an octet are zero.
+fn has_zeros(octet: u8, count: usize) -> bool
+    requires { count < 8 }
+    ensures { result ≡ nat_lt octet (2 ^ (8 - count)) }
 {
-    let db_len = em.len() - hash.len() - 1;
-    let seed = &em[db_len..em.len() - 1];
-    let mask = mask_blocks(hash, seed, db_len.div_ceil(hash.len()) as u32);
-    let mut db = xored(&em[..db_len], &mask.as_slice()[..db_len]);
-    clear_leftmost(db.as_mut_slice(), unused);
-    db
+    octet <= 0xff >> count
+}
+
+// The octet with its leftmost bits set to zero.
+fn with_zeros(octet: u8, count: usize) -> u8
+    requires { count < 8 }
+    ensures { result ≡ octet % 2 ^ (8 - count) }
+{
+    octet & 0xff >> count
+}
+
+// The octets with the leftmost bits of the first one set to zero.
+fn clear_leftmost(octets: &[u8], count: usize) -> Octets
+    requires few { count < 8 }
+    requires not_empty { 0 < length octets.now }
+    requires limit { length octets.now ≤ 1024 }
+    ensures items { result.items ≡ spec.clear_leftmost count octets.now }
+    ensures len { length result.items ≡ length octets.now }
+{
+    let mut out = ArrayVec::new();
+    out.push(with_zeros(octets[0], count));
+    append(&mut out, &octets[1..]);
+    out
 }
 
 // Zero octets and 0x01.
@@ -110,22 +128,31 @@ fn salted_hash(hash: HashFunction, message: &[u8], salt: &[u8]) -> ArrayVec<u8, 
     hash.hash(salted.as_slice())
 }
 
-/// Whether octets of `8 * em.len() - unused` bits are consistent with `message`.
+// Whether DB ends a padding of zero octets with 0x01, and the salt behind it gives that hash.
+fn has_salt(hash: HashFunction, message: &[u8], db: &[u8], seed: &[u8]) -> bool
+    requires room { hash_len hash + 1 ≤ length db.now }
+    requires limit { length db.now ≤ 1024 }
+    ensures { result ≡ spec.has_salt hash message.now db.now seed.now }
+{
+    let zeros = db.len() - hash.len() - 1;
+    let (front, salt) = db.split_at(zeros + 1);
+    front == padding(zeros).as_slice() && seed == salted_hash(hash, message, salt).as_slice()
+}
+
+/// Whether octets that hold `em_bits` bits are consistent with `message`.
 #[tactic(auto, unfolding(crate::specs::Pss::is_pss_encoding))]
-pub(crate) fn is_pss_encoding(hash: HashFunction, message: &[u8], em: &[u8], unused: u32) -> bool
+pub(crate) fn is_pss_encoding(hash: HashFunction, message: &[u8], em: &[u8], em_bits: usize) -> bool
     requires room { 2 * hash_len hash + 2 ≤ length em.now }
     requires limit { length em.now ≤ 1024 }
-    requires few { unused < 8 }
-    ensures { result
-        ≡ spec.is_pss_encoding hash message.now em.now (8 * length em.now - unused) }
+    requires bits { em_bits ≤ 8 * length em.now }
+    requires last_bits { 8 * length em.now < em_bits + 8 }
+    ensures { result ≡ spec.is_pss_encoding hash message.now em.now em_bits }
 {
+    let unused = 8 * em.len() - em_bits;
     let db_len = em.len() - hash.len() - 1;
-    if em[em.len() - 1] != TRAILER || u16::from(em[0]) >= 1u16 << (8 - unused) {
-        return false;
-    }
-    let zeros = db_len - hash.len() - 1;
-    let db = unmasked(hash, em, unused);
-    let (front, salt) = db.as_slice().split_at(zeros + 1);
-    front == padding(zeros).as_slice()
-        && &em[db_len..em.len() - 1] == salted_hash(hash, message, salt).as_slice()
+    let seed = &em[db_len..em.len() - 1];
+    let db = clear_leftmost(masked(hash, &em[..db_len], seed).as_slice(), unused);
+    em[em.len() - 1] == TRAILER
+        && has_zeros(em[0], unused)
+        && has_salt(hash, message, db.as_slice(), seed)
 }

@@ -1,5 +1,5 @@
 //! RSA public keys: how they are made, and how they verify.
-ghost use Rattle.std.specs.Prelude.{◌≡◌, ◌↔◌, ℕ, ◌+◌, ◌≤◌, ◌<◌, IsTrue, false, Ok, Err, IfOk, IfSome, IfNone, length, nat_lt, MatchOption};
+ghost use Rattle.std.specs.Prelude.{◌≡◌, ◌↔◌, ℕ, ◌+◌, ◌%◌, ◌^◌, ◌≤◌, ◌<◌, IsTrue, false, Ok, Err, IfOk, IfSome, IfNone, length, nat_lt};
 ghost use Rattle.oidc_rsa.specs.Octets.{os2ip, i2osp};
 ghost use Rattle.oidc_rsa.specs.Key.{IsModulus, IsExponent, IsKeyOf, HasBits, octet_len, octets_for};
 ghost use Rattle.oidc_rsa.specs.Signature as spec;
@@ -36,6 +36,13 @@ pub enum RsaSignatureError {
     CryptoError,
 }
 
+// The fewest bits of a modulus, and the octets that they need.
+const MIN_BITS: usize = 2048;
+const MIN_OCTETS: usize = 256;
+
+// The greatest exponent.
+const MAX_EXPONENT: u64 = 0x1_0000_0000;
+
 // How many bits a modulus has, where it is allowed.
 fn modulus_bits(modulus: &[u8]) -> Option<usize>
     ensures allowed { IfSome result (λ bits. IsModulus modulus.now × HasBits bits (os2ip modulus.now)
@@ -43,11 +50,14 @@ fn modulus_bits(modulus: &[u8]) -> Option<usize>
     ensures refused { IfNone result (¬ IsModulus modulus.now) }
 {
     let len = modulus.len();
-    if len == 0 || len > MAX_OCTETS || modulus[0] == 0 || modulus[len - 1] % 2 == 0 {
+    if len < MIN_OCTETS || len > MAX_OCTETS {
+        return None;
+    }
+    if modulus[0] == 0 || modulus[len - 1] % 2 == 0 {
         return None;
     }
     let bits = 8 * len - modulus[0].leading_zeros() as usize;
-    if bits < 2048 {
+    if bits < MIN_BITS {
         return None;
     }
     Some(bits)
@@ -72,8 +82,14 @@ fn exponent_of(octets: &[u8]) -> Option<u64>
     Some(exponent)
 }
 
-// The greatest exponent.
-const MAX_EXPONENT: u64 = 1 << 32;
+// Whether the number of some octets can be written by `len`, which are as many or one less.
+fn fits(octets: &[u8], len: usize) -> bool
+    requires at_most { len ≤ length octets.now }
+    requires at_least { length octets.now ≤ len + 1 }
+    ensures { result ≡ nat_lt (os2ip octets.now) (256 ^ len) }
+{
+    octets.len() == len || octets[0] == 0
+}
 
 /// A public key that verifies signatures (RFC 8017 section 3.1).
 #[derive(Drop)]
@@ -199,12 +215,10 @@ impl RsaPublicKey {
         if !self.recover(recovered, signature) {
             return false;
         }
-        if self.bits % 8 == 1 {
-            recovered[0] == 0 && is_pss_encoding(hash, message, &recovered[1..], 0)
-        } else {
-            let unused = 8 * recovered.len() + 1 - self.bits;
-            is_pss_encoding(hash, message, recovered, unused as u32)
-        }
+        let em_bits = self.bits - 1;
+        let em_len = em_bits.div_ceil(8);
+        let above = recovered.len() - em_len;
+        fits(recovered, em_len) && is_pss_encoding(hash, message, &recovered[above..], em_bits)
     }
 
     // Whether a signature is a representative. Writes then what the key makes of it.
