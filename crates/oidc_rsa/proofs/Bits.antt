@@ -1,7 +1,9 @@
 -- The leftmost bits of an octet.
-use Rattle.std.proofs.Common.{◌≡◌, ℕ, zero, suc, ◌-◌, ◌/◌, ◌%◌, ◌^◌, ◌<◌, ◌≤◌, List, [], ◌∷◌, length, get_or, drop, refl, ap, sym, ◌∙◌, arith}
+use Rattle.std.proofs.Common.{◌≡◌, ℕ, zero, suc, ◌-◌, ◌/◌, ◌%◌, ◌^◌, ◌<◌, ◌≤◌, ◌⊎◌, inl, inr, List, [], ◌∷◌, length, get_or, drop, leb, ltb, refl, ap, sym, ◌∙◌, arith}
+use Rattle.std.proofs.lemmas.Bool.{cases_lt, lt-ltb, le-ltb, le-leb, lt-leb}
 use Rattle.std.proofs.lemmas.Nat.{and_mask, pow_pos}
 use Rattle.std.specs.Int.RustNames.{bit_and}
+use Rattle.oidc_rsa.specs.Pss.{clear_leftmost}
 
 -- the octet whose leftmost bits alone are zero
 pub ones : (count : ℕ) → count < 8 → 255 / 2 ^ count ≡ 2 ^ (8 - count) - 1
@@ -18,8 +20,18 @@ ones (suc (suc (suc (suc (suc (suc (suc (suc count)))))))) h = absurd (omega ari
 pub kept : (octet count : ℕ) → count < 8 → bit_and octet (255 / 2 ^ count) ≡ octet % 2 ^ (8 - count)
 kept octet count h = ap (bit_and octet) (ones count h) ∙ and_mask octet (8 - count)
 
-pub at_most_ones : (octet count : ℕ) → count < 8 → octet ≤ 255 / 2 ^ count → octet < 2 ^ (8 - count)
-at_most_ones octet count h below = omega (arith, ones count h, pow_pos (8 - count))
+-- an octet that is at most the ones has zeros before them
+pub zeros_before : (octet count : ℕ) → count < 8 → leb octet (255 / 2 ^ count) ≡ ltb octet (2 ^ (8 - count))
+zeros_before octet count h = by_size (cases_lt octet (2 ^ (8 - count)))
+  where
+    by_size : (octet < 2 ^ (8 - count)) ⊎ (2 ^ (8 - count) ≤ octet) → leb octet (255 / 2 ^ count) ≡ ltb octet (2 ^ (8 - count))
+    by_size (inl below) =
+        let within : octet ≤ 255 / 2 ^ count = omega (arith, ones count h) in
+        le-leb octet (255 / 2 ^ count) within ∙ sym (lt-ltb octet (2 ^ (8 - count)) below)
+    by_size (inr above) =
+        let beyond : 255 / 2 ^ count < octet = omega (arith, ones count h, pow_pos (8 - count)) in
+        lt-leb octet (255 / 2 ^ count) beyond ∙ sym (le-ltb octet (2 ^ (8 - count)) above)
 
-pub above_ones : (octet count : ℕ) → count < 8 → 255 / 2 ^ count < octet → 2 ^ (8 - count) ≤ octet
-above_ones octet count h above = omega (arith, ones count h)
+pub cleared_is : (octets : List ℕ) (count first : ℕ) → 0 < length octets → first ≡ get_or octets 0 0 % 2 ^ (8 - count) → first ∷ drop 1 octets ≡ clear_leftmost count octets
+cleared_is [] count first some e = absurd (omega arith)
+cleared_is (octet ∷ octets) count first some e = ap (λ x. x ∷ octets) e

@@ -121,7 +121,9 @@ number_of_fitting k n h = number_of_octets k n ∙ mod-eq_of_lt h
 
 -- without the highest ones they write the same by fewer
 pub drop-octets : (above k j n : ℕ) → k ≡ above + j → drop above (bytes_high_first k n) ≡ bytes_high_first j n
-drop-octets zero k j n e = ap (λ m. bytes_high_first m n) (omega arith)
+drop-octets zero k j n e =
+    let same : k ≡ j = omega arith in
+    ap (λ m. bytes_high_first m n) same
 drop-octets (suc above) zero j n e = absurd (omega arith)
 drop-octets (suc above) (suc k) j n e = drop-octets above k j n (omega arith)
 

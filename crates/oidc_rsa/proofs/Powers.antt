@@ -1,6 +1,6 @@
 -- Powers in Montgomery's form, over plain numbers: what stands for a product, the way in and the way out.
 use Rattle.std.proofs.Common.{◌≡◌, ℕ, zero, suc, ◌+◌, ◌-◌, ◌*◌, ◌/◌, ◌^◌, ◌%◌, ◌<◌, ◌≤◌, ◌≢◌, refl, ap, sym, ◌∙◌, arith}
-use Rattle.std.proofs.Math.Nat.{add-mul-mod_self_right, mod-eq_of_lt, div-eq_of_lt-le, pow-succ'}
+use Rattle.std.proofs.Math.Nat.{add-mul-mod_self_right, mod-eq_of_lt, div-eq_of_lt-le, pow-suc, pow-succ', pow-zero}
 use Rattle.std.proofs.lemmas.Nat.{pow-add, shr-shr, mul-mod_second}
 use Rattle.std.proofs.lemmas.Grind.{pow_more}
 use Rattle.oidc_rsa.specs.Limbs.{StandsFor}
@@ -56,8 +56,9 @@ out_of_form n k a b r x odd e stands below =
 -- above its highest bit an exponent is 1
 pub highest_bit : (x e top : ℕ) → 2 ^ top ≤ e → e < 2 * 2 ^ top → x ^ (e / 2 ^ top) ≡ x
 highest_bit x e top least below =
-    let one : e / 2 ^ top ≡ 1 = div-eq_of_lt-le {k = 1} (2 ^ top) (omega arith) (omega arith) in
-    ap (λ (k : ℕ). x ^ k) one ∙ (pow_more x 0 ∙ omega arith)
+    let once : e / 2 ^ top ≡ 1 = div-eq_of_lt-le {k = 1} (2 ^ top) {m = e} (omega arith) (omega arith) in
+    let itself : x ^ 1 ≡ x = omega (arith, pow-suc x 0 ∙ ap (λ k. k * x) (pow-zero x)) in
+    ap (λ (k : ℕ). x ^ k) once ∙ itself
 
 -- one bit more doubles the exponent so far
 next_bit : (e i : ℕ) → 0 < i → e / 2 ^ (i - 1) ≡ e / 2 ^ i + e / 2 ^ i + e / 2 ^ (i - 1) % 2

@@ -32,12 +32,12 @@ bits_of_octets (b ∷ bs) bits h some e =
 
 too_small : (n low bits : ℕ) → low < 2048 → n < 2 ^ low → 2048 ≤ bits → 2 ^ (bits - 1) ≤ n → ⊥
 too_small n low bits few below many least =
-    let order = pow_mono {i = low} {j = bits - 1} (omega arith) in
+    let order : 2 ^ low ≤ 2 ^ (bits - 1) = pow_mono {i = low} {j = bits - 1} (omega arith) in
     absurd (omega arith)
 
 too_great : (n high bits : ℕ) → 8192 ≤ high → 2 ^ high ≤ n → bits ≤ 8192 → n < 2 ^ bits → ⊥
 too_great n high bits many least few below =
-    let order = pow_mono {i = bits} {j = high} (omega arith) in
+    let order : 2 ^ bits ≤ 2 ^ high = pow_mono {i = bits} {j = high} (omega arith) in
     absurd (omega arith)
 
 -- ---- octets that no modulus has
@@ -60,7 +60,6 @@ zero_at_front octets none m = absurd (omega (arith, m.no_leading_zero))
 -- the last octet decides whether a number is odd
 pub odd_by_last : (octets : List ℕ) → 0 < length octets → os2ip octets % 2 ≡ get_or octets (length octets - 1) 0 % 2
 odd_by_last octets some =
-    let last = length octets - 1 in
     let whole : take (length octets - 1 + 1) octets ≡ octets = take_all (length octets - 1 + 1) octets (omega arith) in
     let split = sym (ap (number_from_digits 256) whole) ∙ number_more 256 octets (length octets - 1) (omega arith) in
     omega (arith, split)

@@ -35,9 +35,9 @@ row_first B b n d m s low zero_limb p q v u w product multiple none of_sum of_b 
 -- a further limb: both products are added at P, and the sum is written one limb lower, at O
 pub row_step : (B O P Q v v' s s' b b' n n' d m x y z low limb p q p' q' : ℕ) → P ≡ B * O → Q ≡ B * P → low + p' * B ≡ y * d + x + p → limb + q' * B ≡ z * m + low + q → v' ≡ v + O * limb → s' ≡ s + P * x → b' ≡ b + P * y → n' ≡ n + P * z → B * v + P * (p + q) ≡ s + b * d + n * m → B * v' + Q * (p' + q') ≡ s' + b' * d + n' * m
 row_step B O P Q v v' s s' b b' n n' d m x y z low limb p q p' q' at_p at_q product multiple written of_sum of_b of_n before =
-    omega (arith, ap (λ k. P * k) product, ap (λ k. P * k) multiple, ap (λ k. k * limb) at_p, ap (λ k. k * (p' + q')) at_q, ap (λ k. k * d) of_b, ap (λ k. k * m) of_n)
+    omega (arith, ap (λ k. P * k) product, ap (λ k. P * k) multiple, ap (λ k. B * k) written, ap (λ k. k * limb) at_p, ap (λ k. k * (p' + q')) at_q, ap (λ k. k * d) of_b, ap (λ k. k * m) of_n)
 
 -- the last limb of a row, and the bit above it
 pub row_last : (B O W v s b n d m p q last top carry whole : ℕ) → W ≡ B * O → last + carry * B ≡ p + q + top → whole ≡ v + O * last → B * v + W * (p + q) ≡ s + b * d + n * m → B * (whole + carry * W) ≡ s + top * W + b * d + n * m
 row_last B O W v s b n d m p q last top carry whole weight limb written before =
-    omega (arith, ap (λ k. W * k) limb, ap (λ k. k * last) weight)
+    omega (arith, ap (λ k. W * k) limb, ap (λ k. B * k) written, ap (λ k. k * last) weight)
