@@ -1,5 +1,5 @@
 //! The hash functions that signatures are made with.
-ghost use Rattle.std.specs.Prelude.{◌≡◌, length};
+ghost use Rattle.std.specs.Prelude.{◌≡◌, ◌≤◌, length};
 ghost use Rattle.oidc_rsa.specs.Hash.{hash_of, hash_len};
 
 use crate::octets::append;
@@ -37,12 +37,20 @@ impl HashFunction {
         ensures hash { result.items ≡ hash_of self message.now }
         ensures len { length result.items ≡ hash_len self }
     {
-        let mut hash = ArrayVec::new();
         match self {
-            HashFunction::Sha256 => append(&mut hash, Sha256::digest(message).as_slice()),
-            HashFunction::Sha384 => append(&mut hash, Sha384::digest(message).as_slice()),
-            HashFunction::Sha512 => append(&mut hash, Sha512::digest(message).as_slice()),
+            HashFunction::Sha256 => octets_of(Sha256::digest(message).as_slice()),
+            HashFunction::Sha384 => octets_of(Sha384::digest(message).as_slice()),
+            HashFunction::Sha512 => octets_of(Sha512::digest(message).as_slice()),
         }
-        hash
     }
+}
+
+// The octets of a hash.
+fn octets_of(hash: &[u8]) -> ArrayVec<u8, MAX_HASH_LEN>
+    requires { length hash.now ≤ 64 }
+    ensures { result.items ≡ hash.now }
+{
+    let mut octets = ArrayVec::new();
+    append(&mut octets, hash);
+    octets
 }

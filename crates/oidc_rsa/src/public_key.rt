@@ -88,7 +88,10 @@ fn fits(octets: &[u8], len: usize) -> bool
     requires at_least { length octets.now ≤ len + 1 }
     ensures { result ≡ nat_lt (os2ip octets.now) (256 ^ len) }
 {
-    octets.len() == len || octets[0] == 0
+    if octets.len() == len {
+        return true;
+    }
+    octets[0] == 0
 }
 
 /// A public key that verifies signatures (RFC 8017 section 3.1).
@@ -181,18 +184,24 @@ impl RsaPublicKey {
         ensures crypto_error { (result ≡ Err RsaSignatureError.CryptoError)
             ↔ (spec.is_signature self.now algorithm message.now signature.now ≡ false) }
     {
-        let verifies = match algorithm {
+        if self.is_signature(algorithm, message, signature) {
+            Ok(())
+        } else {
+            Err(RsaSignatureError::CryptoError)
+        }
+    }
+
+    // By algorithm.
+    fn is_signature(&self, algorithm: RsaAlgorithm, message: &[u8], signature: &[u8]) -> bool
+        ensures { result ≡ spec.is_signature self.now algorithm message.now signature.now }
+    {
+        match algorithm {
             RsaAlgorithm::Rs256 => self.verifies_pkcs1(HashFunction::Sha256, message, signature),
             RsaAlgorithm::Rs384 => self.verifies_pkcs1(HashFunction::Sha384, message, signature),
             RsaAlgorithm::Rs512 => self.verifies_pkcs1(HashFunction::Sha512, message, signature),
             RsaAlgorithm::Ps256 => self.verifies_pss(HashFunction::Sha256, message, signature),
             RsaAlgorithm::Ps384 => self.verifies_pss(HashFunction::Sha384, message, signature),
             RsaAlgorithm::Ps512 => self.verifies_pss(HashFunction::Sha512, message, signature),
-        };
-        if verifies {
-            Ok(())
-        } else {
-            Err(RsaSignatureError::CryptoError)
         }
     }
 
@@ -202,7 +211,10 @@ impl RsaPublicKey {
     {
         let mut buffer = [0; MAX_OCTETS];
         let encoded = &mut buffer[..self.bits.div_ceil(8)];
-        self.recover(encoded, signature) && is_pkcs1_encoding(hash, message, encoded)
+        if !self.recover(encoded, signature) {
+            return false;
+        }
+        is_pkcs1_encoding(hash, message, encoded)
     }
 
     // By RSASSA-PSS. The encoded message has one bit less than the modulus, so it may be an octet
@@ -218,7 +230,10 @@ impl RsaPublicKey {
         let em_bits = self.bits - 1;
         let em_len = em_bits.div_ceil(8);
         let above = recovered.len() - em_len;
-        fits(recovered, em_len) && is_pss_encoding(hash, message, &recovered[above..], em_bits)
+        if !fits(recovered, em_len) {
+            return false;
+        }
+        is_pss_encoding(hash, message, &recovered[above..], em_bits)
     }
 
     // Whether a signature is a representative. Writes then what the key makes of it.
