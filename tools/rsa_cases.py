@@ -19,8 +19,8 @@ sys.dont_write_bytecode = True
 from plain_rsa import HASHES, digest, pkcs1_encoding, pss_encoding
 
 # The bits of the keys, with exponents; each signs by all six algorithms.
-KEYS = [(2048, 65537), (2048, 3), (3072, 65537), (4096, 65537), (2049, 65537), (2055, 3), (2056, 65537),
-        (2057, 65537), (2111, 65537), (2113, 5), (3071, 65537), (4095, 65537)]
+KEYS = [(2048, 65537), (2048, 3), (3072, 65537), (4096, 65537), (2048, 5), (2055, 3), (2056, 65537),
+        (2056, 3), (2110, 65537), (2113, 5), (3070, 65537), (4094, 65537)]
 ROUNDS = 7
 
 
