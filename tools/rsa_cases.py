@@ -19,8 +19,8 @@ sys.dont_write_bytecode = True
 from plain_rsa import HASHES, digest, pkcs1_encoding, pss_encoding
 
 # The bits of the keys, with exponents; each signs by all six algorithms.
-KEYS = [(2048, 65537), (2048, 3), (3072, 65537), (4096, 65537), (2048, 5), (2055, 3), (2056, 65537),
-        (2056, 3), (2110, 65537), (2113, 5), (3070, 65537), (4094, 65537)]
+KEYS = [(2048, 65537), (2048, 3), (3072, 65537), (4096, 65537), (2048, 65537), (2055, 3), (2056, 65537), (2056, 65537),
+        (2110, 65537), (2113, 5), (3070, 65537), (4094, 65537)]
 ROUNDS = 7
 
 
@@ -31,8 +31,8 @@ def run(*words, text=None):
 class Key:
     """A private key that openssl made. Of odd lengths some have a bit less, and are made again."""
 
-    def __init__(self, folder, bits, exponent):
-        self.path, self.n = os.path.join(folder, f"{bits}-{exponent}.pem"), 0
+    def __init__(self, path, bits, exponent):
+        self.path, self.n = path, 0
         while self.n.bit_length() != bits:
             run("openssl", "genpkey", "-algorithm", "RSA", "-pkeyopt", f"rsa_keygen_bits:{bits}", "-pkeyopt",
                 f"rsa_keygen_pubexp:{exponent}", "-out", self.path)
@@ -236,7 +236,7 @@ def write(folder, cases):
 def all_cases(nist):
     rng = random.Random(1)
     with tempfile.TemporaryDirectory() as folder:
-        keys = [Key(folder, bits, exponent) for bits, exponent in KEYS]
+        keys = [Key(os.path.join(folder, f"{place}.pem"), *of) for place, of in enumerate(KEYS)]
         yield from openssl_cases(keys, rng)
         yield from forgeries([keys[0], keys[1], keys[4], keys[8]])
         yield from bounds(keys[0], rng)
