@@ -1,5 +1,5 @@
 -- The sizes of moduli and exponents: what their octets and their first and last ones say of the number.
-use Rattle.std.proofs.Common.{◌≡◌, ℕ, zero, suc, ◌+◌, ◌-◌, ◌*◌, ◌%◌, ◌^◌, ◌<◌, ◌≤◌, List, [], ◌∷◌, length, get_or, take, drop, Fits, w8, ap, subst, sym, ◌∙◌, arith}
+use Rattle.std.proofs.Common.{◌≡◌, ℕ, zero, suc, ◌+◌, ◌-◌, ◌*◌, ◌%◌, ◌^◌, ◌<◌, ◌≤◌, ◌≢◌, ◌⊎◌, inl, inr, List, [], ◌∷◌, length, get_or, take, drop, Fits, w8, ap, subst, sym, ◌∙◌, arith}
 use Rattle.std.proofs.Math.Nat.{mul-le-mul_right}
 use Rattle.std.proofs.Math.Pow.{pow_mono}
 use Rattle.std.proofs.lemmas.List.{take_all, take-append-drop}
@@ -70,7 +70,41 @@ even_modulus octets some even m = absurd (omega (arith, odd_by_last octets some,
 pub few_bits : (octets : List ℕ) (bits : ℕ) → HasBits bits (os2ip octets) → bits < 2048 → ¬ IsModulus octets
 few_bits octets bits is few m = too_small (os2ip octets) bits m.size.0 few is.1 m.size.1 m.size.3.0
 
+-- ---- what is refused and what is allowed
+
+pub size_refused : (octets : List ℕ) → ((k : ℕ) → Fits w8 (get_or octets k 0)) → (length octets < 256) ⊎ ((256 ≤ length octets) × (1024 < length octets)) → ¬ IsModulus octets
+size_refused octets h (inl short) = short_modulus octets h short
+size_refused octets h (inr long) = long_modulus octets long.1
+
+pub ends_refused : (octets : List ℕ) → 0 < length octets → (get_or octets 0 0 ≡ 0) ⊎ ((get_or octets 0 0 ≢ 0) × (get_or octets (length octets - 1) 0 % 2 ≡ 0)) → ¬ IsModulus octets
+ends_refused octets some (inl none) = zero_at_front octets none
+ends_refused octets some (inr even) = even_modulus octets some even.1
+
+pub modulus_allowed : (octets : List ℕ) (bits : ℕ) → ((k : ℕ) → Fits w8 (get_or octets k 0)) → 256 ≤ length octets → length octets ≤ 1024 → get_or octets 0 0 ≢ 0 → get_or octets (length octets - 1) 0 % 2 ≢ 0 → bits + count_leading_zeros 8 (get_or octets 0 0) ≡ 8 * length octets → 2048 ≤ bits → IsModulus octets
+modulus_allowed octets bits h many few front odd e least =
+    let some : 0 < get_or octets 0 0 = omega arith in
+    let of = bits_of_octets octets bits h some e in
+    let most : bits ≤ 8192 = omega arith in
+    let parity : os2ip octets % 2 ≡ 1 = omega (arith, odd_by_last octets (omega arith)) in
+    record {
+      no_leading_zero = some;
+      size = (bits, least, most, of.0);
+      odd = parity;
+    }
+
 -- ---- exponents
+
+pub exponent_allowed : (octets : List ℕ) (e : ℕ) → e ≡ os2ip octets → 3 ≤ e → e ≤ 2 ^ 32 → e % 2 ≢ 0 → IsExponent octets
+exponent_allowed octets e is least most odd =
+    record {
+      at_least_three = omega arith;
+      at_most = omega arith;
+      odd = omega arith;
+    }
+
+pub exponent_refused : (octets : List ℕ) (e : ℕ) → e ≡ os2ip octets → (e < 3) ⊎ ((3 ≤ e) × (e % 2 ≡ 0)) → ¬ IsExponent octets
+exponent_refused octets e is (inl small) x = absurd (omega (arith, x.at_least_three))
+exponent_refused octets e is (inr even) x = absurd (omega (arith, x.odd))
 
 -- the first octets write no greater number
 pub number-take-le : (octets : List ℕ) (i : ℕ) → os2ip (take i octets) ≤ os2ip octets
