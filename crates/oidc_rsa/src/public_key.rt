@@ -150,7 +150,7 @@ impl RsaPublicKey {
         requires bits { HasBits bits (os2ip octets.now) }
         requires at_least { 2048 ≤ bits }
         requires at_most { bits ≤ 8192 }
-        requires length { length octets.now ≡ octets_for bits }
+        requires octets { length octets.now ≡ octets_for bits }
         requires odd { os2ip octets.now % 2 ≡ 1 }
         requires exponent { 3 ≤ exponent }
         ensures modulus { IfOk result (λ key. key.modulus ≡ os2ip octets.now) }
