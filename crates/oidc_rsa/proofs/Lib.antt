@@ -8,3 +8,4 @@ mod Rows
 mod Sizes
 mod Steps
 mod Values
+mod Verdicts
