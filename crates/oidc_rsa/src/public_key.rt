@@ -251,14 +251,14 @@ impl RsaPublicKey {
         let mut power_limbs = [0; MAX_LIMBS];
         let mut scratch_limbs = [0; MAX_LIMBS];
         let base = &mut base_limbs[..n.len()];
-        let result = &mut power_limbs[..n.len()];
+        let raised = &mut power_limbs[..n.len()];
         let scratch = &mut scratch_limbs[..n.len()];
         read_octets(base, signature);
         if !compare(base, n).is_lt() {
             return false;
         }
-        power(result, base, self.exponent, n, self.r_squared.as_slice(), scratch);
-        write_octets(out, result);
+        power(raised, base, self.exponent, n, self.r_squared.as_slice(), scratch);
+        write_octets(out, raised);
         true
     }
 }
