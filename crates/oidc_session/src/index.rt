@@ -1,6 +1,6 @@
 // Which sessions there are under a name: under a subject, or under a session of the provider.
 
-ghost use Rattle.std.specs.Prelude.{◌≡◌, ◌≢◌, List, ℕ, true, IsSome, OnOk};
+ghost use Rattle.std.specs.Prelude.{◌≡◌, ◌≢◌, List, ℕ, true, false, IsSome, OnOk};
 ghost use Rattle.std.specs.FinMap as finite;
 ghost use Rattle.std.specs.Option.{option_copied};
 ghost use Rattle.std.specs.HashMap.{get_by_text};
@@ -62,21 +62,55 @@ impl Index {
         }
     }
 
+    // Whether a name stands here, with no id under it.
+    fn is_empty_under(&self, name: &str) -> bool
+        ensures { result ≡ true → (i : List ℕ) → holds self.now.ids name.now i ≡ false }
+    {
+        match self.ids.get(name) {
+            Some(ids) => ids.is_empty(),
+            None => false,
+        }
+    }
+
+    // Takes a name away under which no id stands.
+    fn drop_empty(&mut self, name: &str)
+        ensures others { (n i : List ℕ) → holds self.old.ids n i ≡ true
+            → holds self.new.ids n i ≡ true }
+    {
+        if self.is_empty_under(name) {
+            self.ids.remove(name);
+        }
+    }
+
+    // Takes an id away from under a name.
+    fn take(&mut self, name: &str, id: &str)
+        ensures others { (n i : List ℕ) → (n ≡ name.now → i ≢ id.now)
+            → holds self.old.ids n i ≡ true → holds self.new.ids n i ≡ true }
+    {
+        let Some(ids) = self.ids.get_mut(name) else {
+            return;
+        };
+        ids.remove(id);
+    }
+
+    // Takes the ids away from under a name whose sessions are gone.
+    fn take_gone(&mut self, name: &str, sessions: &SessionMap)
+        ensures others { (n i : List ℕ) → IsSome (finite.get sessions.now i)
+            → holds self.old.ids n i ≡ true → holds self.new.ids n i ≡ true }
+    {
+        let Some(ids) = self.ids.get_mut(name) else {
+            return;
+        };
+        ids.retain(|id| sessions.get(id.as_str()).is_some());
+    }
+
     // Takes an id away from under a name, and the name where nothing else stands under it. It takes no memory.
     pub(crate) fn unlink(&mut self, name: &str, id: &str)
         ensures others { (n i : List ℕ) → (n ≡ name.now → i ≢ id.now)
             → holds self.old.ids n i ≡ true → holds self.new.ids n i ≡ true }
     {
-        let is_empty = match self.ids.get_mut(name) {
-            Some(ids) => {
-                ids.remove(id);
-                ids.is_empty()
-            }
-            None => false,
-        };
-        if is_empty {
-            self.ids.remove(name);
-        }
+        self.take(name, id);
+        self.drop_empty(name);
     }
 
     // Takes the ids away from under a name whose sessions are gone, and the name where nothing else stands under it.
@@ -85,15 +119,7 @@ impl Index {
         ensures others { (n i : List ℕ) → IsSome (finite.get sessions.now i)
             → holds self.old.ids n i ≡ true → holds self.new.ids n i ≡ true }
     {
-        let is_empty = match self.ids.get_mut(name) {
-            Some(ids) => {
-                ids.retain(|id| sessions.get(id.as_str()).is_some());
-                ids.is_empty()
-            }
-            None => false,
-        };
-        if is_empty {
-            self.ids.remove(name);
-        }
+        self.take_gone(name, sessions);
+        self.drop_empty(name);
     }
 }
