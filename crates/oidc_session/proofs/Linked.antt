@@ -20,6 +20,14 @@ or_right : (a b c : Bool) → (a ≡ true → ⊥) → (b ≡ true → c ≡ tru
 or_right true b c none more h = absurd (none refl)
 or_right false b c none more h = more h
 
+or_true : (b : Bool) (c : Bool) → c ≡ true → cond b true c ≡ true
+or_true true c e = refl
+or_true false c e = e
+
+unless_same : (b c : Bool) → (b ≡ true → ⊥) → c ≡ true → cond b false c ≡ true
+unless_same true c n e = absurd (n refl)
+unless_same false c n e = e
+
 module _ {Z : Type 0} (p : List ℕ → Bool) (i : List ℕ) (passes : p i ≡ true) where
   abbrev is_id : String Z → Bool
   is_id k = bytes_eq i (string_bytes k)
@@ -47,6 +55,32 @@ module _ {Z S : Type 0} where
   none_had None i e h = false≢true h
   none_had (Some ids) i e h = false≢true (sym e)
 
+  -- ---- sets of ids
+
+  -- a set whose texts stay
+  pub same_ids : (s n : bag.HashSet (String Z) S) → n.keys ≡ s.keys → (i : List ℕ) → bag.contains_text s i ≡ true → bag.contains_text n i ≡ true
+  same_ids s n e i h = subst (λ ks. list_any (λ k. bytes_eq i (string_bytes k)) ks ≡ true) (sym e) h
+
+  -- one that gets a text
+  pub one_more_id : (bs : List ℕ) (s n : bag.HashSet (String Z) S) → bag.UpdatesBy string_eq (λ k. bytes_eq bs (string_bytes k)) s n true
+      → (i : List ℕ) → bag.contains_text s i ≡ true → bag.contains_text n i ≡ true
+  one_more_id bs s n u i h = hash_set_updates_text bs s n true u i ∙ or_true (bytes_eq bs i) (bag.contains_text s i) h
+
+  pub new_id : (bs : List ℕ) (s n : bag.HashSet (String Z) S) → bag.UpdatesBy string_eq (λ k. bytes_eq bs (string_bytes k)) s n true
+      → bag.contains_text n bs ≡ true
+  new_id bs s n u = u.1
+
+  -- one that loses a text
+  pub one_less_id : (bs : List ℕ) (s n : bag.HashSet (String Z) S) → bag.UpdatesBy string_eq (λ k. bytes_eq bs (string_bytes k)) s n false
+      → (i : List ℕ) → i ≢ bs → bag.contains_text s i ≡ true → bag.contains_text n i ≡ true
+  one_less_id bs s n u i other h =
+      hash_set_updates_text bs s n false u i ∙ unless_same (bytes_eq bs i) (bag.contains_text s i) (λ t. other (sym ((bytes_decides bs i).0 t))) h
+
+  -- one whose texts are filtered
+  pub filtered_ids : (p : List ℕ → Bool) (s n : bag.HashSet (String Z) S) → n.keys ≡ filter (λ k. p (string_bytes k)) s.keys
+      → (i : List ℕ) → p i ≡ true → bag.contains_text s i ≡ true → bag.contains_text n i ≡ true
+  filtered_ids p s n e i passes h = subst (λ ks. list_any (λ k. bytes_eq i (string_bytes k)) ks ≡ true) (sym e) (filtered_any p i passes s.keys h)
+
 module _ {Y Z S T : Type 0} where
   -- after a change at one name an id stands where it stood, if it does so under that name
   pub keeps : (bs : List ℕ) (m n : Names Y Z S T) (w : Option (bag.HashSet (String Z) S))
@@ -61,40 +95,6 @@ module _ {Y Z S T : Type 0} where
   pub found : (bs : List ℕ) (m n : Names Y Z S T) (w : Option (bag.HashSet (String Z) S))
       → hash.UpdatesBy string_eq (λ k. bytes_eq bs (string_bytes k)) m n w → hash.get_by_text n bs ≡ w
   found bs m n w u = u.1
-
-  -- ---- sets of ids
-
-  -- a set whose texts stay
-  pub same_ids : (s n : bag.HashSet (String Z) S) → n.keys ≡ s.keys → (i : List ℕ) → bag.contains_text s i ≡ true → bag.contains_text n i ≡ true
-  same_ids s n e i h = subst (λ ks. list_any (λ k. bytes_eq i (string_bytes k)) ks ≡ true) (sym e) h
-
-  or_true : (b : Bool) (c : Bool) → c ≡ true → cond b true c ≡ true
-  or_true true c e = refl
-  or_true false c e = e
-
-  -- one that gets a text
-  pub one_more_id : (bs : List ℕ) (s n : bag.HashSet (String Z) S) → bag.UpdatesBy string_eq (λ k. bytes_eq bs (string_bytes k)) s n true
-      → (i : List ℕ) → bag.contains_text s i ≡ true → bag.contains_text n i ≡ true
-  one_more_id bs s n u i h = hash_set_updates_text bs s n true u i ∙ or_true (bytes_eq bs i) (bag.contains_text s i) h
-
-  pub new_id : (bs : List ℕ) (s n : bag.HashSet (String Z) S) → bag.UpdatesBy string_eq (λ k. bytes_eq bs (string_bytes k)) s n true
-      → bag.contains_text n bs ≡ true
-  new_id bs s n u = u.1
-
-  unless_same : (b c : Bool) → (b ≡ true → ⊥) → c ≡ true → cond b false c ≡ true
-  unless_same true c n e = absurd (n refl)
-  unless_same false c n e = e
-
-  -- one that loses a text
-  pub one_less_id : (bs : List ℕ) (s n : bag.HashSet (String Z) S) → bag.UpdatesBy string_eq (λ k. bytes_eq bs (string_bytes k)) s n false
-      → (i : List ℕ) → i ≢ bs → bag.contains_text s i ≡ true → bag.contains_text n i ≡ true
-  one_less_id bs s n u i other h =
-      hash_set_updates_text bs s n false u i ∙ unless_same (bytes_eq bs i) (bag.contains_text s i) (λ t. other (sym ((bytes_decides bs i).0 t))) h
-
-  -- one whose texts are filtered
-  pub filtered_ids : (p : List ℕ → Bool) (s n : bag.HashSet (String Z) S) → n.keys ≡ filter (λ k. p (string_bytes k)) s.keys
-      → (i : List ℕ) → p i ≡ true → bag.contains_text s i ≡ true → bag.contains_text n i ≡ true
-  filtered_ids p s n e i passes h = subst (λ ks. list_any (λ k. bytes_eq i (string_bytes k)) ks ≡ true) (sym e) (filtered_any p i passes s.keys h)
 
   -- ---- a set that was written through
 

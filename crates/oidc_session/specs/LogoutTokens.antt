@@ -28,7 +28,7 @@ use Rattle.oidc_session.specs.declared.errors.LogoutError.TheVariants.{Parse, Un
 
 -- what is known of keys and of their algorithms: the words of these, and what a key says of an algorithm, a message and
 -- a signature
-pub record LogoutKeys (Key Algorithm : Type 0) : Type 0 where
+pub record LogoutKeys (Key Algorithm : Type 0) : Type 1 where
   pub words : Words Algorithm
   pub verdict : Key → Algorithm → List ℕ → List ℕ → Verdict
 

@@ -23,6 +23,38 @@ use oidc_login::SignedIn;
 use std::alloc::Global;
 use std::marker::Model;
 
+// Removes the sessions that a logout token names, and tells how many.
+fn log_out<K: JsonWebKey>(
+    alloc: Global,
+    verifier: &LogoutVerifier<'_, K>,
+    kept: &mut Store,
+    text: &str,
+    now: Timestamp,
+) -> Result<usize, LogoutError>
+    ensures reply { let keys = logout_keys K.SigningAlgorithm.ClosedVocabulary K.verdict in
+        let v = logout_verifier verifier.now.client_id.now verifier.now.issuer.now
+            verifier.now.key.now verifier.now.alg.now in
+        let meant = accepted_logout keys v kept.old.token_ids now.nanosecond text.now in
+        Gives logout_errors result (count_named kept.old meant) }
+    ensures ok { let keys = logout_keys K.SigningAlgorithm.ClosedVocabulary K.verdict in
+        let v = logout_verifier verifier.now.client_id.now verifier.now.issuer.now
+            verifier.now.key.now verifier.now.alg.now in
+        let meant = accepted_logout keys v kept.old.token_ids now.nanosecond text.now in
+        OnOk result (kept.new ≡ left_by kept.old meant) }
+    ensures err { OnErr result (kept.new ≡ kept.old) }
+{
+    match verifier.accept(alloc, text, kept.token_ids(), now) {
+        Ok(logout) => match kept.log_out(alloc, &logout) {
+            Ok(count) => Ok(count),
+            Err(_) => {
+                drop(logout);
+                Err(LogoutError::Memory)
+            }
+        },
+        Err(refusal) => Err(refusal),
+    }
+}
+
 /// The sessions that a site keeps after logins, until they end, are closed, or are ended by a logout token of the
 /// provider. Contracts see what is expected of such a token, and what is kept: the finite map from each id to its
 /// session, and the set of the ids of the logout tokens that were accepted.
@@ -180,13 +212,6 @@ impl<'v, K: JsonWebKey> Sessions<'v, K> {
             (Ok (count_of (is_named logout) self.old.kept.sessions)) }
         ensures no_inner_memory { IfErr result (λ e. holds_memory e ≡ false) }
     {
-        let verifier = &self.verifier;
-        match verifier.accept(self.alloc, text, self.kept.token_ids(), now) {
-            Ok(logout) => match self.kept.log_out(self.alloc, &logout) {
-                Ok(count) => Ok(count),
-                Err(_) => Err(LogoutError::Memory),
-            },
-            Err(refusal) => Err(refusal),
-        }
+        log_out(self.alloc, &self.verifier, &mut self.kept, text, now)
     }
 }

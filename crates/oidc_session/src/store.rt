@@ -99,6 +99,30 @@ fn is_behind(session: Option<&Session>, name: &str) -> bool
     }
 }
 
+// Takes the id of a session that is gone away from under its subject, where no other session of the id has it.
+fn unlink_subject(sessions: &SessionMap, by_subject: &mut Index, gone: &Session, id: &str)
+    ensures others { (q : List ℕ) (s : SeenSession) → finite.get sessions.now q ≡ Some s
+        → holds by_subject.old.ids s.subject q ≡ true
+        → holds by_subject.new.ids s.subject q ≡ true }
+{
+    let subject = gone.subject().as_str();
+    if !is_of_subject(sessions.get(id), subject) {
+        by_subject.unlink(subject, id);
+    }
+}
+
+// Takes the id of a session that is gone away from under a session of the provider, where no other session of the id
+// has it behind it.
+fn unlink_behind(sessions: &SessionMap, by_provider_session: &mut Index, name: &str, id: &str)
+    ensures others { (q n : List ℕ) (s : SeenSession) → finite.get sessions.now q ≡ Some s
+        → s.provider_session ≡ Some n → holds by_provider_session.old.ids n q ≡ true
+        → holds by_provider_session.new.ids n q ≡ true }
+{
+    if !is_behind(sessions.get(id), name) {
+        by_provider_session.unlink(name, id);
+    }
+}
+
 // Takes the id of a session that is gone away from under its names, where no other session of the id has them.
 fn unlink(
     sessions: &SessionMap,
@@ -110,14 +134,10 @@ fn unlink(
     requires { IsIndexed sessions.now by_subject.old.ids by_provider_session.old.ids }
     ensures { IsIndexed sessions.now by_subject.new.ids by_provider_session.new.ids }
 {
-    let found = sessions.get(id);
-    if !is_of_subject(found, gone.subject().as_str()) {
-        by_subject.unlink(gone.subject().as_str(), id);
-    }
-    if let Some(name) = gone.provider_session() {
-        if !is_behind(found, name.as_str()) {
-            by_provider_session.unlink(name.as_str(), id);
-        }
+    unlink_subject(sessions, by_subject, gone, id);
+    match gone.provider_session() {
+        Some(name) => unlink_behind(sessions, by_provider_session, name.as_str(), id),
+        None => {}
     }
 }
 
@@ -128,11 +148,10 @@ fn unlink_name(index: &mut Index, kind: Name, gone: &Session, id: &str)
 {
     match kind {
         Name::Subject => index.unlink(gone.subject().as_str(), id),
-        Name::ProviderSession => {
-            if let Some(name) = gone.provider_session() {
-                index.unlink(name.as_str(), id);
-            }
-        }
+        Name::ProviderSession => match gone.provider_session() {
+            Some(name) => index.unlink(name.as_str(), id),
+            None => {}
+        },
     }
 }
 
@@ -153,10 +172,12 @@ fn take_one(sessions: &mut SessionMap, index: &mut Index, kind: Name, logout: &L
     ensures others { (n i : List ℕ) → IsSome (finite.get sessions.new i)
         → holds index.old.ids n i ≡ true → holds index.new.ids n i ≡ true }
 {
-    if is_named_at(sessions, logout, id) {
-        if let Some(gone) = sessions.remove(id) {
-            unlink_name(index, kind, &gone, id);
-        }
+    if !is_named_at(sessions, logout, id) {
+        return;
+    }
+    match sessions.remove(id) {
+        Some(gone) => unlink_name(index, kind, &gone, id),
+        None => {}
     }
 }
 
@@ -178,6 +199,92 @@ fn take_named(
     }
 }
 
+// Removes the sessions under a name that a logout names, and takes their ids away from under their names of this kind.
+fn take_all(
+    name: &str,
+    sessions: &mut SessionMap,
+    own: &Index,
+    other: &mut Index,
+    kind: Name,
+    logout: &Logout,
+)
+    ensures left { (q : List ℕ) → finite.get sessions.new q
+        ≡ left_at logout.now (holds own.now.ids name.now q) (finite.get sessions.old q) }
+    ensures others { (n i : List ℕ) → IsSome (finite.get sessions.new i)
+        → holds other.old.ids n i ≡ true → holds other.new.ids n i ≡ true }
+{
+    match own.under(name) {
+        Some(ids) => take_named(ids, sessions, other, kind, logout),
+        None => {}
+    }
+}
+
+// Removes the sessions under a name that a logout names, and takes their ids away from under all their names.
+fn take_under(
+    name: &str,
+    sessions: &mut SessionMap,
+    own: &mut Index,
+    other: &mut Index,
+    kind: Name,
+    logout: &Logout,
+)
+    ensures left { (q : List ℕ) → finite.get sessions.new q
+        ≡ left_at logout.now (holds own.old.ids name.now q) (finite.get sessions.old q) }
+    ensures own { (n i : List ℕ) → IsSome (finite.get sessions.new i)
+        → holds own.old.ids n i ≡ true → holds own.new.ids n i ≡ true }
+    ensures others { (n i : List ℕ) → IsSome (finite.get sessions.new i)
+        → holds other.old.ids n i ≡ true → holds other.new.ids n i ≡ true }
+{
+    take_all(name, sessions, own, other, kind, logout);
+    own.keep_live(name, sessions);
+}
+
+// Removes the sessions that a logout names: by the provider's session, where it has one, else by the subject.
+fn remove_named(
+    sessions: &mut SessionMap,
+    by_subject: &mut Index,
+    by_provider_session: &mut Index,
+    logout: &Logout,
+)
+    requires names { IsTrue (is_some logout.now.subject || is_some logout.now.provider_session) }
+    requires indexed { IsIndexed sessions.old by_subject.old.ids by_provider_session.old.ids }
+    ensures rest { sessions.new ≡ without (is_named logout.now) sessions.old }
+    ensures indexed { IsIndexed sessions.new by_subject.new.ids by_provider_session.new.ids }
+{
+    match &logout.provider_session {
+        Some(name) => take_under(
+            name.as_str(),
+            sessions,
+            by_provider_session,
+            by_subject,
+            Name::Subject,
+            logout,
+        ),
+        None => match &logout.subject {
+            Some(subject) => take_under(
+                subject.as_str(),
+                sessions,
+                by_subject,
+                by_provider_session,
+                Name::ProviderSession,
+                logout,
+            ),
+            None => unreachable!(),
+        },
+    }
+}
+
+// Takes the id of a session that has ended away from under its name of this kind.
+fn unlink_if_ended(index: &mut Index, kind: Name, id: &str, session: &Session, now: Timestamp)
+    ensures others { (n i : List ℕ) → (ends_after now.nanosecond session.now ≡ false → i ≢ id.now)
+        → holds index.old.ids n i ≡ true → holds index.new.ids n i ≡ true }
+{
+    if session.ends_after(now) {
+        return;
+    }
+    unlink_name(index, kind, session, id);
+}
+
 // Takes the ids of the sessions that have ended away from under their names.
 fn unlink_ended(
     sessions: &SessionMap,
@@ -194,15 +301,14 @@ fn unlink_ended(
         → holds by_provider_session.new.ids n i ≡ true }
 {
     for (id, session) in &sessions.sessions {
-        if !session.ends_after(now) {
-            unlink_name(by_subject, Name::Subject, session, id.as_str());
-            unlink_name(
-                by_provider_session,
-                Name::ProviderSession,
-                session,
-                id.as_str(),
-            );
-        }
+        unlink_if_ended(by_subject, Name::Subject, id.as_str(), session, now);
+        unlink_if_ended(
+            by_provider_session,
+            Name::ProviderSession,
+            id.as_str(),
+            session,
+            now,
+        );
     }
 }
 
@@ -305,42 +411,6 @@ impl Store {
         before.saturating_sub(self.sessions.len())
     }
 
-    // Removes the sessions that a logout names. It takes no memory.
-    fn remove_named(&mut self, logout: &Logout)
-        requires { IsTrue (is_some logout.now.subject || is_some logout.now.provider_session) }
-        ensures { self.new ≡ record self.old {
-          sessions = without (is_named logout.now) self.old.sessions;
-        } }
-    {
-        let Store {
-            sessions,
-            by_subject,
-            by_provider_session,
-            ..
-        } = self;
-        match (&logout.provider_session, &logout.subject) {
-            (Some(name), _) => {
-                if let Some(ids) = by_provider_session.under(name.as_str()) {
-                    take_named(ids, sessions, by_subject, Name::Subject, logout);
-                }
-                by_provider_session.keep_live(name.as_str(), sessions);
-            }
-            (None, Some(subject)) => {
-                if let Some(ids) = by_subject.under(subject.as_str()) {
-                    take_named(
-                        ids,
-                        sessions,
-                        by_provider_session,
-                        Name::ProviderSession,
-                        logout,
-                    );
-                }
-                by_subject.keep_live(subject.as_str(), sessions);
-            }
-            (None, None) => unreachable!(),
-        }
-    }
-
     // Keeps the id of a logout token, removes the sessions that it names, and tells how many. After an error all is as
     // it was.
     pub(crate) fn log_out(&mut self, alloc: Global, logout: &Logout) -> Result<usize, AllocError>
@@ -353,7 +423,12 @@ impl Store {
         let id = String::from_str(alloc, logout.token_id.as_str())?;
         self.token_ids.insert(id)?;
         let before = self.sessions.len();
-        self.remove_named(logout);
+        remove_named(
+            &mut self.sessions,
+            &mut self.by_subject,
+            &mut self.by_provider_session,
+            logout,
+        );
         Ok(before.saturating_sub(self.sessions.len()))
     }
 }
