@@ -119,6 +119,10 @@ module _ {Y : Type 0} where
   pub get_kept : {S : Type 0} (m : hash.HashMap (String Y) SeenSession S) (q : List ℕ) → finite.get (kept_sessions m) q ≡ hash.get_by_text m q
   get_kept m q = finite.get-from_entries nat_list_cmp_total (by_id m.entries) q ∙ find_lookup q m.entries
 
+  pub shown_at : {S : Type 0} (m : hash.HashMap (String Y) SeenSession S) (k : String Y) (v : SeenSession) → hash.get string_eq m k ≡ Some v
+      → finite.get (kept_sessions m) (string_bytes k) ≡ Some v
+  shown_at m k v h = get_kept m (string_bytes k) ∙ h
+
   pub kept_insert : {S : Type 0} (bs : List ℕ) (m n : hash.HashMap (String Y) SeenSession S) (v : SeenSession)
       → hash.UpdatesBy string_eq (λ k. bytes_eq bs (string_bytes k)) m n (Some v) → kept_sessions n ≡ finite.insert (kept_sessions m) bs v
   kept_insert bs m n v u =

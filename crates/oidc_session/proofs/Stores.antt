@@ -1,9 +1,14 @@
 -- That sessions stay indexed, and what a logout leaves of them.
 use Rattle.std.proofs.Common.{◌≡◌, ◌≢◌, ℕ, ℤ, Bool, true, false, cond, List, Option, None, Some, refl, sym, ap, subst, ◌∙◌, String}
-use Rattle.std.specs.Prelude.{◌&&◌, ◌||◌, not, is_some, IfSome, IsSome, int_lt}
+use Rattle.std.specs.Borrow.{Bor}
+use Rattle.std.specs.List.{list_any}
+use Rattle.std.specs.Map.Iter.{deref}
+use Rattle.std.specs.String.{string_bytes}
+use Rattle.std.specs.Cmp.{nat_eq_equiv}
+use Rattle.std.specs.Prelude.{[], ◌∷◌, ◌++◌, map, ◌&&◌, ◌||◌, not, is_some, IfSome, IsSome, int_lt}
 use Rattle.std.specs.Option.{option_map_or}
 use Rattle.std.specs.FinMap as finite
-use Rattle.std.specs.Cmp.Lexicographic.{bytes_decides}
+use Rattle.std.specs.Cmp.Lexicographic.{bytes_decides, lists_equiv}
 use Rattle.std.specs.Str.{bytes_eq}
 use Rattle.std.proofs.lemmas.Bool.{and_parts, false≢true}
 use Rattle.oidc_session.specs.Sessions.{SeenSession, Sessions, ends_after, has_ended, without, SeenLogout, is_asked, is_named}
@@ -67,6 +72,16 @@ module _ {Y Z S T : Type 0} where
       → holds a s.subject id ≡ true → IfSome s.provider_session (λ name. holds b name id ≡ true) → IsIndexed (finite.insert m id s) a b
   indexed_insert m id s a b was own behind q t e =
       put_at (bytes_eq id q) id q s t (finite.get m q) a b refl (sym (get_inserted m id s q) ∙ e) own behind (λ h. was q t h)
+
+  pub indexed_inserted : (m n : Sessions) (id own : List ℕ) (s : SeenSession) (a b a' b' : Names Y Z S T) → IsIndexed m a b
+      → ((x i : List ℕ) → holds a x i ≡ true → holds a' x i ≡ true) → ((x i : List ℕ) → holds b x i ≡ true → holds b' x i ≡ true)
+      → n ≡ finite.insert m own s → own ≡ id → holds a' s.subject id ≡ true → IfSome s.provider_session (λ name. holds b' name id ≡ true) → IsIndexed n a' b'
+  indexed_inserted m n id own s a b a' b' was more_a more_b is same there behind =
+      subst (λ z. IsIndexed z a' b') (sym (is ∙ ap (λ k. finite.insert m k s) same))
+      (indexed_insert m id s a' b' (indexed_more m a b a' b' was more_a more_b) there behind)
+
+  pub indexed_nothing : (m : Sessions) (a b : Names Y Z S T) → m ≡ finite.empty → IsIndexed m a b
+  indexed_nothing m a b is q s e = absurd (none_some s (sym (ap (λ z. finite.get z q) is ∙ finite.get-empty _ q) ∙ e))
 
   -- ---- sessions that are gone
 
@@ -218,3 +233,22 @@ gone_at m id q e = λ i. cond ((bytes_decides id q).1 (sym e) i) None (finite.ge
 pub not_there : (m : Sessions) (id q : List ℕ) → IsSome (finite.get (finite.remove m id) q) → q ≢ id
 not_there m id q h e = false≢true (sym (ap is_some (get_removed m id q ∙ gone_at m id q e)) ∙ h)
 
+
+-- ---- the ids that a loop went over
+
+swapped : (a b c : Bool) → (a || (b || c)) ≡ (b || (a || c))
+swapped true true c = refl
+swapped true false c = refl
+swapped false b c = refl
+
+same_tests : {Z : Type 0} (q : List ℕ) (xs : List (Bor (String Z))) → list_any (λ k. bytes_eq (string_bytes k.now) q) xs ≡ list_any (λ k. bytes_eq q (string_bytes k)) (map deref xs)
+same_tests q [] = refl
+same_tests q (x ∷ xs) = λ i. (lists_equiv nat_eq_equiv).symm (string_bytes x.now) q i || same_tests q xs i
+
+pub any_push : {A : Type 0} (p : A → Bool) (xs : List A) (x : A) → list_any p (xs ++ x ∷ []) ≡ (p x || list_any p xs)
+any_push p [] x = refl
+any_push p (y ∷ xs) x = ap (λ b. p y || b) (any_push p xs x) ∙ swapped (p y) (p x) (list_any p xs)
+
+pub any_shown : {Z : Type 0} (q : List ℕ) (xs : List (Bor (String Z))) (ks : List (String Z)) → map deref xs ≡ ks
+    → list_any (λ k. bytes_eq (string_bytes k.now) q) xs ≡ list_any (λ k. bytes_eq q (string_bytes k)) ks
+any_shown q xs ks e = same_tests q xs ∙ ap (λ ks. list_any (λ k. bytes_eq q (string_bytes k)) ks) e
