@@ -252,3 +252,11 @@ any_push p (y ∷ xs) x = ap (λ b. p y || b) (any_push p xs x) ∙ swapped (p y
 pub any_shown : {Z : Type 0} (q : List ℕ) (xs : List (Bor (String Z))) (ks : List (String Z)) → map deref xs ≡ ks
     → list_any (λ k. bytes_eq (string_bytes k.now) q) xs ≡ list_any (λ k. bytes_eq q (string_bytes k)) ks
 any_shown q xs ks e = same_tests q xs ∙ ap (λ ks. list_any (λ k. bytes_eq q (string_bytes k)) ks) e
+
+left_there_by : (b : Bool) (found : Option SeenSession) → is_some (cond b None found) ≡ true → is_some found ≡ true
+left_there_by true found h = absurd (false≢true h)
+left_there_by false found h = h
+
+-- a session that is left was there
+pub left_some : (logout : SeenLogout) (b : Bool) (found : Option SeenSession) → IsSome (left_at logout b found) → IsSome found
+left_some logout b found h = left_there_by (b && is_named_at logout found) found h
