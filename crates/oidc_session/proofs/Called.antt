@@ -7,7 +7,7 @@ use Rattle.oidc_keys.specs.Jwk.{Verdict}
 use Rattle.oidc_oauth2.specs.Replies.{Unless, Gives}
 use Rattle.oidc_oauth2.proofs.Runs.{unless_map}
 use Rattle.oidc_login.proofs.Walks.{Walk}
-use Rattle.oidc_session.specs.Sessions.{Kept, SeenLogout, count_of, is_named}
+use Rattle.oidc_session.specs.Sessions.{Kept, SeenLogout, count_of, ends_session}
 use Rattle.oidc_session.specs.LogoutTokens.{LogoutKeys, SeenLogoutVerifier, SeenLogoutToken, accepted_logout, logout_errors, is_memory, holds_memory}
 use Rattle.oidc_session.specs.LogoutCauses.{LogoutCause, IsAcceptedLogout}
 use Rattle.oidc_session.specs.Events.{count_named}
@@ -58,7 +58,7 @@ module _ {Key Algorithm : Type 0} (keys : LogoutKeys Key Algorithm) (v : SeenLog
     pub ok_accepted : IfOk result (λ _. (logout : SeenLogout) × IsAcceptedLogout keys v kept.token_ids now text logout)
     ok_accepted = by_ok result gives
 
-    pub accepts_given : (logout : SeenLogout) → IsAcceptedLogout keys v kept.token_ids now text logout → Gives logout_errors result (Ok (count_of (is_named logout) kept.sessions))
+    pub accepts_given : (logout : SeenLogout) → IsAcceptedLogout keys v kept.token_ids now text logout → Gives logout_errors result (Ok (count_of (ends_session logout) kept.sessions))
     accepts_given logout is = subst (λ reply. Gives logout_errors result (count_named kept reply)) (accepts keys v kept.token_ids now text logout is) gives
 
     fault_holds : NeverWants keys → (fault : SignatureVerificationError) (token : SeenLogoutToken Algorithm) → keys.verdict v.key v.alg token.message token.signature ≡ Err fault

@@ -79,11 +79,11 @@ module _ {Key Algorithm : Type 0} (keys : LogoutKeys Key Algorithm) (v : SeenLog
     PassesHere u = Passes token
 
     by_claims : IsVerified keys v now text token → Walk PassesHere Why (do
-        refusal.Expired when not (int_lt now token.payload.needed.expiration)
-        refusal.Events when not token.payload.needed.names_logout
-        refusal.NoName when not (names_somebody token.payload)
-        refusal.Nonce when token.payload.has_nonce
-        refusal.Replayed when set.contains token_ids token.payload.needed.token_id)
+      refusal.Expired when not (int_lt now token.payload.needed.expiration)
+      refusal.Events when not token.payload.needed.names_logout
+      refusal.NoName when not (names_somebody token.payload)
+      refusal.Nonce when token.payload.has_nonce
+      refusal.Replayed when set.contains token_ids token.payload.needed.token_id)
     by_claims verified =
         at_when PassesHere Why (not (int_lt now token.payload.needed.expiration)) refusal.Expired _
         (λ h. record { token = token; is_verified = verified; expired = not_less now token.payload.needed.expiration (not_true _ h) })

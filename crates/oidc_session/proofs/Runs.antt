@@ -7,7 +7,7 @@ use Rattle.std.specs.FinSet as set
 use Rattle.std.specs.Cmp.Lexicographic.{bytes_decides}
 use Rattle.std.specs.Str.{bytes_eq}
 use Rattle.std.proofs.lemmas.Bool.{false≢true}
-use Rattle.oidc_session.specs.Sessions.{SeenSession, Sessions, Kept, nothing, ends_after, if_live, session_at, Opening, open_reply, without, has_ended, SeenLogout, is_named}
+use Rattle.oidc_session.specs.Sessions.{SeenSession, Sessions, Kept, nothing, ends_after, if_live, session_at, Opening, open_reply, without, has_ended, SeenLogout, ends_session}
 use Rattle.oidc_session.specs.LogoutTokens.{LogoutKeys, SeenLogoutVerifier, accepted_logout}
 use Rattle.oidc_session.specs.Events.{Event, opens, looks, closes, sweeps, logs_out, Reply, opened, looked, closed, opened_by, open_step, look_step, close_step, logout_in, left_by, step, kept_from, kept_of, turns_from, is_opened, is_among_named, takes, Stands, WasOpened, AnswersUntilEnd, is_about, is_about_all, concerning, RunsAsAlone}
 use Rattle.oidc_oauth2.specs.Replies.{◌>>◌, ◌when◌}
@@ -85,12 +85,12 @@ opened_here (Err why) kept o id session is same_id same_session = absurd cc
 
 left_named : (meant : Result SeenLogout LogoutError) (kept : Kept) (id : List ℕ) (session : SeenSession) → is_among_named meant session ≡ false
     → finite.get kept.sessions id ≡ Some session → finite.get (left_by kept meant).sessions id ≡ Some session
-left_named (Ok logout) kept id session e h = left_standing (is_named logout) kept.sessions id session e h
+left_named (Ok logout) kept id session e h = left_standing (ends_session logout) kept.sessions id session e h
 left_named (Err why) kept id session e h = h
 
 was_named : (meant : Result SeenLogout LogoutError) (kept : Kept) (id : List ℕ) (session : SeenSession) → finite.get (left_by kept meant).sessions id ≡ Some session
     → (finite.get kept.sessions id ≡ Some session) × (is_among_named meant session ≡ false)
-was_named (Ok logout) kept id session h = standing (is_named logout) kept.sessions id session h
+was_named (Ok logout) kept id session h = standing (ends_session logout) kept.sessions id session h
 was_named (Err why) kept id session h = (h, refl)
 
 -- ---- a session that is found
@@ -240,7 +240,7 @@ module _ {Key Algorithm : Type 0} (keys : LogoutKeys Key Algorithm) (v : SeenLog
 
     left_alike : (meant : Result SeenLogout LogoutError) (m n : Kept) → Alike m n → Alike (left_by m meant) (left_by n meant)
     left_alike (Ok logout) m n alike = record {
-      same_session = without_alike (is_named logout) m.sessions n.sessions alike.same_session;
+      same_session = without_alike (ends_session logout) m.sessions n.sessions alike.same_session;
       same_tokens = ap (λ ids. set.insert ids logout.token_id) alike.same_tokens;
     }
     left_alike (Err why) m n alike = alike

@@ -11,7 +11,7 @@ use Rattle.std.specs.FinMap as finite
 use Rattle.std.specs.Cmp.Lexicographic.{bytes_decides, lists_equiv}
 use Rattle.std.specs.Str.{bytes_eq}
 use Rattle.std.proofs.lemmas.Bool.{and_parts, false≢true}
-use Rattle.oidc_session.specs.Sessions.{SeenSession, Sessions, ends_after, has_ended, without, SeenLogout, is_asked, is_named}
+use Rattle.oidc_session.specs.Sessions.{SeenSession, Sessions, ends_after, has_ended, without, SeenLogout, is_asked, ends_session}
 use Rattle.oidc_session.specs.Stored.{Names, holds, IsIndexed, is_named_at, left_at}
 use Rattle.oidc_session.proofs.Entries.{same_sessions, get_inserted, get_removed, get_without, left_of}
 
@@ -124,13 +124,13 @@ module _ {Y Z S T : Type 0} where
       (λ q n s e is. keeps_b n q s (left q s e).0 (not_ended now s (left q s e).1))
 
   -- those that a logout leaves
-  pub indexed_logout : (m n : Sessions) (logout : SeenLogout) (a b a' b' : Names Y Z S T) → IsIndexed m a b → n ≡ without (is_named logout) m
+  pub indexed_logout : (m n : Sessions) (logout : SeenLogout) (a b a' b' : Names Y Z S T) → IsIndexed m a b → n ≡ without (ends_session logout) m
       → ((x i : List ℕ) → IsSome (finite.get n i) → holds a x i ≡ true → holds a' x i ≡ true)
       → ((x i : List ℕ) → IsSome (finite.get n i) → holds b x i ≡ true → holds b' x i ≡ true)
       → IsIndexed n a' b'
   indexed_logout m n logout a b a' b' was is keeps_a keeps_b =
       indexed_among m n a b a' b' was
-      (λ q s e. (standing (is_named logout) (finite.get m q) s (sym (ap (λ z. finite.get z q) is ∙ get_without (is_named logout) m q) ∙ e)).0)
+      (λ q s e. (standing (ends_session logout) (finite.get m q) s (sym (ap (λ z. finite.get z q) is ∙ get_without (ends_session logout) m q) ∙ e)).0)
       (λ q s e. keeps_a s.subject q (ap is_some e))
       (λ q x s e same. keeps_b x q (ap is_some e))
 
@@ -143,19 +143,19 @@ left_same logout found false true is all = absurd (false≢true (all refl))
 left_same logout found true false is all = refl
 left_same logout found false false is all = refl
 
-named_some : (logout : SeenLogout) (found : Option SeenSession) → is_named_at logout found ≡ true → (s : SeenSession) × (found ≡ Some s) × (is_named logout s ≡ true)
+named_some : (logout : SeenLogout) (found : Option SeenSession) → is_named_at logout found ≡ true → (s : SeenSession) × (found ≡ Some s) × (ends_session logout s ≡ true)
 named_some logout None h = absurd (false≢true h)
 named_some logout (Some s) h = (s, refl, h)
 
 -- where each session that is named is among those that are asked
 pub logout_left : (logout : SeenLogout) (m n : Sessions) (among : List ℕ → Bool) → ((q : List ℕ) → finite.get n q ≡ left_at logout (among q) (finite.get m q))
-    → ((q : List ℕ) (s : SeenSession) → finite.get m q ≡ Some s → is_named logout s ≡ true → among q ≡ true) → n ≡ without (is_named logout) m
+    → ((q : List ℕ) (s : SeenSession) → finite.get m q ≡ Some s → ends_session logout s ≡ true → among q ≡ true) → n ≡ without (ends_session logout) m
 logout_left logout m n among left all =
-    same_sessions n (without (is_named logout) m) (λ q.
+    same_sessions n (without (ends_session logout) m) (λ q.
     left q
     ∙ left_same logout (finite.get m q) (among q) (is_named_at logout (finite.get m q)) refl
     (λ h. let s = named_some logout (finite.get m q) h in all q s.0 s.1.0 s.1.1)
-    ∙ sym (get_without (is_named logout) m q))
+    ∙ sym (get_without (ends_session logout) m q))
 
 asked_some : (text : List ℕ) (found : Option (List ℕ)) → is_asked (Some text) found ≡ true → found ≡ Some text
 asked_some text None h = absurd (false≢true h)
@@ -163,14 +163,14 @@ asked_some text (Some own) h = ap Some (sym ((bytes_decides text own).0 h))
 
 module _ {Y Z S T : Type 0} (m : Sessions) (a b : Names Y Z S T) (was : IsIndexed m a b) (logout : SeenLogout) where
   -- one that is named by the provider's session stands under that
-  pub named_behind : (name : List ℕ) → logout.provider_session ≡ Some name → (q : List ℕ) (s : SeenSession) → finite.get m q ≡ Some s → is_named logout s ≡ true → holds b name q ≡ true
+  pub named_behind : (name : List ℕ) → logout.provider_session ≡ Some name → (q : List ℕ) (s : SeenSession) → finite.get m q ≡ Some s → ends_session logout s ≡ true → holds b name q ≡ true
   named_behind name is q s e named =
       let parts = and_parts (is_asked logout.subject (Some s.subject)) (is_asked logout.provider_session s.provider_session) named in
       let own = asked_some name s.provider_session (ap (λ x. is_asked x s.provider_session) (sym is) ∙ parts.1) in
       at_some s.provider_session name (was q s e).1 own
 
   -- and one that is named by its subject under that
-  pub named_subject : (subject : List ℕ) → logout.subject ≡ Some subject → (q : List ℕ) (s : SeenSession) → finite.get m q ≡ Some s → is_named logout s ≡ true → holds a subject q ≡ true
+  pub named_subject : (subject : List ℕ) → logout.subject ≡ Some subject → (q : List ℕ) (s : SeenSession) → finite.get m q ≡ Some s → ends_session logout s ≡ true → holds a subject q ≡ true
   named_subject subject is q s e named =
       let parts = and_parts (is_asked logout.subject (Some s.subject)) (is_asked logout.provider_session s.provider_session) named in
       let own = asked_some subject (Some s.subject) (ap (λ x. is_asked x (Some s.subject)) (sym is) ∙ parts.0) in
@@ -182,14 +182,14 @@ left_none : (logout : SeenLogout) (b : Bool) → left_at logout b None ≡ None
 left_none logout true = refl
 left_none logout false = refl
 
-left_unnamed : (logout : SeenLogout) (b : Bool) (s : SeenSession) → is_named logout s ≡ false → left_at logout b (Some s) ≡ Some s
+left_unnamed : (logout : SeenLogout) (b : Bool) (s : SeenSession) → ends_session logout s ≡ false → left_at logout b (Some s) ≡ Some s
 left_unnamed logout true s is = λ i. cond (is i) None (Some s)
 left_unnamed logout false s is = refl
 
-left_true : (logout : SeenLogout) (s : SeenSession) → is_named logout s ≡ true → left_at logout true (Some s) ≡ None
+left_true : (logout : SeenLogout) (s : SeenSession) → ends_session logout s ≡ true → left_at logout true (Some s) ≡ None
 left_true logout s is = λ i. cond (is i) None (Some s)
 
-after_some : (logout : SeenLogout) (here more named : Bool) (s : SeenSession) → is_named logout s ≡ named
+after_some : (logout : SeenLogout) (here more named : Bool) (s : SeenSession) → ends_session logout s ≡ named
     → left_at logout here (left_at logout more (Some s)) ≡ left_at logout (here || more) (Some s)
 after_some logout here more false s is =
     ap (left_at logout here) (left_unnamed logout more s is) ∙ left_unnamed logout here s is ∙ sym (left_unnamed logout (here || more) s is)
@@ -202,7 +202,7 @@ after_some logout false false true s is = refl
 pub after_one : (logout : SeenLogout) (here more : Bool) (found : Option SeenSession)
     → left_at logout here (left_at logout more found) ≡ left_at logout (here || more) found
 after_one logout here more None = ap (left_at logout here) (left_none logout more) ∙ left_none logout here ∙ sym (left_none logout (here || more))
-after_one logout here more (Some s) = after_some logout here more (is_named logout s) s refl
+after_one logout here more (Some s) = after_some logout here more (ends_session logout s) s refl
 
 taken_at : (logout : SeenLogout) (m : Sessions) (id q : List ℕ) (b : Bool) → bytes_eq id q ≡ b → is_named_at logout (finite.get m id) ≡ true
     → cond b None (finite.get m q) ≡ left_at logout b (finite.get m q)
@@ -232,7 +232,6 @@ gone_at m id q e = λ i. cond ((bytes_decides id q).1 (sym e) i) None (finite.ge
 
 pub not_there : (m : Sessions) (id q : List ℕ) → IsSome (finite.get (finite.remove m id) q) → q ≢ id
 not_there m id q h e = false≢true (sym (ap is_some (get_removed m id q ∙ gone_at m id q e)) ∙ h)
-
 
 -- ---- the ids that a loop went over
 

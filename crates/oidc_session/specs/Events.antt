@@ -2,7 +2,7 @@
 use Rattle.std.specs.Prelude.{◌≡◌, ◌↔◌, ℕ, ℤ, List, [], ◌∷◌, ◌++◌, filter, map, Bool, true, false, ◌&&◌, ◌||◌, Option, Some, is_some, Result, Ok, Err}
 use Rattle.std.specs.FinMap as finite
 use Rattle.std.specs.Str.{bytes_eq}
-use Rattle.oidc_session.specs.Sessions.{SeenSession, Kept, nothing, ends_after, session_at, Opening, open_reply, with_session, without, count_of, has_ended, SeenLogout, is_named, logged_out}
+use Rattle.oidc_session.specs.Sessions.{SeenSession, Kept, nothing, ends_after, session_at, Opening, open_reply, with_session, without, count_of, has_ended, SeenLogout, ends_session, logged_out}
 use Rattle.oidc_session.specs.LogoutTokens.{LogoutKeys, SeenLogoutVerifier, accepted_logout}
 use Rattle.oidc_session.specs.declared.errors.OpenError.{OpenError}
 use Rattle.oidc_session.specs.declared.errors.LogoutError.{LogoutError}
@@ -34,7 +34,7 @@ pub data Reply : Type 0 where
   ended : Result ℕ LogoutError → Reply
 
 -- the reply to a call, and what is kept behind it
-pub record Step : Type 0 where
+pub record CallStep : Type 0 where
   pub reply : Reply
   pub kept : Kept
 
@@ -44,23 +44,23 @@ abbrev pub opened_by : Result (Unit {0}) OpenError → Kept → Opening → Kept
 opened_by (Ok u) kept o = record kept { sessions = with_session kept.sessions o }
 opened_by (Err e) kept o = kept
 
-abbrev pub open_step : Kept → Opening → Step
+abbrev pub open_step : Kept → Opening → CallStep
 open_step kept o =
     let reply = open_reply kept.sessions o in record {
       reply = opened reply;
       kept = opened_by reply kept o;
     }
 
-abbrev pub look_step : Kept → Look → Step
+abbrev pub look_step : Kept → Look → CallStep
 look_step kept l = record { reply = looked (session_at kept.sessions l.id l.now); kept = kept }
 
-abbrev pub close_step : Kept → List ℕ → Step
+abbrev pub close_step : Kept → List ℕ → CallStep
 close_step kept id = record {
   reply = closed (finite.contains_key kept.sessions id);
   kept = record kept { sessions = finite.remove kept.sessions id };
 }
 
-abbrev pub sweep_step : Kept → ℤ → Step
+abbrev pub sweep_step : Kept → ℤ → CallStep
 sweep_step kept now = record {
   reply = swept (count_of (has_ended now) kept.sessions);
   kept = record kept { sessions = without (has_ended now) kept.sessions };
@@ -68,7 +68,7 @@ sweep_step kept now = record {
 
 -- how many sessions a logout removes, and what it leaves
 abbrev pub count_named : Kept → Result SeenLogout LogoutError → Result ℕ LogoutError
-count_named kept (Ok logout) = Ok (count_of (is_named logout) kept.sessions)
+count_named kept (Ok logout) = Ok (count_of (ends_session logout) kept.sessions)
 count_named kept (Err e) = Err e
 
 abbrev pub left_by : Kept → Result SeenLogout LogoutError → Kept
@@ -80,7 +80,7 @@ is_opened (Ok u) = true
 is_opened (Err e) = false
 
 abbrev pub is_among_named : Result SeenLogout LogoutError → SeenSession → Bool
-is_among_named (Ok logout) session = is_named logout session
+is_among_named (Ok logout) session = ends_session logout session
 is_among_named (Err e) session = false
 
 -- ---- calls about one id, and about all
@@ -110,13 +110,13 @@ module _ {Key Algorithm : Type 0} (keys : LogoutKeys Key Algorithm) (v : SeenLog
   abbrev pub logout_in : Kept → Posted → Result SeenLogout LogoutError
   logout_in kept p = accepted_logout keys v kept.token_ids p.now p.text
 
-  abbrev pub logout_step : Kept → Posted → Step
+  abbrev pub logout_step : Kept → Posted → CallStep
   logout_step kept p = record {
     reply = ended (count_named kept (logout_in kept p));
     kept = left_by kept (logout_in kept p);
   }
 
-  abbrev pub step : Kept → Event → Step
+  abbrev pub step : Kept → Event → CallStep
   step kept (opens o) = open_step kept o
   step kept (looks l) = look_step kept l
   step kept (closes id) = close_step kept id

@@ -102,13 +102,13 @@ is_asked (Some text) None = false
 is_asked (Some text) (Some found) = bytes_eq text found
 
 -- A session is named where it is of the subject, where there is one, and of the provider's session, where there is one.
-abbrev pub is_named : SeenLogout → SeenSession → Bool
-is_named logout session =
+abbrev pub ends_session : SeenLogout → SeenSession → Bool
+ends_session logout session =
     is_asked logout.subject (Some session.subject) && is_asked logout.provider_session session.provider_session
 
 -- what is kept after a logout: its sessions are gone, and its token's id is among those accepted
 abbrev pub logged_out : Kept → SeenLogout → Kept
 logged_out kept logout = record {
-  sessions = without (is_named logout) kept.sessions;
+  sessions = without (ends_session logout) kept.sessions;
   token_ids = set.insert kept.token_ids logout.token_id;
 }

@@ -6,7 +6,7 @@ use Rattle.std.specs.FinSet as set
 use Rattle.std.specs.HashMap as hash
 use Rattle.std.specs.HashSet as bag
 use Rattle.std.specs.String.{string_bytes}
-use Rattle.oidc_session.specs.Sessions.{SeenSession, Sessions, TokenIds, SeenLogout, is_named}
+use Rattle.oidc_session.specs.Sessions.{SeenSession, Sessions, TokenIds, SeenLogout, ends_session}
 
 abbrev pub by_id : {Y : Type 0} → List (String Y × SeenSession) → List (List ℕ × SeenSession)
 by_id entries = map (λ e. (string_bytes e.0, e.1)) entries
@@ -39,7 +39,7 @@ module _ {Y Z S T : Type 0} where
 
 -- there is a session that a logout names
 abbrev pub is_named_at : SeenLogout → Option SeenSession → Bool
-is_named_at logout found = option_map_or (is_named logout) found false
+is_named_at logout found = option_map_or (ends_session logout) found false
 
 -- what is left at an id, where a test of the id holds
 abbrev pub left_at : SeenLogout → Bool → Option SeenSession → Option SeenSession

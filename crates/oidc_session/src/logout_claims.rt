@@ -9,7 +9,7 @@ ghost use Rattle.oidc_session.specs.LogoutClaims as spec;
 ghost use Rattle.oidc_session.specs.LogoutClaims.{needed_of, logout_claims_of};
 ghost use Rattle.oidc_session.specs.LogoutFields.{logout_fields};
 ghost use Rattle.oidc_session.specs.LogoutTokens.{logout_of, names_somebody};
-ghost use Rattle.oidc_session.specs.Sessions.{is_asked, is_named};
+ghost use Rattle.oidc_session.specs.Sessions.{is_asked, ends_session};
 
 use crate::session::{ProviderSession, Session};
 use jiff::Timestamp;
@@ -213,7 +213,7 @@ impl Model for Logout {
 impl Logout {
     // Whether it names this session.
     pub(crate) fn names(&self, session: &Session) -> bool
-        ensures { result ≡ is_named self.now session.now }
+        ensures { result ≡ ends_session self.now session.now }
     {
         is_asked_subject(self.subject.as_ref(), session.subject())
             && is_asked_session(self.provider_session.as_ref(), session.provider_session())

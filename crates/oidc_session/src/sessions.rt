@@ -6,7 +6,7 @@ ghost use Rattle.std.specs.FinMap as finite;
 ghost use Rattle.std.specs.FinSet as set;
 ghost use Rattle.oidc_oauth2.specs.Replies.{Gives, Unless};
 ghost use Rattle.oidc_login.specs.Token.{subject_of};
-ghost use Rattle.oidc_session.specs.Sessions.{nothing, session_at, opening, with_session, without, count_of, has_ended, is_named, SeenLogout};
+ghost use Rattle.oidc_session.specs.Sessions.{nothing, session_at, opening, with_session, without, count_of, has_ended, ends_session, SeenLogout};
 ghost use Rattle.oidc_session.specs.LogoutTokens.{logout_keys, logout_verifier, logout_errors, accepted_logout, is_memory, holds_memory};
 ghost use Rattle.oidc_session.specs.LogoutCauses.{LogoutCause, IsAcceptedLogout};
 ghost use Rattle.oidc_session.specs.Events.{count_named, left_by};
@@ -33,12 +33,12 @@ fn log_out<K: JsonWebKey>(
 ) -> Result<usize, LogoutError>
     ensures reply { let keys = logout_keys K.SigningAlgorithm.ClosedVocabulary K.verdict in
         let v = logout_verifier verifier.now.client_id.now verifier.now.issuer.now
-            verifier.now.key.now verifier.now.alg.now in
+        verifier.now.key.now verifier.now.alg.now in
         let meant = accepted_logout keys v kept.old.token_ids now.nanosecond text.now in
         Gives logout_errors result (count_named kept.old meant) }
     ensures ok { let keys = logout_keys K.SigningAlgorithm.ClosedVocabulary K.verdict in
         let v = logout_verifier verifier.now.client_id.now verifier.now.issuer.now
-            verifier.now.key.now verifier.now.alg.now in
+        verifier.now.key.now verifier.now.alg.now in
         let meant = accepted_logout keys v kept.old.token_ids now.nanosecond text.now in
         OnOk result (kept.new ≡ left_by kept.old meant) }
     ensures err { OnErr result (kept.new ≡ kept.old) }
@@ -209,7 +209,7 @@ impl<'v, K: JsonWebKey> Sessions<'v, K> {
             (logout : SeenLogout)
             → IsAcceptedLogout keys self.old.verifier ids now.nanosecond text.now logout
             → Gives logout_errors result
-            (Ok (count_of (is_named logout) self.old.kept.sessions)) }
+            (Ok (count_of (ends_session logout) self.old.kept.sessions)) }
         ensures no_inner_memory { IfErr result (λ e. holds_memory e ≡ false) }
     {
         log_out(self.alloc, &self.verifier, &mut self.kept, text, now)

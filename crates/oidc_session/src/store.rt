@@ -7,7 +7,7 @@ ghost use Rattle.std.specs.FinMap as finite;
 ghost use Rattle.std.specs.FinSet as set;
 ghost use Rattle.std.specs.HashSet.{contains_text};
 ghost use Rattle.std.specs.String.{string_bytes};
-ghost use Rattle.oidc_session.specs.Sessions.{SeenSession, nothing, ends_after, has_ended, without, count_of, is_named, logged_out};
+ghost use Rattle.oidc_session.specs.Sessions.{SeenSession, nothing, ends_after, has_ended, without, count_of, ends_session, logged_out};
 ghost use Rattle.oidc_session.specs.Stored.{holds, IsIndexed, left_at, is_named_at as named_at};
 
 use crate::index::Index;
@@ -248,7 +248,7 @@ fn remove_named(
 )
     requires names { IsTrue (is_some logout.now.subject || is_some logout.now.provider_session) }
     requires indexed { IsIndexed sessions.old by_subject.old.ids by_provider_session.old.ids }
-    ensures rest { sessions.new ≡ without (is_named logout.now) sessions.old }
+    ensures rest { sessions.new ≡ without (ends_session logout.now) sessions.old }
     ensures indexed { IsIndexed sessions.new by_subject.new.ids by_provider_session.new.ids }
 {
     match &logout.provider_session {
@@ -416,7 +416,7 @@ impl Store {
     pub(crate) fn log_out(&mut self, alloc: Global, logout: &Logout) -> Result<usize, AllocError>
         requires { IsTrue (is_some logout.now.subject || is_some logout.now.provider_session) }
         ensures count { IfOk result (λ count.
-            count ≡ count_of (is_named logout.now) self.old.sessions) }
+            count ≡ count_of (ends_session logout.now) self.old.sessions) }
         ensures ok { OnOk result (self.new ≡ logged_out self.old logout.now) }
         ensures err { OnErr result (self.new ≡ self.old) }
     {
