@@ -101,7 +101,7 @@ is_asked None found = true
 is_asked (Some text) None = false
 is_asked (Some text) (Some found) = bytes_eq text found
 
--- A session is named where it is of the subject, where there is one, and of the provider's session, where there is one.
+-- It ends a session of its subject, where it has one, behind which its session of the provider is, where it has one.
 abbrev pub ends_session : SeenLogout → SeenSession → Bool
 ends_session logout session =
     is_asked logout.subject (Some session.subject) && is_asked logout.provider_session session.provider_session
