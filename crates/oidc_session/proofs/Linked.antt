@@ -91,6 +91,11 @@ module _ {Y Z S T : Type 0} where
       (chosen (bytes_eq bs q) w (hash.get_by_text m q) i
       (λ t. let e = (bytes_decides bs q).0 t in own (sym e) (subst (λ z. has (hash.get_by_text m z) i ≡ true) (sym e) h)) h)
 
+  -- what stands under a name is the set that is found there
+  pub under_name : (name : List ℕ) (m : Names Y Z S T) (o : Option (bag.HashSet (String Z) S)) → o ≡ hash.get_by_text m name
+      → (q : List ℕ) → has o q ≡ holds m name q
+  under_name name m o e q = λ i. has (e i) q
+
   -- and what is under that name is what it was changed to
   pub found : (bs : List ℕ) (m n : Names Y Z S T) (w : Option (bag.HashSet (String Z) S))
       → hash.UpdatesBy string_eq (λ k. bytes_eq bs (string_bytes k)) m n w → hash.get_by_text n bs ≡ w

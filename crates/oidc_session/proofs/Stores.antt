@@ -47,7 +47,7 @@ module _ {Y Z S T : Type 0} where
       → KeepsSubjects n a a' → KeepsBehind n b b' → IsIndexed n a' b'
   indexed_among m n a b a' b' was among keeps_a keeps_b q s e = (
     keeps_a q s e (was q s (among q s e)).0,
-    if_some_at s.provider_session (λ name is. keeps_b q name s e is (at_some s.provider_session name (was q s (among q s e)).1 is)),
+    if_some_at s.provider_session (λ name is. keeps_b q name s e is (at_some (λ name. holds b name q ≡ true) s.provider_session name (was q s (among q s e)).1 is)),
   )
 
   pub indexed_kept : (m : Sessions) (a b a' b' : Names Y Z S T) → IsIndexed m a b → KeepsSubjects m a a' → KeepsBehind m b b' → IsIndexed m a' b'
@@ -84,10 +84,6 @@ module _ {Y Z S T : Type 0} where
   indexed_nothing m a b is q s e = absurd (none_some s (sym (ap (λ z. finite.get z q) is ∙ finite.get-empty _ q) ∙ e))
 
   -- ---- sessions that are gone
-
-  left_was : (b : Bool) (found : Option SeenSession) (s : SeenSession) → cond b None found ≡ Some s → found ≡ Some s
-  left_was true found s e = absurd (none_some s e)
-  left_was false found s e = e
 
   pub indexed_remove : (m : Sessions) (id : List ℕ) (a b : Names Y Z S T) → IsIndexed m a b → IsIndexed (finite.remove m id) a b
   indexed_remove m id a b was =
@@ -154,7 +150,7 @@ logout_left logout m n among left all =
     same_sessions n (without (ends_session logout) m) (λ q.
     left q
     ∙ left_same logout (finite.get m q) (among q) (is_named_at logout (finite.get m q)) refl
-    (λ h. let s = named_some logout (finite.get m q) h in all q s.0 s.1.0 s.1.1)
+    (λ h. let s = named_some logout (finite.get m q) h in all q s.0 s.1 s.2)
     ∙ sym (get_without (ends_session logout) m q))
 
 asked_some : (text : List ℕ) (found : Option (List ℕ)) → is_asked (Some text) found ≡ true → found ≡ Some text
@@ -167,7 +163,7 @@ module _ {Y Z S T : Type 0} (m : Sessions) (a b : Names Y Z S T) (was : IsIndexe
   named_behind name is q s e named =
       let parts = and_parts (is_asked logout.subject (Some s.subject)) (is_asked logout.provider_session s.provider_session) named in
       let own = asked_some name s.provider_session (ap (λ x. is_asked x s.provider_session) (sym is) ∙ parts.1) in
-      at_some s.provider_session name (was q s e).1 own
+      at_some (λ name. holds b name q ≡ true) s.provider_session name (was q s e).1 own
 
   -- and one that is named by its subject under that
   pub named_subject : (subject : List ℕ) → logout.subject ≡ Some subject → (q : List ℕ) (s : SeenSession) → finite.get m q ≡ Some s → ends_session logout s ≡ true → holds a subject q ≡ true
@@ -259,3 +255,11 @@ left_there_by false found h = h
 -- a session that is left was there
 pub left_some : (logout : SeenLogout) (b : Bool) (found : Option SeenSession) → IsSome (left_at logout b found) → IsSome found
 left_some logout b found h = left_there_by (b && is_named_at logout found) found h
+
+-- ---- the sessions that a loop went over
+
+-- the id of a session that hasn't ended isn't that of one that has
+pub still_there : (m : Sessions) (id i : List ℕ) (session s : SeenSession) (now : ℤ) → finite.get m id ≡ Some session → finite.get m i ≡ Some s
+    → ends_after now s ≡ true → ends_after now session ≡ false → i ≢ id
+still_there m id i session s now here there live ended e =
+    false≢true (sym ended ∙ ap (ends_after now) (same_some session s (sym here ∙ ap (finite.get m) (sym e) ∙ there)) ∙ live)
