@@ -56,21 +56,21 @@ module _ {JE JS P : Type 0} (encryption_named : List ℕ → Option JE) (signing
   unfolding token_of
   read_from text token h =
       let a = bound (ok_or (three_parts text) no_token) _ token h in
-      let b = bound (decoded a.0.header) _ token a.1.1 in
-      let c = bound (decoded a.0.payload) _ token b.1.1 in
-      let d = bound (decoded a.0.signature) _ token c.1.1 in
-      let e = bound (object_read (header_of encryption_named signing_named) b.0) _ token d.1.1 in
-      let f = bound (object_read payload_read c.0) _ token e.1.1 in
-      let g = bound (split_of c.0) payload_read f.0 f.1.0 in
-      let same : f.0 ≡ token.payload = ap (λ (t : SeenToken JE JS P). t.payload) (same_ok _ token f.1.1) in
+      let b = bound (decoded a.0.header) _ token a.2 in
+      let c = bound (decoded a.0.payload) _ token b.2 in
+      let d = bound (decoded a.0.signature) _ token c.2 in
+      let e = bound (object_read (header_of encryption_named signing_named) b.0) _ token d.2 in
+      let f = bound (object_read payload_read c.0) _ token e.2 in
+      let g = bound (split_of c.0) payload_read f.0 f.1 in
+      let same : f.0 ≡ token.payload = ap (λ (t : SeenToken JE JS P). t.payload) (same_ok _ token f.2) in
       record {
         parts = a.0;
-        has_parts = parts_of (three_parts text) a.0 a.1.0;
+        has_parts = parts_of (three_parts text) a.0 a.1;
         second = c.0;
-        decoded_as = c.1.0;
+        decoded_as = c.1;
         members = g.0;
-        split_as = g.1.0;
-        read_as = g.1.1 ∙ ap Ok same;
+        split_as = g.1;
+        read_as = g.2 ∙ ap Ok same;
       }
 
 -- ---- the nonce of either
@@ -83,28 +83,28 @@ module _ {AC GC : Type 0} (additional_read : List SeenMember → Result AC Refus
   unfolding own_of
   own_nonce members own h =
       let a = bound (id_needed_of STRICT members) _ own h in
-      sym (ap (λ (o : SeenOwnClaims). o.nonce) (same_ok _ own a.1.1))
+      sym (ap (λ (o : SeenOwnClaims). o.nonce) (same_ok _ own a.2))
 
   parts_nonce : (members : List SeenMember) (claims : SeenIdTokenClaims AC GC) → parts_in additional_read gender_read STRICT members ≡ Ok claims → claims.own.nonce ≡ optional id_nonce members
   unfolding parts_in
   parts_nonce members claims h =
       let a = bound (own_of STRICT members) _ claims h in
-      let b = bound _ _ claims a.1.1 in
-      let c = bound _ _ claims b.1.1 in
-      sym (ap (λ (o : SeenIdTokenClaims AC GC). o.own.nonce) (same_ok _ claims c.1.1)) ∙ own_nonce members a.0 a.1.0
+      let b = bound _ _ claims a.2 in
+      let c = bound _ _ claims b.2 in
+      sym (ap (λ (o : SeenIdTokenClaims AC GC). o.own.nonce) (same_ok _ claims c.2)) ∙ own_nonce members a.0 a.1
 
   pub id_token_nonce : (members : List SeenMember) (claims : SeenIdTokenClaims AC GC) → id_token_claims_of additional_read gender_read STRICT members ≡ Ok claims → claims.own.nonce ≡ optional id_nonce members
   unfolding id_token_claims_of
   id_token_nonce members claims h =
       let a = bound (faultless (id_token_rule gender_read STRICT) members) _ claims h in
-      parts_nonce members claims a.1.1
+      parts_nonce members claims a.2
 
 logout_nonce : (members : List SeenMember) (claims : SeenLogoutClaims) → logout_claims_of members ≡ Ok claims → claims.has_nonce ≡ is_some (optional nonce members)
 unfolding logout_claims_of
 logout_nonce members claims h =
     let a = bound (faultless logout_rule members) _ claims h in
-    let b = bound (needed_of members) _ claims a.1.1 in
-    sym (ap (λ (c : SeenLogoutClaims). c.has_nonce) (same_ok _ claims b.1.1))
+    let b = bound (needed_of members) _ claims a.2 in
+    sym (ap (λ (c : SeenLogoutClaims). c.has_nonce) (same_ok _ claims b.2))
 
 -- a member that isn't null and reads as a text is there for any kind
 at_member : (b : Bool) (m : SeenMember) (n : List ℕ)
