@@ -26,13 +26,11 @@ module _ {Key Algorithm : Type 0} (keys : LogoutKeys Key Algorithm) (v : SeenLog
   abbrev Why : LogoutError → Type 0
   Why = LogoutCause keys v kept.token_ids now text
 
-  same_err : (a b : LogoutError) → Err {A = ℕ} a ≡ Err b → a ≡ b
-  same_err a b h = cc
 
   -- an answer of the table, as a number
   counted : (reply : Result SeenLogout LogoutError) (e : LogoutError) → count_named kept reply ≡ Err e → reply ≡ Err e
   counted (Ok logout) e h = absurd cc
-  counted (Err why) e h = ap Err (same_err why e h)
+  counted (Err why) e h = cc
 
   counted_ok : (reply : Result SeenLogout LogoutError) (n : ℕ) → count_named kept reply ≡ Ok n → (logout : SeenLogout) × (reply ≡ Ok logout)
   counted_ok (Ok logout) n h = (logout, refl)
