@@ -9,7 +9,7 @@ use Rattle.serde_json.specs.Data.{Data}
 use Rattle.serde_json.specs.Find.{as_null, as_str}
 use Rattle.oidc_members.specs.Seen.{SeenMember}
 use Rattle.oidc_members.specs.Objects.{split_of}
-use Rattle.oidc_members.specs.declared.reading.TheConstants.Reading.{STRICT}
+use Rattle.oidc_members.specs.declared.reading.Reading.{Reading}
 use Rattle.oidc_members.specs.declared.refusal.Refusal.{Refusal}
 use Rattle.oidc_readers.specs.Kinds.{text_kind, any_kind, or_null, there}
 use Rattle.oidc_readers.specs.Fields.{first_value, own}
@@ -56,21 +56,21 @@ module _ {JE JS P : Type 0} (encryption_named : List ℕ → Option JE) (signing
   unfolding token_of
   read_from text token h =
       let a = bound (ok_or (three_parts text) no_token) _ token h in
-      let b = bound (decoded a.0.header) _ token a.1.1 in
-      let c = bound (decoded a.0.payload) _ token b.1.1 in
-      let d = bound (decoded a.0.signature) _ token c.1.1 in
-      let e = bound (object_read (header_of encryption_named signing_named) b.0) _ token d.1.1 in
-      let f = bound (object_read payload_read c.0) _ token e.1.1 in
-      let g = bound (split_of c.0) payload_read f.0 f.1.0 in
-      let same : f.0 ≡ token.payload = ap (λ (t : SeenToken JE JS P). t.payload) (same_ok _ token f.1.1) in
+      let b = bound (decoded a.0.header) _ token a.2 in
+      let c = bound (decoded a.0.payload) _ token b.2 in
+      let d = bound (decoded a.0.signature) _ token c.2 in
+      let e = bound (object_read (header_of encryption_named signing_named) b.0) _ token d.2 in
+      let f = bound (object_read payload_read c.0) _ token e.2 in
+      let g = bound (split_of c.0) payload_read f.0 f.1 in
+      let same : f.0 ≡ token.payload = ap (λ (t : SeenToken JE JS P). t.payload) (same_ok _ token f.2) in
       record {
         parts = a.0;
-        has_parts = parts_of (three_parts text) a.0 a.1.0;
+        has_parts = parts_of (three_parts text) a.0 a.1;
         second = c.0;
-        decoded_as = c.1.0;
+        decoded_as = c.1;
         members = g.0;
-        split_as = g.1.0;
-        read_as = g.1.1 ∙ ap Ok same;
+        split_as = g.1;
+        read_as = g.2 ∙ ap Ok same;
       }
 
 -- ---- the nonce of either
@@ -78,33 +78,33 @@ module _ {JE JS P : Type 0} (encryption_named : List ℕ → Option JE) (signing
 same_some : {A : Type 0} (x y : A) → Some x ≡ Some y → x ≡ y
 same_some x y h = cc
 
-module _ {AC GC : Type 0} (additional_read : List SeenMember → Result AC Refusal) (gender_read : SeenMember → Result GC Refusal) where
-  own_nonce : (members : List SeenMember) (own : SeenOwnClaims) → own_of STRICT members ≡ Ok own → own.nonce ≡ optional id_nonce members
+module _ {AC GC : Type 0} (additional_read : List SeenMember → Result AC Refusal) (gender_read : SeenMember → Result GC Refusal) (reading : Reading) where
+  own_nonce : (members : List SeenMember) (own : SeenOwnClaims) → own_of reading members ≡ Ok own → own.nonce ≡ optional id_nonce members
   unfolding own_of
   own_nonce members own h =
-      let a = bound (id_needed_of STRICT members) _ own h in
-      sym (ap (λ (o : SeenOwnClaims). o.nonce) (same_ok _ own a.1.1))
+      let a = bound (id_needed_of reading members) _ own h in
+      sym (ap (λ (o : SeenOwnClaims). o.nonce) (same_ok _ own a.2))
 
-  parts_nonce : (members : List SeenMember) (claims : SeenIdTokenClaims AC GC) → parts_in additional_read gender_read STRICT members ≡ Ok claims → claims.own.nonce ≡ optional id_nonce members
+  parts_nonce : (members : List SeenMember) (claims : SeenIdTokenClaims AC GC) → parts_in additional_read gender_read reading members ≡ Ok claims → claims.own.nonce ≡ optional id_nonce members
   unfolding parts_in
   parts_nonce members claims h =
-      let a = bound (own_of STRICT members) _ claims h in
-      let b = bound _ _ claims a.1.1 in
-      let c = bound _ _ claims b.1.1 in
-      sym (ap (λ (o : SeenIdTokenClaims AC GC). o.own.nonce) (same_ok _ claims c.1.1)) ∙ own_nonce members a.0 a.1.0
+      let a = bound (own_of reading members) _ claims h in
+      let b = bound _ _ claims a.2 in
+      let c = bound _ _ claims b.2 in
+      sym (ap (λ (o : SeenIdTokenClaims AC GC). o.own.nonce) (same_ok _ claims c.2)) ∙ own_nonce members a.0 a.1
 
-  pub id_token_nonce : (members : List SeenMember) (claims : SeenIdTokenClaims AC GC) → id_token_claims_of additional_read gender_read STRICT members ≡ Ok claims → claims.own.nonce ≡ optional id_nonce members
+  pub id_token_nonce : (members : List SeenMember) (claims : SeenIdTokenClaims AC GC) → id_token_claims_of additional_read gender_read reading members ≡ Ok claims → claims.own.nonce ≡ optional id_nonce members
   unfolding id_token_claims_of
   id_token_nonce members claims h =
-      let a = bound (faultless (id_token_rule gender_read STRICT) members) _ claims h in
-      parts_nonce members claims a.1.1
+      let a = bound (faultless (id_token_rule gender_read reading) members) _ claims h in
+      parts_nonce members claims a.2
 
 logout_nonce : (members : List SeenMember) (claims : SeenLogoutClaims) → logout_claims_of members ≡ Ok claims → claims.has_nonce ≡ is_some (optional nonce members)
 unfolding logout_claims_of
 logout_nonce members claims h =
     let a = bound (faultless logout_rule members) _ claims h in
-    let b = bound (needed_of members) _ claims a.1.1 in
-    sym (ap (λ (c : SeenLogoutClaims). c.has_nonce) (same_ok _ claims b.1.1))
+    let b = bound (needed_of members) _ claims a.2 in
+    sym (ap (λ (c : SeenLogoutClaims). c.has_nonce) (same_ok _ claims b.2))
 
 -- a member that isn't null and reads as a text is there for any kind
 at_member : (b : Bool) (m : SeenMember) (n : List ℕ)
@@ -129,20 +129,20 @@ sent_there sent (Some n) h = (n, refl)
 -- ---- one text
 
 module _ {AC GC Key Use OtherKey Algorithm : Type 0} (types : SiteTypes AC GC Key Use) (keys : LogoutKeys OtherKey Algorithm) where
-  both : (text : List ℕ) (token : SeenIdToken AC GC) (logout : SeenLogoutToken Algorithm)
-      → id_token_of types text ≡ Ok token → logout_token_of keys.words text ≡ Ok logout
+  both : (reading : Reading) (text : List ℕ) (token : SeenIdToken AC GC) (logout : SeenLogoutToken Algorithm)
+      → id_token_of types reading text ≡ Ok token → logout_token_of keys.words text ≡ Ok logout
       → (n : List ℕ) → token.payload.own.nonce ≡ Some n → logout.payload.has_nonce ≡ true
-  both text token logout read other n has =
+  both reading text token logout read other n has =
       let a = read_from _ _ _ text token read in
       let b = read_from _ _ _ text logout other in
       let parts : a.parts ≡ b.parts = same_some a.parts b.parts (sym a.has_parts ∙ b.has_parts) in
       let second : a.second ≡ b.second = same_ok a.second b.second (sym a.decoded_as ∙ ap (λ (p : Parts). decoded p.payload) parts ∙ b.decoded_as) in
       let members : a.members ≡ b.members = same_ok a.members b.members (sym a.split_as ∙ ap split_of second ∙ b.split_as) in
-      let id_side : optional id_nonce a.members ≡ Some n = sym (id_token_nonce types.additional types.gender a.members token.payload a.read_as) ∙ has in
+      let id_side : optional id_nonce a.members ≡ Some n = sym (id_token_nonce types.additional types.gender reading a.members token.payload a.read_as) ∙ has in
       logout_nonce b.members logout.payload b.read_as ∙ nonce_seen b.members n (ap (optional id_nonce) (sym members) ∙ id_side)
 
   pub never_both : NeverBoth types keys
-  never_both client sent now token v token_ids later logout text read accepted other =
+  never_both client reading sent now token v token_ids later logout text read accepted other =
       let a = accepted_of keys v token_ids later text logout other in
       let n = sent_there sent token.payload.own.nonce accepted.nonce in
-      false≢true (sym a.no_nonce ∙ both text token a.token read a.read n.0 n.1)
+      false≢true (sym a.no_nonce ∙ both reading text token a.token read a.read n.0 n.1)

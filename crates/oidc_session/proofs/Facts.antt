@@ -1,16 +1,21 @@
 -- What each test of a logout token says, in both directions.
-use Rattle.std.proofs.Common.{◌≡◌, ◌≢◌, ℕ, ℤ, Bool, true, false, List, [], ◌∷◌, Option, None, Some, Ok, Err, refl, sym, ap, subst, ◌∙◌, arith, inl, inr, ⊎_elim}
-use Rattle.std.specs.Prelude.{◌⊎◌, not, ◌&&◌, ◌||◌, int_lt, ◌<ℤ◌, ◌≤ℤ◌, is_none, is_some, IsSome}
+use Rattle.std.proofs.Common.{◌≡◌, ◌≢◌, ℕ, suc, ℤ, Bool, true, false, List, [], ◌∷◌, Option, None, Some, Ok, Err, refl, sym, ap, subst, ◌∙◌, arith, inl, inr, ⊎_elim}
+use Rattle.std.specs.Prelude.{◌⊎◌, not, ◌&&◌, ◌||◌, int_lt, ◌<ℤ◌, ◌≤ℤ◌, is_none, is_some, IsSome, Contains}
+use Rattle.std.specs.List.{list_any, list_all}
 use Rattle.std.specs.Str.{bytes_eq}
 use Rattle.std.specs.Cmp.Lexicographic.{bytes_decides}
 use Rattle.std.proofs.lemmas.Bool.{and_parts, and_from, or_cases, false≢true}
 use Rattle.std.proofs.lemmas.Int.{ints}
+use Rattle.std.proofs.lemmas.List.Elements.{All-weaker}
+use Rattle.std.proofs.lemmas.List.Sums.{AllPass-from_list_all, list_all-from_AllPass}
+use Rattle.std.proofs.lemmas.List.Folds.{list_any_at}
 use Rattle.oidc_types.specs.declared.vocabulary.ClosedVocabulary.{Ghosts as Words}
 use Rattle.oidc_keys.specs.Jwk.{Verdict}
 use Rattle.oidc_keys.specs.declared.refusals.SignatureVerificationError.{SignatureVerificationError}
 use Rattle.oidc_jwt.specs.declared.header.JsonWebTokenAlgorithm.{JsonWebTokenAlgorithm}
 use Rattle.oidc_jwt.specs.declared.header.JsonWebTokenAlgorithm.TheVariants as algorithm
 use Rattle.oidc_jwt.specs.declared.header.TokenHeader.{TokenHeader}
+use Rattle.oidc_tokens.specs.Verification.{IsForAlone, is_alone_in}
 use Rattle.oidc_session.specs.LogoutClaims.{SeenLogoutClaims}
 use Rattle.oidc_session.specs.LogoutTokens.{SeenLogoutToken, is_logout_type, is_known_header, is_signed_by, fault_of, names_somebody}
 use Rattle.oidc_session.specs.LogoutCauses.{AsksTooMuch, IsSignedBy}
@@ -51,6 +56,15 @@ none_of (Some x) h = absurd (false≢true h)
 
 -- ---- the header
 
+some_there : (o : Option (List ℕ)) → is_none o ≡ false → o ≢ None
+some_there None h e = false≢true (sym h)
+some_there (Some x) h e = false≢true (ap is_none e)
+
+by_parts : (crit : Bool) (cty : Option (List ℕ)) (known : Bool) (n : Bool) → is_none cty ≡ n → (not crit && n && known) ≡ false → (crit ≡ true) ⊎ ((cty ≢ None) ⊎ (known ≡ false))
+by_parts true cty known n is h = inl refl
+by_parts false cty known false is h = inr (inl (some_there cty is))
+by_parts false cty known true is h = inr (inr h)
+
 module _ {JE JS : Type 0} where
   pub known_parts : (h : TokenHeader JE JS) → is_known_header h ≡ true → (h.crit ≡ false) × (h.cty ≡ None) × (is_logout_type h.typ ≡ true)
   known_parts h e =
@@ -61,15 +75,6 @@ module _ {JE JS : Type 0} where
   pub known_back : (h : TokenHeader JE JS) → h.crit ≡ false → h.cty ≡ None → is_logout_type h.typ ≡ true → is_known_header h ≡ true
   known_back h crit cty typ =
       and_from (not h.crit && is_none h.cty) (is_logout_type h.typ) (and_from (not h.crit) (is_none h.cty) (ap not crit) (ap is_none cty)) typ
-
-  some_there : (o : Option (List ℕ)) → is_none o ≡ false → o ≢ None
-  some_there None h e = false≢true (sym h)
-  some_there (Some x) h e = false≢true (ap is_none e)
-
-  by_parts : (crit : Bool) (cty : Option (List ℕ)) (known : Bool) (n : Bool) → is_none cty ≡ n → (not crit && n && known) ≡ false → (crit ≡ true) ⊎ ((cty ≢ None) ⊎ (known ≡ false))
-  by_parts true cty known n is h = inl refl
-  by_parts false cty known false is h = inr (inl (some_there cty is))
-  by_parts false cty known true is h = inr (inr h)
 
   pub too_much : (h : TokenHeader JE JS) → is_known_header h ≡ false → AsksTooMuch h
   too_much h e = by_parts h.crit h.cty (is_logout_type h.typ) (is_none h.cty) refl e
@@ -82,6 +87,33 @@ module _ {JE JS : Type 0} where
       (λ crit. false≢true (sym parts.0 ∙ crit))
       (λ other. ⊎_elim (λ cty. cty parts.1) (λ typ. false≢true (sym typ ∙ parts.2)) other)
       asks)
+
+-- ---- the audience
+
+found_at : (id : List ℕ) (audiences : List (List ℕ)) → list_any (λ a. bytes_eq a id) audiences ≡ true → Contains audiences id
+found_at id [] h = absurd (false≢true h)
+found_at id (a ∷ rest) h =
+    ⊎_elim
+    (λ here. (0, omega arith, (bytes_decides a id).0 here))
+    (λ there. let k : Contains rest id = found_at id rest there in (suc k.0, omega (arith, k.1), k.2))
+    (or_cases (bytes_eq a id) (list_any (λ a. bytes_eq a id) rest) h)
+
+same_test : (id : List ℕ) → bytes_eq id id ≡ true
+same_test id = (bytes_decides id id).1 refl
+
+pub alone : (id : List ℕ) (audiences : List (List ℕ)) → is_alone_in id audiences ≡ true → IsForAlone id audiences
+alone id audiences h =
+    let parts = and_parts (list_any (λ a. bytes_eq a id) audiences) (list_all (λ a. bytes_eq a id) audiences) h in
+    record {
+      one = found_at id audiences parts.0;
+      no_other = All-weaker (λ a. bytes_eq a id ≡ true) (λ a. a ≡ id) (λ a e. (bytes_decides a id).0 e) audiences (AllPass-from_list_all (λ a. bytes_eq a id) audiences parts.1);
+    }
+
+pub alone_back : (id : List ℕ) (audiences : List (List ℕ)) → IsForAlone id audiences → is_alone_in id audiences ≡ true
+alone_back id audiences is =
+    and_from (list_any (λ a. bytes_eq a id) audiences) (list_all (λ a. bytes_eq a id) audiences)
+    (list_any_at (λ a. bytes_eq a id) audiences is.one.0 id is.one.1 (ap (λ a. bytes_eq a id) is.one.2 ∙ same_test id))
+    (list_all-from_AllPass (λ a. bytes_eq a id) audiences (All-weaker (λ a. a ≡ id) (λ a. bytes_eq a id ≡ true) (λ a e. (bytes_decides a id).1 e) audiences is.no_other))
 
 -- ---- the algorithm and the signature
 
@@ -107,9 +139,6 @@ module _ {Algorithm : Type 0} (words : Words Algorithm) (own : Algorithm) where
 pub verdict_ok : (v : Verdict) → fault_of v ≡ None → v ≡ Ok tt
 verdict_ok (Ok u) h = refl
 verdict_ok (Err e) h = absurd cc
-
-same_fault : (a b : SignatureVerificationError) → Some a ≡ Some b → Err {A = Unit {0}} a ≡ Err b
-same_fault a b h = cc
 
 pub verdict_err : (v : Verdict) (e : SignatureVerificationError) → fault_of v ≡ Some e → v ≡ Err e
 verdict_err (Ok u) e h = absurd cc

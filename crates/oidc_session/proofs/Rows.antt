@@ -9,14 +9,13 @@ use Rattle.oidc_members.specs.declared.refusal.Refusal.{Refusal}
 use Rattle.oidc_keys.specs.declared.refusals.SignatureVerificationError.{SignatureVerificationError}
 use Rattle.oidc_oauth2.specs.Replies.{◌>>=◌, ◌>>◌, ◌when◌, ◌for◌, ◌or_as◌}
 use Rattle.oidc_tokens.specs.Verification.{IsForAlone, is_alone_in}
-use Rattle.oidc_tokens.proofs.Accepted.{alone, alone_back}
 use Rattle.oidc_login.proofs.Walks.{Walk, at_or_as, at_when, at_for}
 use Rattle.oidc_session.specs.Sessions.{TokenIds, SeenLogout}
 use Rattle.oidc_session.specs.LogoutTokens.{LogoutKeys, SeenLogoutVerifier, SeenLogoutToken, logout_token_of, is_known_header, is_signed_by, signature_fault, fault_of, names_somebody, logout_of, checked_logout, accepted_logout}
 use Rattle.oidc_session.specs.LogoutCauses.{HasKnownHeader, HasOwnIssuer, HasOwnAudience, HasOwnAlgorithm, IsVerified, IsInTime, HasLogoutEvent, NamesSomebody, HasNoNonce, IsAcceptedLogout, LogoutCause}
 use Rattle.oidc_session.specs.declared.errors.LogoutError.{LogoutError}
 use Rattle.oidc_session.specs.declared.errors.LogoutError.TheVariants as refusal
-use Rattle.oidc_session.proofs.Facts.{not_true, not_false, other_bytes, bytes_other, less, less_back, not_less, not_less_back, known_parts, known_back, too_much, too_much_back, signed_of, signed_back, unsigned, unsigned_back, verdict_ok, verdict_err, named_of, named_back, nobody_of, nobody_back}
+use Rattle.oidc_session.proofs.Facts.{not_true, not_false, other_bytes, bytes_other, less, less_back, not_less, not_less_back, known_parts, known_back, too_much, too_much_back, signed_of, signed_back, unsigned, unsigned_back, verdict_ok, verdict_err, named_of, named_back, nobody_of, nobody_back, alone, alone_back}
 
 unalone : {id : List ℕ} {audiences : List (List ℕ)} → is_alone_in id audiences ≡ false → IsForAlone id audiences → ⊥
 unalone {id} {audiences} h is = false≢true (sym h ∙ alone_back id audiences is)

@@ -200,8 +200,8 @@ module _ {Key Algorithm : Type 0} (keys : LogoutKeys Key Algorithm) (v : SeenLog
     later = k.later;
     among = k.among;
     own_id = k.accepts.0;
-    own_session = k.accepts.1.0;
-    accepted = k.accepts.1.1;
+    own_session = k.accepts.1;
+    accepted = k.accepts.2;
     unended = after;
     stands = k.stands;
   }

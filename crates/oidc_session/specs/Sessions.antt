@@ -6,9 +6,9 @@ use Rattle.std.specs.FinSet as set
 use Rattle.std.specs.Ordering.{nat_cmp}
 use Rattle.std.specs.Cmp.Lexicographic.{slice_cmp}
 use Rattle.std.specs.Str.{bytes_eq}
-use Rattle.oidc_oauth2.specs.Replies.{◌>>=◌, ◌>>◌, ◌when◌}
+use Rattle.oidc_oauth2.specs.Replies.{◌>>=◌, ◌>>◌, ◌when◌, ErrorMeaning}
 use Rattle.oidc_session.specs.declared.errors.OpenError.{OpenError}
-use Rattle.oidc_session.specs.declared.errors.OpenError.TheVariants.{Ended, Taken}
+use Rattle.oidc_session.specs.declared.errors.OpenError.TheVariants.{Ended, Taken, Memory}
 
 -- a session of a user: whose it is, the provider's session behind it, where that is known, and when it ends, in
 -- nanoseconds since the Unix epoch
@@ -67,6 +67,15 @@ abbrev pub open_reply : Sessions → Opening → Result (Unit {0}) OpenError
 open_reply sessions o = do
   Ended when not (ends_after o.now o.session)
   Taken when is_some (session_at sessions o.id o.now)
+
+-- want of memory
+abbrev pub is_open_memory : OpenError → Bool
+is_open_memory Memory = true
+is_open_memory e = false
+
+-- a refusal is seen as it is, and stands for no fault of a transport: there is none
+abbrev pub open_errors : ErrorMeaning OpenError OpenError
+open_errors = record { seen = λ e. e; wants_memory = is_open_memory; is_fault = λ e. false }
 
 -- the sessions with it, in the place of any other of its id
 abbrev pub with_session : Sessions → Opening → Sessions

@@ -25,7 +25,7 @@ pub fn session_isolation<K: JsonWebKey>()
 {}
 
 /// No text is both accepted as a login's ID token with its nonce and accepted as a logout token, whatever the clients,
-/// the verifiers and the moments: the one has a nonce, and the other has none.
+/// the verifiers, the moments and the reading of ID tokens: the one has a nonce, and the other has none.
 pub fn logout_is_no_login<
     AC: AdditionalClaims,
     GC: GenderClaim,

@@ -6,11 +6,11 @@ ghost use Rattle.std.specs.FinMap as finite;
 ghost use Rattle.std.specs.FinSet as set;
 ghost use Rattle.oidc_oauth2.specs.Replies.{Gives, Unless};
 ghost use Rattle.oidc_login.specs.Token.{subject_of};
-ghost use Rattle.oidc_session.specs.Sessions.{nothing, session_at, opening, with_session, without, count_of, has_ended, ends_session, SeenLogout};
+ghost use Rattle.oidc_session.specs.Sessions.{nothing, session_at, opening, with_session, without, count_of, has_ended, ends_session, logged_out, open_reply, open_errors, SeenLogout};
 ghost use Rattle.oidc_session.specs.LogoutTokens.{logout_keys, logout_verifier, logout_errors, accepted_logout, is_memory, holds_memory};
 ghost use Rattle.oidc_session.specs.LogoutCauses.{LogoutCause, IsAcceptedLogout};
 ghost use Rattle.oidc_session.specs.Events.{count_named, left_by};
-ghost use Rattle.oidc_session.specs.declared.errors.LogoutError.{LogoutError as Refusal};
+ghost use Rattle.oidc_session.specs.declared.errors.LogoutError.{LogoutError as LogoutRefusal};
 
 use crate::errors::{LogoutError, OpenError};
 use crate::logout_tokens::LogoutVerifier;
@@ -86,8 +86,8 @@ impl<'v, K: JsonWebKey> Sessions<'v, K> {
     /// No session, and no logout token that was accepted. It takes no memory.
     pub fn new(alloc: Global, verifier: LogoutVerifier<'v, K>) -> Self
         ensures empty { result ≡ record {
-          verifier = logout_verifier verifier.client_id.now verifier.issuer.now
-              verifier.key.now verifier.alg.now;
+          verifier = logout_verifier verifier.entry.client_id.now verifier.entry.issuer.now
+              verifier.entry.key.now verifier.entry.alg.now;
           kept = nothing;
         } }
     {
@@ -112,6 +112,9 @@ impl<'v, K: JsonWebKey> Sessions<'v, K> {
         now: Timestamp,
     ) -> Result<(), OpenError>
         ensures verifier { self.new.verifier ≡ self.old.verifier }
+        ensures reply { let o = opening id (subject_of signed_in.now.id_token) sid
+            end.nanosecond now.nanosecond in
+            Gives open_errors result (open_reply self.old.kept.sessions o) }
         ensures opened { let o = opening id (subject_of signed_in.now.id_token) sid
             end.nanosecond now.nanosecond in
             OnOk result (self.new.kept ≡ record self.old.kept {
@@ -191,19 +194,22 @@ impl<'v, K: JsonWebKey> Sessions<'v, K> {
             OnOk result (self.new.kept ≡ left_by self.old.kept meant) }
         ensures unchanged { OnErr result (self.new ≡ self.old) }
 
-        // Each refusal has its cause, and each cause its refusal; an Ok rests on a token that is accepted.
+        // Each refusal has its cause, and each cause its refusal; an Ok rests on a token that is accepted, counts the
+        // sessions that it names, and leaves the others.
         ensures cause { let keys = logout_keys K.SigningAlgorithm.ClosedVocabulary K.verdict in
             let ids = self.old.kept.token_ids in
             IfErr result (λ e. Unless (is_memory e)
             (LogoutCause keys self.old.verifier ids now.nanosecond text.now e)) }
         ensures refused { let keys = logout_keys K.SigningAlgorithm.ClosedVocabulary K.verdict in
             let ids = self.old.kept.token_ids in
-            (e : Refusal) → LogoutCause keys self.old.verifier ids now.nanosecond text.now e
+            (e : LogoutRefusal) → LogoutCause keys self.old.verifier ids now.nanosecond text.now e
             → Gives logout_errors result (Err e) }
         ensures accepted { let keys = logout_keys K.SigningAlgorithm.ClosedVocabulary K.verdict in
             let ids = self.old.kept.token_ids in
-            IfOk result (λ _. (logout : SeenLogout)
-            × IsAcceptedLogout keys self.old.verifier ids now.nanosecond text.now logout) }
+            IfOk result (λ count. (logout : SeenLogout)
+            × IsAcceptedLogout keys self.old.verifier ids now.nanosecond text.now logout
+            × (count ≡ count_of (ends_session logout) self.old.kept.sessions)
+            × (self.new.kept ≡ logged_out self.old.kept logout)) }
         ensures accepts { let keys = logout_keys K.SigningAlgorithm.ClosedVocabulary K.verdict in
             let ids = self.old.kept.token_ids in
             (logout : SeenLogout)

@@ -8,7 +8,7 @@ pub returns-clause-refused : goal.returns-clause-refused
 returns-clause-refused g c = rw (← c.self.view_is) (called.refused_given _ _ _ _ _ _ c.log_out.ensures.reply)
 
 pub returns-clause-accepted : goal.returns-clause-accepted
-returns-clause-accepted g c = rw (← c.self.view_is) (called.ok_accepted _ _ _ _ _ _ c.log_out.ensures.reply)
+returns-clause-accepted g c = rw (← c.self.view_is) (called.ok_accepted _ _ _ _ _ _ c.log_out.ensures.reply _ c.log_out.ensures.ok)
 
 pub returns-clause-accepts : goal.returns-clause-accepts
 returns-clause-accepts g c = rw (← c.self.view_is) (called.accepts_given _ _ _ _ _ _ c.log_out.ensures.reply)
