@@ -17,8 +17,9 @@ use Rattle.oidc_readers.specs.Records.{◌>>=◌, faultless, optional}
 use Rattle.oidc_readers.specs.declared.kinds.Present.{Present}
 use Rattle.oidc_jwt.specs.Tokens.{SeenToken, Parts, three_parts, no_token, decoded, object_read, token_of}
 use Rattle.oidc_jwt.specs.Header.{header_of}
+use Rattle.oidc_claims.specs.Standard.{faultless_claims}
 use Rattle.oidc_id_token_claims.specs.TokenFields.{SeenOwnClaims, nonce as id_nonce, own_of, needed_of as id_needed_of}
-use Rattle.oidc_id_token_claims.specs.IdTokenClaims.{SeenIdTokenClaims, parts_in, id_token_claims_of, id_token_rule}
+use Rattle.oidc_id_token_claims.specs.IdTokenClaims.{SeenIdTokenClaims, additional_members, parts_in, id_token_claims_of, id_token_rule}
 use Rattle.oidc_login.specs.Types.{SeenLoginClient, SiteTypes}
 use Rattle.oidc_login.specs.Token.{SeenIdToken, id_token_of, is_sent}
 use Rattle.oidc_session.specs.LogoutClaims.{SeenLogoutClaims, nonce, logout_rule, needed_of, logout_claims_of}
@@ -33,8 +34,8 @@ bound : {A B F : Type 0} (r : Result A F) (f : A → Result B F) (y : B) → (r 
 bound (Ok x) f y h = (x, refl, h)
 bound (Err e) f y h = absurd cc
 
-same_ok : {A F : Type 0} (x y : A) → Ok {E = F} x ≡ Ok y → x ≡ y
-same_ok x y h = cc
+same_ok : {A F : Type 0} (r : Result A F) (x y : A) → r ≡ Ok x → r ≡ Ok y → x ≡ y
+same_ok r x y h k = cc
 
 module _ {JE JS P : Type 0} (encryption_named : List ℕ → Option JE) (signing_named : List ℕ → Option JS)
     (payload_read : List SeenMember → Result P Refusal) where
@@ -62,7 +63,7 @@ module _ {JE JS P : Type 0} (encryption_named : List ℕ → Option JE) (signing
       let e = bound (object_read (header_of encryption_named signing_named) b.0) _ token d.2 in
       let f = bound (object_read payload_read c.0) _ token e.2 in
       let g = bound (split_of c.0) payload_read f.0 f.1 in
-      let same : f.0 ≡ token.payload = ap (λ (t : SeenToken JE JS P). t.payload) (same_ok _ token f.2) in
+      let same : f.0 ≡ token.payload = ap (λ (t : SeenToken JE JS P). t.payload) (same_ok _ _ token refl f.2) in
       record {
         parts = a.0;
         has_parts = parts_of (three_parts text) a.0 a.1;
@@ -83,15 +84,15 @@ module _ {AC GC : Type 0} (additional_read : List SeenMember → Result AC Refus
   unfolding own_of
   own_nonce members own h =
       let a = bound (id_needed_of reading members) _ own h in
-      sym (ap (λ (o : SeenOwnClaims). o.nonce) (same_ok _ own a.2))
+      sym (ap (λ (o : SeenOwnClaims). o.nonce) (same_ok _ _ own refl a.2))
 
   parts_nonce : (members : List SeenMember) (claims : SeenIdTokenClaims AC GC) → parts_in additional_read gender_read reading members ≡ Ok claims → claims.own.nonce ≡ optional id_nonce members
   unfolding parts_in
   parts_nonce members claims h =
       let a = bound (own_of reading members) _ claims h in
-      let b = bound _ _ claims a.2 in
-      let c = bound _ _ claims b.2 in
-      sym (ap (λ (o : SeenIdTokenClaims AC GC). o.own.nonce) (same_ok _ claims c.2)) ∙ own_nonce members a.0 a.1
+      let b = bound (faultless_claims gender_read reading members) _ claims a.2 in
+      let c = bound (additional_read (additional_members members)) _ claims b.2 in
+      sym (ap (λ (o : SeenIdTokenClaims AC GC). o.own.nonce) (same_ok _ _ claims refl c.2)) ∙ own_nonce members a.0 a.1
 
   pub id_token_nonce : (members : List SeenMember) (claims : SeenIdTokenClaims AC GC) → id_token_claims_of additional_read gender_read reading members ≡ Ok claims → claims.own.nonce ≡ optional id_nonce members
   unfolding id_token_claims_of
@@ -104,7 +105,7 @@ unfolding logout_claims_of
 logout_nonce members claims h =
     let a = bound (faultless logout_rule members) _ claims h in
     let b = bound (needed_of members) _ claims a.2 in
-    sym (ap (λ (c : SeenLogoutClaims). c.has_nonce) (same_ok _ claims b.2))
+    sym (ap (λ (c : SeenLogoutClaims). c.has_nonce) (same_ok _ _ claims refl b.2))
 
 -- a member that isn't null and reads as a text is there for any kind
 at_member : (b : Bool) (m : SeenMember) (n : List ℕ)
@@ -136,8 +137,8 @@ module _ {AC GC Key Use OtherKey Algorithm : Type 0} (types : SiteTypes AC GC Ke
       let a = read_from _ _ _ text token read in
       let b = read_from _ _ _ text logout other in
       let parts : a.parts ≡ b.parts = same_some a.parts b.parts (sym a.has_parts ∙ b.has_parts) in
-      let second : a.second ≡ b.second = same_ok a.second b.second (sym a.decoded_as ∙ ap (λ (p : Parts). decoded p.payload) parts ∙ b.decoded_as) in
-      let members : a.members ≡ b.members = same_ok a.members b.members (sym a.split_as ∙ ap split_of second ∙ b.split_as) in
+      let second : a.second ≡ b.second = same_ok (decoded a.parts.payload) a.second b.second a.decoded_as (ap (λ (p : Parts). decoded p.payload) parts ∙ b.decoded_as) in
+      let members : a.members ≡ b.members = same_ok (split_of a.second) a.members b.members a.split_as (ap split_of second ∙ b.split_as) in
       let id_side : optional id_nonce a.members ≡ Some n = sym (id_token_nonce types.additional types.gender reading a.members token.payload a.read_as) ∙ has in
       logout_nonce b.members logout.payload b.read_as ∙ nonce_seen b.members n (ap (optional id_nonce) (sym members) ∙ id_side)
 

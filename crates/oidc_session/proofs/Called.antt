@@ -46,8 +46,8 @@ module _ {Key Algorithm : Type 0} (keys : LogoutKeys Key Algorithm) (v : SeenLog
   counted (Ok logout) e h = absurd cc
   counted (Err why) e h = cc
 
-  same_count : (a b : ℕ) → Ok a ≡ Ok b → a ≡ b
-  same_count a b h = cc
+  same_count : (reply : Result ℕ LogoutError) (a b : ℕ) → reply ≡ Ok a → reply ≡ Ok b → a ≡ b
+  same_count reply a b h k = cc
 
   counted_ok : (reply : Result SeenLogout LogoutError) (n : ℕ) → count_named kept reply ≡ Ok n → (logout : SeenLogout) × (reply ≡ Ok logout)
   counted_ok (Ok logout) n h = (logout, refl)
@@ -74,7 +74,7 @@ module _ {Key Algorithm : Type 0} (keys : LogoutKeys Key Algorithm) (v : SeenLog
     accepted_as new n logout is given left =
         (logout,
         accepted_of keys v kept.token_ids now text logout is,
-        same_count n (count_of (ends_session logout) kept.sessions) (sym given ∙ ap (count_named kept) is),
+        same_count (count_named kept meant) n (count_of (ends_session logout) kept.sessions) given (ap (count_named kept) is),
         left ∙ ap (left_by kept) is)
 
     by_ok : (new : Kept) (r : Result ℕ LogoutError) → Gives logout_errors r (count_named kept meant) → OnOk r (new ≡ left_by kept meant) → IfOk r (Accepted new)

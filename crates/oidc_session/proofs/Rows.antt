@@ -11,7 +11,7 @@ use Rattle.oidc_oauth2.specs.Replies.{◌>>=◌, ◌>>◌, ◌when◌, ◌for◌
 use Rattle.oidc_tokens.specs.Verification.{IsForAlone, is_alone_in}
 use Rattle.oidc_login.proofs.Walks.{Walk, at_or_as, at_when, at_for}
 use Rattle.oidc_session.specs.Sessions.{TokenIds, SeenLogout}
-use Rattle.oidc_session.specs.LogoutTokens.{LogoutKeys, SeenLogoutVerifier, SeenLogoutToken, logout_token_of, is_known_header, is_signed_by, signature_fault, fault_of, names_somebody, logout_of, checked_logout, accepted_logout}
+use Rattle.oidc_session.specs.LogoutTokens.{LogoutKeys, SeenLogoutVerifier, SeenLogoutToken, logout_token_of, is_known_header, is_signed_by, signature_fault, fault_of, names_somebody, logout_of, checked_claims, checked_logout, accepted_logout}
 use Rattle.oidc_session.specs.LogoutCauses.{HasKnownHeader, HasOwnIssuer, HasOwnAudience, HasOwnAlgorithm, IsVerified, IsInTime, HasLogoutEvent, NamesSomebody, HasNoNonce, IsAcceptedLogout, LogoutCause}
 use Rattle.oidc_session.specs.declared.errors.LogoutError.{LogoutError}
 use Rattle.oidc_session.specs.declared.errors.LogoutError.TheVariants as refusal
@@ -77,12 +77,7 @@ module _ {Key Algorithm : Type 0} (keys : LogoutKeys Key Algorithm) (v : SeenLog
     abbrev PassesHere : Unit {0} → Type 0
     PassesHere u = Passes token
 
-    by_claims : IsVerified keys v now text token → Walk PassesHere Why (do
-      refusal.Expired when not (int_lt now token.payload.needed.expiration)
-      refusal.Events when not token.payload.needed.names_logout
-      refusal.NoName when not (names_somebody token.payload)
-      refusal.Nonce when token.payload.has_nonce
-      refusal.Replayed when set.contains token_ids token.payload.needed.token_id)
+    by_claims : IsVerified keys v now text token → Walk PassesHere Why (checked_claims token_ids now token.payload)
     by_claims verified =
         at_when PassesHere Why (not (int_lt now token.payload.needed.expiration)) refusal.Expired _
         (λ h. record { token = token; is_verified = verified; expired = not_less now token.payload.needed.expiration (not_true _ h) })

@@ -1,5 +1,5 @@
 -- A site's calls, one after another, from the empty store; how long a session stands, and each session by itself.
-use Rattle.std.specs.Prelude.{◌≡◌, ◌↔◌, ℕ, ℤ, List, [], ◌∷◌, ◌++◌, filter, map, Bool, true, false, ◌&&◌, ◌||◌, Option, Some, is_some, Result, Ok, Err}
+use Rattle.std.specs.Prelude.{◌≡◌, ◌↔◌, ℕ, ℤ, List, [], ◌∷◌, ◌++◌, filter, Bool, true, false, ◌&&◌, ◌||◌, Option, Some, Result, Ok, Err}
 use Rattle.std.specs.FinMap as finite
 use Rattle.std.specs.Str.{bytes_eq}
 use Rattle.oidc_session.specs.Sessions.{SeenSession, Kept, nothing, ends_after, session_at, Opening, open_reply, with_session, without, count_of, has_ended, SeenLogout, ends_session, logged_out}

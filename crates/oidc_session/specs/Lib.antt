@@ -11,6 +11,5 @@ pub use Rattle.oidc_members.specs.Seen
 pub use Rattle.oidc_oauth2.specs.Replies
 -- what no public clause cites
 pub mod LogoutFields
-pub mod LogoutSteps
 pub mod Stored
 pub mod Codes

@@ -1,7 +1,6 @@
 -- What each answer to a logout token rests on, said without the table of its checks.
-use Rattle.std.specs.Prelude.{◌≡◌, ◌≢◌, ◌⊎◌, ℕ, ℤ, ◌<ℤ◌, ◌≤ℤ◌, List, Bool, true, false, Option, None, IsSome, IsTrue, IsFalse, Ok, Err}
+use Rattle.std.specs.Prelude.{◌≡◌, ◌≢◌, ◌⊎◌, ℕ, ℤ, ◌<ℤ◌, ◌≤ℤ◌, List, false, None, IsSome, IsTrue, IsFalse, Ok, Err}
 use Rattle.std.specs.FinSet as set
-use Rattle.oidc_members.specs.declared.refusal.Refusal.{Refusal}
 use Rattle.oidc_types.specs.declared.vocabulary.ClosedVocabulary.{Ghosts as Words}
 use Rattle.oidc_keys.specs.declared.refusals.SignatureVerificationError.{SignatureVerificationError}
 use Rattle.oidc_jwt.specs.declared.header.JsonWebTokenAlgorithm.TheVariants as algorithm

@@ -96,12 +96,22 @@ names_somebody claims = is_some claims.subject || is_some claims.provider_sessio
 
 -- ---- the table
 
+-- The checks of a verified token's claims at this moment, in nanoseconds since the Unix epoch, where tokens of these ids
+-- were accepted.
+abbrev pub checked_claims : TokenIds → ℤ → SeenLogoutClaims → Result (Unit {0}) LogoutError
+checked_claims token_ids now claims = do
+  Expired when not (int_lt now claims.needed.expiration)
+  Events when not claims.needed.names_logout
+  NoName when not (names_somebody claims)
+  Nonce when claims.has_nonce
+  Replayed when set.contains token_ids claims.needed.token_id
+
 module _ {Key Algorithm : Type 0} (keys : LogoutKeys Key Algorithm) (v : SeenLogoutVerifier Key Algorithm) where
   -- what the key says of a token's signature, by the one algorithm
   abbrev pub signature_fault : SeenLogoutToken Algorithm → Option SignatureVerificationError
   signature_fault token = fault_of (keys.verdict v.key v.alg token.message token.signature)
 
-  -- The checks of a token at this moment, in nanoseconds since the Unix epoch, where tokens of these ids were accepted.
+  -- the checks of a token, then those of its claims
   unfoldable pub checked_logout : TokenIds → ℤ → SeenLogoutToken Algorithm → Result (Unit {0}) LogoutError
   checked_logout token_ids now token = do
     Unsupported when not (is_known_header token.header)
@@ -109,11 +119,7 @@ module _ {Key Algorithm : Type 0} (keys : LogoutKeys Key Algorithm) (v : SeenLog
     InvalidAudience when not (is_alone_in v.client_id token.payload.needed.audiences)
     WrongAlgorithm when not (is_signed_by keys.words v.alg token.header.alg)
     Signature for signature_fault token
-    Expired when not (int_lt now token.payload.needed.expiration)
-    Events when not token.payload.needed.names_logout
-    NoName when not (names_somebody token.payload)
-    Nonce when token.payload.has_nonce
-    Replayed when set.contains token_ids token.payload.needed.token_id
+    checked_claims token_ids now token.payload
 
   -- the logout that a text is, or the first refusal that holds
   unfoldable pub accepted_logout : TokenIds → ℤ → List ℕ → Result SeenLogout LogoutError

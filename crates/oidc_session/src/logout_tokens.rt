@@ -7,9 +7,8 @@ ghost use Rattle.std.specs.Str.{bytes_eq, str_eq_ignore_ascii_case};
 ghost use Rattle.oidc_oauth2.specs.Replies.{Gives, ◌for◌, ◌or_as◌};
 ghost use Rattle.oidc_tokens.specs.Verification as checks;
 ghost use Rattle.oidc_session.specs.LogoutTokens as spec;
-ghost use Rattle.oidc_session.specs.LogoutTokens.{logout_errors, logout_keys, logout_verifier, checked_logout, accepted_logout, logout_token_of, signature_fault};
+ghost use Rattle.oidc_session.specs.LogoutTokens.{logout_errors, logout_keys, logout_verifier, checked_claims, checked_logout, accepted_logout, logout_token_of, signature_fault};
 ghost use Rattle.oidc_session.specs.declared.errors.LogoutError.TheVariants as refusal;
-ghost use Rattle.oidc_session.specs.LogoutSteps.{checked_claims};
 
 use crate::errors::LogoutError;
 use crate::logout_claims::{Logout, LogoutClaims};
