@@ -84,7 +84,8 @@ GENERATED = {
     "vectors_requests": [],
     "vectors_tokens": [plain_tokens.cases, plain_info.cases, plain_urls.cases,
                        lambda: list(plain_tokens.readings()), lambda: list(plain_info.readings())],
-    "vectors_logins": [plain_callback.short_cases, plain_callback.long_cases, plain_front.cases, plain_sessions.cases],
+    "vectors_logins": [plain_callback.short_cases, plain_callback.long_cases, plain_front.cases,
+                       plain_sessions.session_cases, plain_sessions.apart_cases],
 }
 
 

@@ -3,7 +3,9 @@
 
     tools/plain_sessions.py answers   reads cases of sessions from standard input, and answers each: a line each; any
                                       other line comes back as it came
-    tools/plain_sessions.py cases     the generated cases, a line each
+    tools/plain_sessions.py cases     the cases by hand and the generated ones, a line each; and those of ID tokens and
+                                      logout tokens handed in for each other, which plain_callback.py and plain_front.py
+                                      answer too
 
 It is a second reader beside oidc_session: OpenID Connect Back-Channel Logout 1.0 sections 2.4 to 2.6. It keeps a plain
 list of sessions and one of accepted token ids, and looks through all of them at each call. Tokens, their headers and
@@ -216,6 +218,21 @@ def at(name, now=None, **of):
 
 THREE = [opening("s1", "u1", "x"), opening("s2", "u1", "y"), opening("s3", "u2")]
 
+# A fault of each check, in the order of the checks: what it changes of the header, of the claims and of the secret.
+FAULTS = [({"typ": "at+jwt"}, {}, {}), ({}, {"iss": "https://other"}, {}), ({}, {"aud": "b"}, {}), ({"alg": "HS384"}, {}, {}),
+          ({}, {}, {"secret": "ccc"}), ({}, {"exp": 1000}, {}), ({}, {"events": {}}, {}), ({}, {"sub": ...}, {}),
+          ({}, {"nonce": "n"}, {})]
+
+
+def ladder():
+    """Tokens of one `jti` with all faults, each with one fewer from the front, and the last with none."""
+    for first in range(len(FAULTS) + 1):
+        header, of, by = {"alg": "HS256"}, {}, {}
+        for fault in FAULTS[first:]:
+            for change, own in zip(fault, (header, of, by)):
+                own.update(change)
+        yield token(claims(**of), header, **by)
+
 
 def by_hand():
     both = token(claims("j1", sid="x"))
@@ -230,6 +247,7 @@ def by_hand():
                 "application/application/jwt", "at+jwt"):
         yield line(THREE + [at("logout", 1000, token=token(claims(), {"alg": "HS256", "typ": typ}))])
     for header in ({"alg": "HS256", "cty": "JWT"}, {"alg": "HS256", "crit": ["exp"]}, {"alg": "HS256", "crit": None},
+                   {"alg": "HS256", "typ": None}, {"alg": "HS256", "typ": 1},
                    {"alg": "none"}, {"alg": "A128GCM"}, {"alg": "HS384"}, {"alg": "RS256"}, {"alg": "XX"}, {"typ": "JWT"}):
         yield line(THREE + [at("logout", 1000, token=token(claims(), header))])
     for more in ({"events": {}}, {"events": []}, {"events": None}, {"events": "x"}, {"events": {EVENT: "x"}},
@@ -247,16 +265,27 @@ def by_hand():
                          (event, ',"nonce":null,"nonce":1'), (event, ',"a":1,"a":2')):
         yield line(THREE + [at("logout", 1000, token=token(None, raw=twice % (events, more)))])
     good = token(claims())
-    for text in ("", "a.b", good + ".", good[:-1], good[:-1] + ("A" if good[-1] != "A" else "E"), good.replace(".", "!", 1),
+    unsigned = token(claims(), {"alg": "none"})
+    for text in (unsigned[:unsigned.rindex(".") + 1], "", "a.b", good + ".", good[:-1], good[:-1] + ("A" if good[-1] != "A" else "E"), good.replace(".", "!", 1),
                  token(claims(), secret="ccc"), token(None, raw="[]"), token(None, raw="{}")):
         yield line(THREE + [at("logout", 1000, token=text)])
     yield line([at("logout", 1000, token=good), at("logout", 1000, token=good), *THREE, at("logout", 1000, token=good)])
     late = token(claims(exp=1000))
     yield line(THREE + [at("logout", 999, token=late), at("logout", 1000, token=late), at("logout", 999, token=late)])
+    # A token that is refused isn't kept: the same, or another of its `jti`, is accepted after it.
+    yield line(THREE + [at("logout", 1000, token=late), at("logout", 999, token=late), at("logout", 999, token=late)])
+    for refused in (token(claims(nonce="n")), token(claims(), secret="ccc"), token(claims(aud="b"))):
+        yield line(THREE + [at("logout", 1000, token=refused), at("logout", 1000, token=good)])
+    yield line(THREE + [at("logout", 1000, token=good)] + [at("logout", 1000, token=text) for text in ladder()])
+    yield line(THREE + [at("logout", 1000, token=token(claims(exp=...), {"alg": "HS256", "typ": "at+jwt"}))])
+    # A session that has ended stands until it is closed, swept or logged out.
+    ended = [opening("s1", "u1", None, 1500), opening("s2", "u1"), at("look", 1500, id="s1")]
+    yield line(ended + [at("close", id="s1"), at("close", id="s1"), at("logout", 1500, token=good)])
+    yield line(ended + [at("logout", 1500, token=good), at("close", id="s1")])
     yield line([opening("s1", "u1", "x", 1500), opening("s1", "u2", "y", 2000, 1500), at("logout", 1500, token=token(claims())),
                 at("look", 1500, id="s1"), at("logout", 1500, token=token(claims("j2", sub=..., sid="x"))),
                 at("logout", 1500, token=token(claims("j3", sub=..., sid="y"))), at("look", 1500, id="s1")])
-    for alg in ("HS384", "RS256", "none", "XX"):
+    for alg in ("HS384", "HS512", "RS256", "none", "XX"):
         yield line(THREE + [at("logout", 1000, token=token(claims(), {"alg": alg}))], alg)
     yield line([at("look", 1000, id="")]) + "&look=id%3Ds1"
     yield line([opening("", "", "", 2000), at("look", 1000, id="")])
@@ -290,9 +319,54 @@ def generated():
         yield line(calls)
 
 
+# ---- ID tokens and logout tokens, handed in for each other
+
+STATE, NONCE, VERIFIER = "CSRF123", "NONCE456", "dBjftJeZ4CVP-mB92K27uhbUJU1p1r_wW1gFWFOEjXk"
+SIGNS_IN = {"iss": "https://example", "aud": ["aaa"], "exp": 2000, "iat": 900, "nonce": NONCE, "sub": "u1"}
+
+
+def login(id_token):
+    """A script of one login, whose token response holds this text."""
+    body = json.dumps({"access_token": "abc", "token_type": "Bearer", "id_token": id_token}, separators=(",", ":"))
+    client = [("op", "client"), ("id", "aaa"), ("secret", "bbb"), ("issuer", "https://example"), ("auth", "https://example/a"),
+              ("token", "https://example/t"), ("algs", "HS256")]
+    begin = [("op", "begin"), ("state", STATE), ("nonce", NONCE), ("verifier", VERIFIER)]
+    callback = [("op", "callback"), ("now", "1000"), ("query", tokens.plain_form([("code", "c1"), ("state", STATE)])),
+                ("token_status", "200"), ("token_body", body)]
+    script = "".join(tokens.plain_form(of) + "\n" for of in (client, begin, callback))
+    return tokens.plain_form([("op", "run"), ("script", script)])
+
+
+def front(id_token, nonce=NONCE):
+    """An answer of an implicit flow that holds this text."""
+    return tokens.plain_form([
+        ("op", "front"), ("query", tokens.plain_form([("state", STATE), ("id_token", id_token)])), ("id", "aaa"),
+        ("issuer", "https://example"), ("algs", "HS256"), ("secret", "bbb"), ("state", STATE), ("nonce", nonce), ("now", "1000")])
+
+
+def apart():
+    """Texts, each as a login's ID token in both flows and as a logout token: one alone takes it."""
+    event = {EVENT: {}}
+    both = {**SIGNS_IN, "jti": "j1", "events": event}
+    for text in (token(SIGNS_IN), token(both), token(claims(), {"alg": "HS256", "typ": "logout+jwt"}), token(claims()),
+                 token(claims(nonce=None)), token(claims(nonce=""))):
+        yield login(text)
+        yield front(text)
+        yield line(THREE + [at("logout", 1000, token=text)])
+    yield front(token(claims()), "")
+    yield front(token(claims(nonce="")), "")
+
+
+def session_cases():
+    return [*by_hand(), *generated()]
+
+
+def apart_cases():
+    return list(apart())
+
+
 def cases():
-    yield from by_hand()
-    yield from generated()
+    return session_cases() + apart_cases()
 
 
 if __name__ == "__main__":

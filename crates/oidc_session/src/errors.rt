@@ -60,7 +60,7 @@ pub enum LogoutError {
     /// The token names neither a subject nor a session of the provider.
     #[error("neither a subject nor a session is named")]
     NoName,
-    /// The token has a nonce.
+    /// The token has a nonce that isn't null.
     #[error("a nonce, which no logout token has")]
     Nonce,
     /// A token of that id was accepted before.

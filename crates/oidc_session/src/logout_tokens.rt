@@ -23,8 +23,9 @@ use oidc_types::{
 use std::alloc::Global;
 
 /// What is expected of a logout token: the client as its audience, the issuer, and the key and the algorithm of its
-/// signature. Key and algorithm go together: a key of another type than the algorithm asks for refuses every token as
-/// `Signature(InvalidKey)`.
+/// signature. Key and algorithm go together, and it is the key that sees to it: no type of key is looked at here. A
+/// `CoreJsonWebKey` answers `InvalidKey` to an algorithm of another type of key, so that no token is accepted; a key type
+/// of the site's own has to do so too.
 #[derive(Drop)]
 pub struct LogoutVerifier<'v, K: JsonWebKey> {
     /// The client that the token has to be for, and for it alone.

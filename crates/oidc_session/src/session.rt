@@ -42,7 +42,7 @@ impl Marker for ProviderSessionMarker {
     }
 }
 
-/// The name of a session at the provider, the claim `sid` (OpenID Connect Back-Channel Logout 1.0 section 2.1).
+/// The ID of a session at the provider, the claim `sid` (OpenID Connect Back-Channel Logout 1.0 section 2.1).
 pub type ProviderSession = Text<ProviderSessionMarker>;
 
 /// A session of a user. Contracts see whose it is, the provider's session behind it, where that is known, and when it
