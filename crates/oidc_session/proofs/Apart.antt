@@ -1,12 +1,10 @@
 -- No text is both an ID token with a nonce and a logout token.
-use Rattle.std.proofs.Common.{◌≡◌, ℕ, ℤ, Bool, true, false, cond, List, [], ◌∷◌, Option, None, Some, Result, Ok, Err, refl, sym, ap, subst, ◌∙◌}
-use Rattle.std.specs.Prelude.{is_some, filter}
-use Rattle.std.specs.Option.{ok_or, option_map_or, option_flatten}
+use Rattle.std.proofs.Common.{◌≡◌, ℕ, Bool, true, false, cond, List, [], ◌∷◌, Option, None, Some, Result, Ok, Err, refl, sym, ap, ◌∙◌}
+use Rattle.std.specs.Prelude.{is_some}
+use Rattle.std.specs.Option.{ok_or, option_flatten}
 use Rattle.std.specs.Result.{result_ok}
-use Rattle.std.specs.Str.{bytes_eq}
 use Rattle.std.proofs.lemmas.Bool.{false≢true}
-use Rattle.serde_json.specs.Data.{Data}
-use Rattle.serde_json.specs.Find.{as_null, as_str}
+use Rattle.serde_json.specs.Find.{as_null}
 use Rattle.oidc_members.specs.Seen.{SeenMember}
 use Rattle.oidc_members.specs.Objects.{split_of}
 use Rattle.oidc_members.specs.declared.reading.Reading.{Reading}
@@ -20,7 +18,7 @@ use Rattle.oidc_jwt.specs.Header.{header_of}
 use Rattle.oidc_claims.specs.Standard.{faultless_claims}
 use Rattle.oidc_id_token_claims.specs.TokenFields.{SeenOwnClaims, nonce as id_nonce, own_of, needed_of as id_needed_of}
 use Rattle.oidc_id_token_claims.specs.IdTokenClaims.{SeenIdTokenClaims, additional_members, parts_in, id_token_claims_of, id_token_rule}
-use Rattle.oidc_login.specs.Types.{SeenLoginClient, SiteTypes}
+use Rattle.oidc_login.specs.Types.{SiteTypes}
 use Rattle.oidc_login.specs.Token.{SeenIdToken, id_token_of, is_sent}
 use Rattle.oidc_session.specs.LogoutClaims.{SeenLogoutClaims, nonce, logout_rule, needed_of, logout_claims_of}
 use Rattle.oidc_session.specs.LogoutTokens.{LogoutKeys, SeenLogoutToken, logout_token_of}

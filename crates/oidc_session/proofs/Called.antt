@@ -1,9 +1,8 @@
 -- What a call answers and leaves, clause by clause.
-use Rattle.std.proofs.Common.{◌≡◌, ℕ, ℤ, List, Bool, true, false, Option, None, Some, Result, Ok, Err, refl, sym, ap, subst, ◌∙◌}
+use Rattle.std.proofs.Common.{◌≡◌, ℕ, ℤ, List, false, Result, Ok, Err, refl, sym, ap, subst, ◌∙◌}
 use Rattle.std.specs.Prelude.{IfOk, IfErr, OnOk}
 use Rattle.oidc_keys.specs.declared.refusals.SignatureVerificationError.{SignatureVerificationError}
 use Rattle.oidc_keys.specs.declared.refusals.SignatureVerificationError.TheVariants as signature
-use Rattle.oidc_keys.specs.Jwk.{Verdict}
 use Rattle.oidc_oauth2.specs.Replies.{Unless, Gives}
 use Rattle.oidc_oauth2.proofs.Runs.{unless_map}
 use Rattle.oidc_login.proofs.Walks.{Walk}
@@ -40,7 +39,6 @@ module _ {Key Algorithm : Type 0} (keys : LogoutKeys Key Algorithm) (v : SeenLog
   abbrev Why : LogoutError → Type 0
   Why = LogoutCause keys v kept.token_ids now text
 
-
   -- an answer of the table, as a number
   counted : (reply : Result SeenLogout LogoutError) (e : LogoutError) → count_named kept reply ≡ Err e → reply ≡ Err e
   counted (Ok logout) e h = absurd cc
@@ -71,11 +69,12 @@ module _ {Key Algorithm : Type 0} (keys : LogoutKeys Key Algorithm) (v : SeenLog
         × (count ≡ count_of (ends_session logout) kept.sessions) × (new ≡ logged_out kept logout)
 
     accepted_as : (new : Kept) (n : ℕ) (logout : SeenLogout) → meant ≡ Ok logout → count_named kept meant ≡ Ok n → new ≡ left_by kept meant → Accepted new n
-    accepted_as new n logout is given left =
-        (logout,
-        accepted_of keys v kept.token_ids now text logout is,
-        same_count (count_named kept meant) n (count_of (ends_session logout) kept.sessions) given (ap (count_named kept) is),
-        left ∙ ap (left_by kept) is)
+    accepted_as new n logout is given left = (
+      logout,
+      accepted_of keys v kept.token_ids now text logout is,
+      same_count (count_named kept meant) n (count_of (ends_session logout) kept.sessions) given (ap (count_named kept) is),
+      left ∙ ap (left_by kept) is,
+    )
 
     by_ok : (new : Kept) (r : Result ℕ LogoutError) → Gives logout_errors r (count_named kept meant) → OnOk r (new ≡ left_by kept meant) → IfOk r (Accepted new)
     by_ok new (Ok n) given left =

@@ -1,5 +1,5 @@
 -- What a call to open a session replies.
-use Rattle.std.proofs.Common.{◌≡◌, Bool, true, false, Option, Some, None, Ok, Err, refl, ap, ◌∙◌}
+use Rattle.std.proofs.Common.{◌≡◌, true, false, Ok, Err, ap, ◌∙◌}
 use Rattle.std.specs.Prelude.{◌<ℤ◌, ◌≤ℤ◌, not, is_some}
 use Rattle.oidc_oauth2.specs.Replies.{◌>>◌, ◌when◌}
 use Rattle.oidc_session.specs.Sessions.{Sessions, session_at, Opening, open_reply}

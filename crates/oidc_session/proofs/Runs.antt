@@ -1,7 +1,6 @@
 -- How long a session stands in a run, and that it stands there as in the run of its own calls, the sweeps and the logouts.
 use Rattle.std.proofs.Common.{◌≡◌, ℕ, ℤ, Bool, true, false, cond, List, [], ◌∷◌, ◌++◌, filter, Option, None, Some, Result, Ok, Err, refl, sym, ap, subst, ◌∙◌, inl, inr, ⊎_elim}
 use Rattle.std.specs.Prelude.{◌⊎◌, ◌&&◌, ◌||◌, not, is_some}
-use Rattle.std.specs.Option.{option_map_or}
 use Rattle.std.specs.FinMap as finite
 use Rattle.std.specs.FinSet as set
 use Rattle.std.specs.Cmp.Lexicographic.{bytes_decides}
@@ -9,7 +8,7 @@ use Rattle.std.specs.Str.{bytes_eq}
 use Rattle.std.proofs.lemmas.Bool.{false≢true}
 use Rattle.oidc_session.specs.Sessions.{SeenSession, Sessions, Kept, nothing, ends_after, if_live, session_at, Opening, open_reply, without, has_ended, SeenLogout, ends_session}
 use Rattle.oidc_session.specs.LogoutTokens.{LogoutKeys, SeenLogoutVerifier, accepted_logout}
-use Rattle.oidc_session.specs.Events.{Event, opens, looks, closes, sweeps, logs_out, Reply, opened, looked, closed, opened_by, open_step, look_step, close_step, logout_in, left_by, step, kept_from, kept_of, turns_from, is_opened, is_among_named, takes, Stands, WasOpened, AnswersUntilEnd, is_about, is_about_all, concerning, RunsAsAlone}
+use Rattle.oidc_session.specs.Events.{Event, opens, looks, closes, sweeps, logs_out, Reply, opened, looked, closed, opened_by, logout_in, left_by, step, kept_from, kept_of, turns_from, is_opened, is_among_named, takes, Stands, WasOpened, AnswersUntilEnd, is_about, is_about_all, concerning, RunsAsAlone}
 use Rattle.oidc_oauth2.specs.Replies.{◌>>◌, ◌when◌}
 use Rattle.oidc_session.specs.declared.errors.OpenError.{OpenError}
 use Rattle.oidc_session.specs.declared.errors.OpenError.TheVariants.{Ended, Taken}

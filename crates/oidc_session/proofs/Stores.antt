@@ -5,8 +5,7 @@ use Rattle.std.specs.List.{list_any}
 use Rattle.std.specs.Map.Iter.{deref}
 use Rattle.std.specs.String.{string_bytes}
 use Rattle.std.specs.Cmp.{nat_eq_equiv}
-use Rattle.std.specs.Prelude.{[], ◌∷◌, ◌++◌, map, ◌&&◌, ◌||◌, not, is_some, IfSome, IsSome, int_lt}
-use Rattle.std.specs.Option.{option_map_or}
+use Rattle.std.specs.Prelude.{[], ◌∷◌, ◌++◌, map, ◌&&◌, ◌||◌, not, is_some, IfSome, IsSome}
 use Rattle.std.specs.FinMap as finite
 use Rattle.std.specs.Cmp.Lexicographic.{bytes_decides, lists_equiv}
 use Rattle.std.specs.Str.{bytes_eq}
@@ -29,9 +28,14 @@ if_some_at : {A : Type 0} {P : A → Type 0} (o : Option A) → ((x : A) → o �
 if_some_at None f = tt
 if_some_at (Some x) f = f x refl
 
-at_some : {A : Type 0} {P : A → Type 0} (o : Option A) (x : A) → IfSome o P → o ≡ Some x → P x
-at_some None x p e = absurd (none_some x e)
-at_some {P = P} (Some y) x p e = subst P (same_some y x e) p
+at_some : {A : Type 0} (P : A → Type 0) (o : Option A) (x : A) → IfSome o P → o ≡ Some x → P x
+at_some P None x p e = absurd (none_some x e)
+at_some P (Some y) x p e = subst P (same_some y x e) p
+
+-- what is left of one that may be gone was there
+left_was : (b : Bool) (found : Option SeenSession) (s : SeenSession) → cond b None found ≡ Some s → found ≡ Some s
+left_was true found s e = absurd (none_some s e)
+left_was false found s e = e
 
 module _ {Y Z S T : Type 0} where
   -- the ids of these sessions stay where they stood

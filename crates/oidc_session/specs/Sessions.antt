@@ -1,12 +1,12 @@
 -- What contracts see of a site's sessions, and what becomes of them.
-use Rattle.std.specs.Prelude.{ℕ, ◌-◌, ℤ, int_lt, List, Bool, true, false, not, ◌&&◌, Option, None, Some, is_some, Result, Ok, if◌then◌else◌}
+use Rattle.std.specs.Prelude.{ℕ, ◌-◌, ℤ, int_lt, List, Bool, true, false, not, ◌&&◌, Option, None, Some, is_some, Result, if◌then◌else◌}
 use Rattle.std.specs.Option.{option_map_or}
 use Rattle.std.specs.FinMap as finite
 use Rattle.std.specs.FinSet as set
 use Rattle.std.specs.Ordering.{nat_cmp}
 use Rattle.std.specs.Cmp.Lexicographic.{slice_cmp}
 use Rattle.std.specs.Str.{bytes_eq}
-use Rattle.oidc_oauth2.specs.Replies.{◌>>=◌, ◌>>◌, ◌when◌, ErrorMeaning}
+use Rattle.oidc_oauth2.specs.Replies.{◌>>◌, ◌when◌, ErrorMeaning}
 use Rattle.oidc_session.specs.declared.errors.OpenError.{OpenError}
 use Rattle.oidc_session.specs.declared.errors.OpenError.TheVariants.{Ended, Taken, Memory}
 

@@ -1,5 +1,4 @@
 use Rattle.oidc_session.proofs.Runs.{answers_until_end}
-use Rattle.oidc_session.specs.LogoutTokens.{logout_keys}
 use Rattle.oidc_session.proofs.laws.answers_until_end.Goals as goal
 
 pub returns : goal.returns

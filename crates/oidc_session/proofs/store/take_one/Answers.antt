@@ -1,7 +1,6 @@
-use Rattle.std.proofs.Common.{◌≡◌, true, false, sym, ap, subst, ◌∙◌}
+use Rattle.std.proofs.Common.{sym, ap, subst, ◌∙◌}
 use Rattle.std.specs.Prelude.{IsSome}
 use Rattle.std.specs.FinMap as finite
-use Rattle.oidc_session.specs.Stored.{is_named_at}
 use Rattle.oidc_session.proofs.Stores.{taken_out, left_there, not_there}
 use Rattle.oidc_session.proofs.store.take_one.Goals as goal
 

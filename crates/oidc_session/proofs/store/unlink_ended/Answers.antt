@@ -16,11 +16,11 @@ loop-id-preserved c =
     let at : (x : List ℕ) → x ≡ string_bytes c.in-Some.id.now → finite.get c.args.sessions.now x ≡ Some c.in-Some.session.now =
     λ x e. rw e found in (
       λ n i s there live h.
-          c.unlink_if_ended-in-loop-id.ensures.others n i
-          (still_there c.args.sessions.now c.as_str-in-loop-id.result.now i c.in-Some.session.now s c.args.now.nanosecond (at _ c.as_str-in-loop-id.ensures.value) there live)
-          (c.loop-id.invariant.0 n i s there live h),
-      λ n i s there live h.
           c.unlink_if_ended.ensures.others n i
           (still_there c.args.sessions.now c.as_str.result.now i c.in-Some.session.now s c.args.now.nanosecond (at _ c.as_str.ensures.value) there live)
+          (c.loop-id.invariant.0 n i s there live h),
+      λ n i s there live h.
+          c.unlink_if_ended-in-loop-id.ensures.others n i
+          (still_there c.args.sessions.now c.as_str-in-loop-id.result.now i c.in-Some.session.now s c.args.now.nanosecond (at _ c.as_str-in-loop-id.ensures.value) there live)
           (c.loop-id.invariant.1 n i s there live h),
     )

@@ -2,7 +2,6 @@ use Rattle.std.proofs.Common.{rules, sym, ap, ◌∙◌}
 use Rattle.std.specs.Option.{option_copied_mut}
 use Rattle.std.specs.Prelude.{is_some}
 use Rattle.std.specs.FinMap as finite
-use Rattle.std.specs.String.{string_bytes}
 use Rattle.std.proofs.lemmas.Fn.{filter_same}
 use Rattle.oidc_session.proofs.Linked.{written, filtered_ids}
 use Rattle.oidc_session.proofs.index.Index.take_gone.Goals as goal
