@@ -180,8 +180,8 @@ impl<'v, K: JsonWebKey> Sessions<'v, K> {
     /// client isn't in the audience, or somebody else is; `WrongAlgorithm`, where it isn't signed by the verifier's
     /// algorithm; `Signature`, where the key doesn't verify it; `Expired`, where `now` isn't before its `exp`; `Events`,
     /// where its events don't hold that of a logout; `NoName`, where it has neither `sub` nor `sid`; `Nonce`, where it
-    /// has a nonce that isn't null; `Replayed`, where a token of its `jti` was accepted before (OpenID Connect Back-Channel Logout 1.0
-    /// section 2.6). `Memory` may come at any point. Each leaves all as it was.
+    /// has a nonce that isn't null; `Replayed`, where a token of its `jti` was accepted before (OpenID Connect
+    /// Back-Channel Logout 1.0 section 2.6). `Memory` may come at any point. Each leaves all as it was.
     pub fn provider_logout(&mut self, text: &str, now: Timestamp) -> Result<usize, LogoutError>
         ensures verifier { self.new.verifier ≡ self.old.verifier }
         ensures reply { let keys = logout_keys K.SigningAlgorithm.ClosedVocabulary K.verdict in
