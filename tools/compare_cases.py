@@ -25,6 +25,7 @@ import plain_front
 import plain_info
 import plain_keys
 import plain_requests
+import plain_sessions
 import plain_tokens
 import plain_urls
 from plain_records import answer_by, pairs, read_case, reading_in
@@ -42,7 +43,7 @@ READERS = {
     "vectors": {"standard": standard, **plain_answers.OPERATIONS, **plain_keys.OPERATIONS},
     "vectors_requests": plain_requests.OPERATIONS,
     "vectors_tokens": {**plain_tokens.OPERATIONS, **plain_info.OPERATIONS, **plain_urls.OPERATIONS},
-    "vectors_logins": {**plain_callback.OPERATIONS, **plain_front.OPERATIONS},
+    "vectors_logins": {**plain_callback.OPERATIONS, **plain_front.OPERATIONS, **plain_sessions.OPERATIONS},
 }
 
 # Pieces of cases with a URL that the URL Standard writes otherwise, or refuses (sections 3.5, 4.4 and 4.5). The readers
@@ -83,7 +84,8 @@ GENERATED = {
     "vectors_requests": [],
     "vectors_tokens": [plain_tokens.cases, plain_info.cases, plain_urls.cases,
                        lambda: list(plain_tokens.readings()), lambda: list(plain_info.readings())],
-    "vectors_logins": [plain_callback.short_cases, plain_callback.long_cases, plain_front.cases],
+    "vectors_logins": [plain_callback.short_cases, plain_callback.long_cases, plain_front.cases,
+                       plain_sessions.session_cases, plain_sessions.apart_cases],
 }
 
 

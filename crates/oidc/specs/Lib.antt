@@ -18,3 +18,10 @@ pub use Rattle.oidc_login.specs.Runs
 pub use Rattle.oidc_login.specs.Events
 pub use Rattle.oidc_login.specs.FrontChannel
 pub use Rattle.oidc_login.specs.FrontCauses
+-- The same of oidc_session. Its calls, one after another, have a name of their own here, beside the events of logins.
+pub use Rattle.oidc_session.specs.LogoutClaims
+pub use Rattle.oidc_session.specs.Sessions
+pub use Rattle.oidc_session.specs.LogoutTokens
+pub use Rattle.oidc_session.specs.LogoutCauses
+pub use Rattle.oidc_session.specs.Events as SessionEvents
+pub use Rattle.oidc_session.specs.Apart

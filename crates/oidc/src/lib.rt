@@ -7,10 +7,12 @@
 //!   Rust crate, a name that stands here for the language's own library.
 //! - [`login`] has what that crate leaves to its callers: pending logins, from the URL that sends a user to the
 //!   provider to the claims that sign the user in, [`login::LoginSecrets`], drawn from a generator, and
-//!   [`login::front_channel`], which judges the answer of an implicit or a hybrid flow.
+//!   [`login::front_channel`], which judges the answer of an implicit or a hybrid flow; and [`login::Sessions`], the
+//!   sessions that a site keeps after logins, which a logout token of the provider ends.
 //!
-//! What each item promises stands in the page of its crate. The words of `oidc_login` that its contracts cite are passed on
-//! by `specs/Lib.antt`; a contract that speaks of the crates below logins lists the crate that it speaks of.
+//! What each item promises stands in the page of its crate. The words of `oidc_login` and of `oidc_session` that their
+//! contracts cite are passed on by `specs/Lib.antt`; a contract that speaks of the crates below logins lists the crate
+//! that it speaks of.
 #![tactic(auto)]
 
 pub mod core_types;

@@ -10,6 +10,9 @@ pub use oidc_login::{
     BeginError, FrontAnswer, FrontError, LoginClient, LoginError, LoginIdToken, LoginRequest,
     Logins, MetadataClient, NewLoginsError, SignedIn, TooLong, UserInfoDemand, front_channel,
 };
+pub use oidc_session::{
+    LogoutError, LogoutVerifier, OpenError, ProviderSession, Session, SessionId, Sessions,
+};
 use rand_core::Rng;
 use std::alloc::{AllocError, Global};
 

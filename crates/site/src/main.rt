@@ -6,10 +6,11 @@
 //! browsers begin a login. The program reads the query with which the first one comes back from standard input, and
 //! shows that the second one, which was handed that query, is refused. Then both sign in, each with its own. The tokens
 //! of the first one's user are refreshed (`src/tokens.rt`), and the user signs out (`src/sign_out.rt`); a refresh of
-//! the second one's brings the ID token of somebody else, so that user has to sign in again.
+//! the second one's brings the ID token of somebody else, so that user signs in again, and then the provider ends that
+//! session by a logout token (`src/keep.rt`).
 #![tactic(auto)]
 
-ghost use Rattle.std.specs.Prelude.{◌≡◌, ◌↔◌, true, false, None, Some, IfOk, IfSome, IsSome, IsTrue, OnOk, option_and_then};
+ghost use Rattle.std.specs.Prelude.{◌≡◌, ◌↔◌, true, false, None, Some, IfOk, IfSome, IsSome, IsSomeAnd, IsTrue, OnErr, OnOk, option_and_then};
 ghost use Rattle.std.specs.FinMap as finite;
 ghost use Rattle.std.specs.Option.{option_copied};
 ghost use Rattle.oidc_types.specs.Random.{random_text};
@@ -17,17 +18,20 @@ ghost use Rattle.oidc.specs.Pairs.{pairs};
 ghost use Rattle.oidc.specs.Token.{subject_of};
 ghost use Rattle.oidc.specs.Errors.{is_spent_by};
 ghost use Rattle.oidc.specs.BeforeRequest.{login_named_by, state_in};
+ghost use Rattle.oidc.specs.Sessions.{session_at};
 
+mod keep;
 mod provider;
 mod session;
 mod sign_out;
 mod tokens;
 mod visit;
 
+use crate::keep::{LogoutKey, SiteSessions, end, logout_key, new_sessions, open};
 use crate::provider::{answers, metadata, print_requests, text};
 use crate::session::{Session, Visit};
 use crate::tokens::{RevocationClient, revocation_client};
-use crate::visit::visits;
+use crate::visit::{answer_post, leave, visits};
 use jiff::Timestamp;
 use oidc::core_types::{CoreGenderClaim, CoreJsonWebKey};
 use oidc::login::{LoginClient, LoginError, LoginSecrets, Logins, SignedIn, UserInfoDemand};
@@ -39,6 +43,7 @@ use oidc_pairs::only_value;
 use rand_core::Rng;
 use rand_pcg::Pcg32;
 use std::alloc::{AllocError, Global};
+use std::time::Duration;
 use url::Url;
 
 /// The logins of a site that keeps all additional claims, and whose keys are symmetric.
@@ -148,22 +153,64 @@ fn said<E>(refusal: &LoginError<E>) -> &'static str {
     }
 }
 
-// Puts a user into the session, in the place of any other.
-fn admit(alloc: Global, session: &mut Session, user: User) -> anyhow::Result<String> {
-    let visit = Visit::new(alloc, user)?;
-    let line = greeting(alloc, &visit.user);
-    drop(session.visit.replace(visit));
-    line
+// Opens the session of a user who has just signed in, and says who that is.
+fn welcome(
+    alloc: Global,
+    sessions: &mut SiteSessions<'_>,
+    visit: &Visit,
+    now: Timestamp,
+) -> anyhow::Result<String>
+    ensures found { OnOk result (IsSome
+        (session_at sessions.new.kept.sessions visit.now.id now.nanosecond)) }
+    ensures stays { OnErr result (sessions.new ≡ sessions.old) }
+{
+    let line = greeting(alloc, &visit.user)?;
+    let end = now.checked_add(Duration::from_secs(LENGTH))?;
+    open(alloc, sessions, visit, end, now)?;
+    Ok(line)
+}
+
+// Puts a user into the session, in the place of any other, under a new id.
+fn admit<R: Rng>(
+    alloc: Global,
+    sessions: &mut SiteSessions<'_>,
+    session: &mut Session,
+    user: User,
+    rng: &mut R,
+    now: Timestamp,
+) -> anyhow::Result<String>
+    ensures user { OnOk result (IsSomeAnd session.new.visit (λ visit. visit.user ≡ user)) }
+    ensures id { OnOk result (IsSomeAnd session.new.visit
+        (λ visit. visit.id ≡ random_text 16 (R.stream rng.old))) }
+    ensures found { OnOk result (IsSomeAnd session.new.visit (λ visit.
+        IsSome (session_at sessions.new.kept.sessions visit.id now.nanosecond))) }
+    ensures nobody { OnErr result (session.new.visit ≡ None) }
+{
+    drop(end(sessions, session));
+    let visit = Visit::new(alloc, user, rng)?;
+    match welcome(alloc, sessions, &visit, now) {
+        Ok(line) => {
+            session.visit = Some(visit);
+            Ok(line)
+        }
+        Err(error) => {
+            drop(visit);
+            Err(error)
+        }
+    }
 }
 
 // What it makes of the reply to a callback.
-fn admit_any<E: Drop>(
+fn admit_any<E: Drop, R: Rng>(
     alloc: Global,
+    sessions: &mut SiteSessions<'_>,
     session: &mut Session,
     reply: Result<User, LoginError<E>>,
+    rng: &mut R,
+    now: Timestamp,
 ) -> anyhow::Result<String> {
     match reply {
-        Ok(user) => admit(alloc, session, user),
+        Ok(user) => admit(alloc, sessions, session, user, rng, now),
         Err(refusal) => {
             let line = said(&refusal);
             drop(refusal);
@@ -173,11 +220,12 @@ fn admit_any<E: Drop>(
 }
 
 // What it answers the browser that comes back: the state counts until its login is gone, and no longer.
-fn answered<H: SyncHttpClient<Error: Drop>>(
+fn answered<H: SyncHttpClient<Error: Drop>, R: Rng>(
     alloc: Global,
-    logins: &mut SiteLogins<'_>,
+    stores: &mut Stores<'_>,
     session: &mut Session,
     query: &[u8],
+    rng: &mut R,
     http: &mut H,
     now: Timestamp,
 ) -> anyhow::Result<String>
@@ -187,25 +235,26 @@ fn answered<H: SyncHttpClient<Error: Drop>>(
     let Some(kept) = &session.login else {
         return text(alloc, "not signed in: this browser began no login");
     };
-    let reply = come_back(alloc, logins, kept, query, http, now);
+    let reply = come_back(alloc, &mut stores.logins, kept, query, http, now);
     session.forget_login(&reply);
-    admit_any(alloc, session, reply)
+    admit_any(alloc, &mut stores.sessions, session, reply, rng, now)
 }
 
 // A browser comes back.
-fn answer<H: SyncHttpClient<Error: Drop>>(
+fn answer<H: SyncHttpClient<Error: Drop>, R: Rng>(
     rt: &impl Print,
     alloc: Global,
-    logins: &mut SiteLogins<'_>,
+    stores: &mut Stores<'_>,
     session: &mut Session,
     query: &str,
+    rng: &mut R,
     http: &mut H,
     now: Timestamp,
 ) -> anyhow::Result<()>
     requires { H.ready http.old }
     ensures { H.ready http.new }
 {
-    let line = answered(alloc, logins, session, query.as_bytes(), http, now)?;
+    let line = answered(alloc, stores, session, query.as_bytes(), rng, http, now)?;
     println!(rt; "{line}")?;
     Ok(())
 }
@@ -226,14 +275,26 @@ fn send<'c, R: Rng>(
     Ok(())
 }
 
-/// The site's clients, made once.
+/// The site's clients, made once, and its provider's key.
 #[derive(Drop)]
 pub(crate) struct Site {
     // That of the logins, which refreshes too.
     pub(crate) client: LoginClient,
     // The one that revokes.
     pub(crate) revocation: RevocationClient,
+    // By what the provider's logout tokens are judged.
+    pub(crate) logout_key: LogoutKey,
 }
+
+/// What the site keeps of all browsers together.
+#[derive(Drop)]
+struct Stores<'c> {
+    logins: SiteLogins<'c>,
+    sessions: SiteSessions<'c>,
+}
+
+// How long a session lasts, in seconds, where nothing ends it before.
+const LENGTH: u64 = 28_800;
 
 /// The sessions of two browsers.
 #[derive(Drop)]
@@ -252,6 +313,10 @@ pub(crate) struct Queries {
     pub(crate) forged: String,
     // The return from the provider's logout.
     pub(crate) signed_out: String,
+    // The callback of the second user's next login.
+    pub(crate) again: String,
+    // What the provider posts to the page for logout tokens.
+    pub(crate) posted: String,
 }
 
 // Two browsers begin. The second one comes back with the query of the first one's callback, and then each with its own.
@@ -259,7 +324,7 @@ fn sign_in<'c, H: SyncHttpClient<Error: Drop>, R: Rng>(
     rt: &impl Print,
     alloc: Global,
     client: &'c LoginClient,
-    logins: &mut SiteLogins<'c>,
+    stores: &mut Stores<'c>,
     rng: &mut R,
     queries: &Queries,
     browsers: &mut Browsers,
@@ -269,42 +334,52 @@ fn sign_in<'c, H: SyncHttpClient<Error: Drop>, R: Rng>(
     requires { H.ready http.old }
     ensures { H.ready http.new }
 {
-    send(rt, alloc, client, logins, rng, &mut browsers.first)?;
-    send(rt, alloc, client, logins, rng, &mut browsers.second)?;
-    answer(
+    let (first, second) = (&mut browsers.first, &mut browsers.second);
+    let (own, others) = (queries.second.as_str(), queries.first.as_str());
+    send(rt, alloc, client, &mut stores.logins, rng, first)?;
+    send(rt, alloc, client, &mut stores.logins, rng, second)?;
+    answer(rt, alloc, stores, second, others, rng, http, now)?;
+    answer(rt, alloc, stores, first, others, rng, http, now)?;
+    answer(rt, alloc, stores, second, own, rng, http, now)
+}
+
+// The second user signs in again. The provider ends that session, and its token counts once.
+fn sign_in_again<'c, H: SyncHttpClient<Error: Drop>, R: Rng>(
+    rt: &impl Print,
+    alloc: Global,
+    site: &'c Site,
+    stores: &mut Stores<'c>,
+    rng: &mut R,
+    queries: &Queries,
+    session: &mut Session,
+    http: &mut H,
+    now: Timestamp,
+) -> anyhow::Result<()>
+    requires { H.ready http.old }
+{
+    let (again, posted) = (queries.again.as_str(), queries.posted.as_str());
+    send(rt, alloc, &site.client, &mut stores.logins, rng, session)?;
+    answer(rt, alloc, stores, session, again, rng, http, now)?;
+    answer_post(rt, alloc, &mut stores.sessions, posted, now)?;
+    answer_post(rt, alloc, &mut stores.sessions, posted, now)?;
+    leave(
         rt,
         alloc,
-        logins,
-        &mut browsers.second,
-        queries.first.as_str(),
-        http,
-        now,
-    )?;
-    answer(
-        rt,
-        alloc,
-        logins,
-        &mut browsers.first,
-        queries.first.as_str(),
-        http,
-        now,
-    )?;
-    answer(
-        rt,
-        alloc,
-        logins,
-        &mut browsers.second,
-        queries.second.as_str(),
+        site,
+        &mut stores.sessions,
+        rng,
+        session,
         http,
         now,
     )
 }
 
 // From signing in to signing out, at one moment.
-fn stay<H: SyncHttpClient<Error: Drop>, R: Rng>(
+fn stay<'c, H: SyncHttpClient<Error: Drop>, R: Rng>(
     rt: &impl Print,
     alloc: Global,
-    site: &Site,
+    site: &'c Site,
+    stores: &mut Stores<'c>,
     rng: &mut R,
     queries: &Queries,
     browsers: &mut Browsers,
@@ -313,27 +388,32 @@ fn stay<H: SyncHttpClient<Error: Drop>, R: Rng>(
     requires { H.ready http.old }
 {
     let now = Timestamp::from_second(1000)?;
-    let mut logins = Logins::new(alloc, &site.client)?;
-    let signed_in = sign_in(
+    let client = &site.client;
+    sign_in(rt, alloc, client, stores, rng, queries, browsers, http, now)?;
+    visits(
         rt,
         alloc,
-        &site.client,
-        &mut logins,
+        site,
+        &mut stores.sessions,
         rng,
         queries,
         browsers,
         http,
         now,
-    );
-    drop(logins);
-    signed_in?;
-    visits(rt, alloc, site, rng, queries, browsers, http, now)
+    )?;
+    let second = &mut browsers.second;
+    sign_in_again(rt, alloc, site, stores, rng, queries, second, http, now)
 }
 
 fn new_site(alloc: Global) -> anyhow::Result<Site> {
+    let logout_key = logout_key(alloc)?;
     let client = client(alloc)?;
     match revocation_client(alloc) {
-        Ok(revocation) => Ok(Site { client, revocation }),
+        Ok(revocation) => Ok(Site {
+            client,
+            revocation,
+            logout_key,
+        }),
         Err(error) => {
             drop(client);
             Err(error)
@@ -341,24 +421,37 @@ fn new_site(alloc: Global) -> anyhow::Result<Site> {
     }
 }
 
-// The site, with two browsers.
+// The site's stores, and two browsers.
 fn serve<H: SyncHttpClient<Error: Drop>, R: Rng>(
     rt: &impl Print,
     alloc: Global,
+    site: &Site,
     rng: &mut R,
     queries: &Queries,
     http: &mut H,
 ) -> anyhow::Result<()>
     requires { H.ready http.old }
 {
-    let site = new_site(alloc)?;
+    let mut stores = Stores {
+        logins: Logins::new(alloc, &site.client)?,
+        sessions: new_sessions(alloc, site),
+    };
     let mut browsers = Browsers {
         first: Session::new(),
         second: Session::new(),
     };
-    let stayed = stay(rt, alloc, &site, rng, queries, &mut browsers, http);
+    let stayed = stay(
+        rt,
+        alloc,
+        site,
+        &mut stores,
+        rng,
+        queries,
+        &mut browsers,
+        http,
+    );
     drop(browsers);
-    drop(site);
+    drop(stores);
     stayed
 }
 
@@ -375,6 +468,8 @@ fn read_queries(rt: &impl Input, alloc: Global) -> anyhow::Result<Queries> {
         second: line(rt, alloc)?,
         forged: line(rt, alloc)?,
         signed_out: line(rt, alloc)?,
+        again: line(rt, alloc)?,
+        posted: line(rt, alloc)?,
     })
 }
 
@@ -384,6 +479,9 @@ fn main(rt: HostRuntime) -> anyhow::Result<()> {
     let mut http = Recorded::new(alloc, answers(alloc)?);
     // This generator can be guessed. A site takes one for secrets: `StdRng` of the kit's `rand`, by `make_rng(&rt)`.
     let mut rng = Pcg32::new(42, 54);
-    serve(&rt, alloc, &mut rng, &queries, &mut http)?;
+    let site = new_site(alloc)?;
+    let served = serve(&rt, alloc, &site, &mut rng, &queries, &mut http);
+    drop(site);
+    served?;
     print_requests(&rt, &http)
 }

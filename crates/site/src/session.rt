@@ -1,15 +1,17 @@
 //! What the site keeps of a browser.
 //!
-//! A site's framework keeps one session for each browser, and finds it by a cookie. It gives the session a new name
-//! when its user signs in or out, so that nobody goes on with one that was known before.
+//! A site's framework finds it by a cookie. Each user who signs in gets a new id, drawn from the generator, so that nobody
+//! goes on with one that was known before; `src/keep.rt` keeps which ids are good.
 
 ghost use Rattle.std.specs.Prelude.{◌≡◌, None, true, false, IfOk};
 ghost use Rattle.std.specs.Option.{option_copied};
+ghost use Rattle.oidc_types.specs.Random.{random_text};
 ghost use Rattle.oidc.specs.Errors.{is_spent_by};
 
 use crate::User;
-use oidc::login::LoginError;
+use oidc::login::{LoginError, SessionId};
 use oidc::{AccessToken, CsrfToken, RefreshToken};
+use rand_core::Rng;
 use std::alloc::{AllocError, Global};
 
 /// The tokens in use: at first those that came with the sign-in, then those of the last refresh that was accepted.
@@ -25,6 +27,8 @@ pub(crate) struct Tokens {
 /// A user who is signed in.
 #[derive(Drop)]
 pub(crate) struct Visit {
+    // The id of the session, which the browser's cookie holds.
+    pub(crate) id: SessionId,
     // The sign-in, whole: the ID token of each refresh is judged beside its claims, and its ID token is the hint of the
     // logout.
     pub(crate) user: User,
@@ -76,15 +80,26 @@ fn is_spent<E>(reply: &Result<User, LoginError<E>>) -> bool
     }
 }
 
+// The id of a new session, and the tokens.
+fn parts<R: Rng>(alloc: Global, user: &User, rng: &mut R) -> Result<(SessionId, Tokens), AllocError>
+    ensures id { IfOk result (λ parts. parts.0 ≡ random_text 16 (R.stream rng.old)) }
+    ensures access { IfOk result (λ parts. parts.1.access_token ≡ user.now.access_token) }
+    ensures refresh { IfOk result (λ parts. parts.1.refresh_token ≡ user.now.refresh_token) }
+{
+    let id = SessionId::new_random(alloc, rng)?;
+    Ok((id, tokens_of(alloc, user)?))
+}
+
 impl Visit {
-    /// A user who has just signed in.
-    pub(crate) fn new(alloc: Global, user: User) -> Result<Visit, AllocError>
+    /// A user who has just signed in, with an id that nobody had before.
+    pub(crate) fn new<R: Rng>(alloc: Global, user: User, rng: &mut R) -> Result<Visit, AllocError>
+        ensures id { IfOk result (λ visit. visit.id ≡ random_text 16 (R.stream rng.old)) }
         ensures user { IfOk result (λ visit. visit.user ≡ user) }
         ensures access { IfOk result (λ visit. visit.tokens.access_token ≡ user.access_token) }
         ensures refresh { IfOk result (λ visit. visit.tokens.refresh_token ≡ user.refresh_token) }
     {
-        match tokens_of(alloc, &user) {
-            Ok(tokens) => Ok(Visit { user, tokens }),
+        match parts(alloc, &user, rng) {
+            Ok((id, tokens)) => Ok(Visit { id, user, tokens }),
             Err(AllocError) => {
                 drop(user);
                 Err(AllocError)
@@ -113,13 +128,5 @@ impl Session {
         if is_spent(reply) {
             self.login = None;
         }
-    }
-
-    /// Ends the session of the user who is signed in: from here on the browser is nobody's. What it kept is handed out.
-    pub(crate) fn end(&mut self) -> Option<Visit>
-        ensures visit { result ≡ self.old.visit }
-        ensures ended { self.new ≡ record self.old { visit = None } }
-    {
-        self.visit.take()
     }
 }

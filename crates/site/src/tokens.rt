@@ -1,11 +1,13 @@
 //! What a site does with the tokens of a user who is signed in: it refreshes them, and gives them up in the end.
 
-ghost use Rattle.std.specs.Prelude.{◌≡◌, ◌≢◌, None, true, false, IfOk, IfErr, IsNone, IsSomeAnd, OnErr, OnOk, codes};
+ghost use Rattle.std.specs.Prelude.{◌≡◌, ◌≢◌, None, true, false, IfOk, IfErr, IfSome, IsNone, IsSomeAnd, OnErr, OnOk, codes};
+ghost use Rattle.std.specs.FinMap as finite;
 ghost use Rattle.std.specs.Option.{option_or};
 ghost use Rattle.site.specs.Tokens as spec;
 ghost use Rattle.site.specs.Tokens.{IsOfSignIn, ends_session};
 
 use crate::User;
+use crate::keep::{SiteSessions, end};
 use crate::provider::{metadata, revocation, text};
 use crate::session::{Session, Tokens, Visit, copy_of};
 use jiff::Timestamp;
@@ -241,12 +243,15 @@ fn refresh_any<H: SyncHttpClient>(
 }
 
 // Ends a session, where it is over.
-fn end_if(session: &mut Session, is_over: bool)
+fn end_if(sessions: &mut SiteSessions<'_>, session: &mut Session, is_over: bool)
     ensures ended { is_over ≡ true → session.new.visit ≡ None }
+    ensures closed { is_over ≡ true → IfSome session.old.visit (λ visit.
+        finite.get sessions.new.kept.sessions visit.id ≡ None) }
     ensures stays { is_over ≡ false → session.new ≡ session.old }
+    ensures open { is_over ≡ false → sessions.new ≡ sessions.old }
 {
     if is_over {
-        drop(session.end());
+        drop(end(sessions, session));
     }
 }
 
@@ -254,6 +259,7 @@ fn end_if(session: &mut Session, is_over: bool)
 pub(crate) fn refresh_session<H: SyncHttpClient>(
     alloc: Global,
     client: &LoginClient,
+    sessions: &mut SiteSessions<'_>,
     session: &mut Session,
     http: &mut H,
     now: Timestamp,
@@ -261,12 +267,17 @@ pub(crate) fn refresh_session<H: SyncHttpClient>(
     requires { H.ready http.old }
     ensures again { H.ready http.new }
     ensures ended { IfErr result (λ error. ends_session error ≡ true → session.new.visit ≡ None) }
+    ensures closed { IfErr result (λ error. ends_session error ≡ true
+        → IfSome session.old.visit (λ visit.
+        finite.get sessions.new.kept.sessions visit.id ≡ None)) }
     ensures stays { IfErr result (λ error. ends_session error ≡ false → session.new ≡ session.old) }
+    ensures open { IfErr result (λ error. ends_session error ≡ false → sessions.new ≡ sessions.old) }
+    ensures goes_on { OnOk result (sessions.new ≡ sessions.old) }
 {
     match refresh_any(alloc, client, session, http, now) {
         Ok(()) => Ok(()),
         Err(refusal) => {
-            end_if(session, refusal.ends_session());
+            end_if(sessions, session, refusal.ends_session());
             Err(refusal)
         }
     }

@@ -1,8 +1,9 @@
 //! What the two browsers of the example do once their users are signed in: tokens are refreshed, one user signs out,
-//! and the other one has to sign in again.
+//! the other one has to sign in again, and the provider ends a session.
 
 ghost use Rattle.std.specs.Prelude.{IsNone};
 
+use crate::keep::{PostError, SiteSessions, end, look, take_post};
 use crate::provider::text;
 use crate::session::{Session, Visit};
 use crate::sign_out::{comes_back, provider_logout, sign_out};
@@ -36,6 +37,7 @@ fn refresh_once<H: SyncHttpClient<Error: Drop>>(
     rt: &impl Print,
     alloc: Global,
     client: &LoginClient,
+    sessions: &mut SiteSessions<'_>,
     session: &mut Session,
     http: &mut H,
     now: Timestamp,
@@ -43,7 +45,8 @@ fn refresh_once<H: SyncHttpClient<Error: Drop>>(
     requires { H.ready http.old }
     ensures { H.ready http.new }
 {
-    let reply = refresh_session(alloc, client, session, http, now);
+    look(sessions, session, now);
+    let reply = refresh_session(alloc, client, sessions, session, http, now);
     let words = refreshed(&reply);
     drop(reply);
     println!(rt; "{words}")?;
@@ -129,19 +132,22 @@ fn part<H: SyncHttpClient<Error: Drop>, R: Rng>(
     }
 }
 
-// The user signs out. The site's own session is ended first, whatever comes of the rest.
-fn leave<H: SyncHttpClient<Error: Drop>, R: Rng>(
+/// The user signs out. The site's own session is ended first, whatever comes of the rest.
+pub(crate) fn leave<H: SyncHttpClient<Error: Drop>, R: Rng>(
     rt: &impl Print,
     alloc: Global,
     site: &Site,
+    sessions: &mut SiteSessions<'_>,
     rng: &mut R,
     session: &mut Session,
     http: &mut H,
+    now: Timestamp,
 ) -> anyhow::Result<()>
     requires { H.ready http.old }
     ensures { H.ready http.new }
 {
-    let Some(mut visit) = session.end() else {
+    look(sessions, session, now);
+    let Some(mut visit) = end(sessions, session) else {
         println!(rt; "nobody is signed in")?;
         return Ok(());
     };
@@ -177,11 +183,36 @@ fn return_to(
     behind(rt, alloc, session, queries.signed_out.as_str())
 }
 
+// What it makes of a post to its page for logout tokens.
+fn posted(alloc: Global, reply: &Result<usize, PostError>) -> anyhow::Result<String> {
+    match reply {
+        Ok(count) => Ok(format!(in alloc; "sessions ended by the provider: {count}")?),
+        Err(_) => text(alloc, "no logout token that is accepted"),
+    }
+}
+
+/// Takes what was posted to the page for logout tokens, and says what came of it.
+pub(crate) fn answer_post(
+    rt: &impl Print,
+    alloc: Global,
+    sessions: &mut SiteSessions<'_>,
+    body: &str,
+    now: Timestamp,
+) -> anyhow::Result<()> {
+    let reply = take_post(alloc, sessions, body.as_bytes(), now);
+    let line = posted(alloc, &reply);
+    drop(reply);
+    let line = line?;
+    println!(rt; "{line}")?;
+    Ok(())
+}
+
 /// What the two browsers do once their users are signed in.
 pub(crate) fn visits<H: SyncHttpClient<Error: Drop>, R: Rng>(
     rt: &impl Print,
     alloc: Global,
     site: &Site,
+    sessions: &mut SiteSessions<'_>,
     rng: &mut R,
     queries: &Queries,
     browsers: &mut Browsers,
@@ -189,11 +220,13 @@ pub(crate) fn visits<H: SyncHttpClient<Error: Drop>, R: Rng>(
     now: Timestamp,
 ) -> anyhow::Result<()>
     requires { H.ready http.old }
+    ensures { H.ready http.new }
 {
-    refresh_once(rt, alloc, &site.client, &mut browsers.first, http, now)?;
-    refresh_once(rt, alloc, &site.client, &mut browsers.first, http, now)?;
-    leave(rt, alloc, site, rng, &mut browsers.first, http)?;
-    return_to(rt, alloc, &mut browsers.first, queries)?;
-    refresh_once(rt, alloc, &site.client, &mut browsers.second, http, now)?;
-    leave(rt, alloc, site, rng, &mut browsers.second, http)
+    let (client, first, second) = (&site.client, &mut browsers.first, &mut browsers.second);
+    refresh_once(rt, alloc, client, sessions, first, http, now)?;
+    refresh_once(rt, alloc, client, sessions, first, http, now)?;
+    leave(rt, alloc, site, sessions, rng, first, http, now)?;
+    return_to(rt, alloc, first, queries)?;
+    refresh_once(rt, alloc, client, sessions, second, http, now)?;
+    leave(rt, alloc, site, sessions, rng, second, http, now)
 }

@@ -1,10 +1,12 @@
-//! What errors of logins print.
+//! What errors of logins and of sessions print.
 
 use case_lines::{Case, CaseError, one_of};
 use oidc_cli::Failed;
+use oidc_keys::SignatureVerificationError;
 use oidc_login::{BeginError, FrontError, LoginError, NewLoginsError, TooLong};
 use oidc_members::{FieldName, ParseKind, Refusal};
 use oidc_oauth2::{Fault, RequestTokenError};
+use oidc_session::{LogoutError, OpenError};
 use oidc_tokens::ClaimsVerificationError;
 use oidc_types::{CoreAuthErrorResponseType, SigningError};
 use oidc_user_info::UserInfoError;
@@ -28,6 +30,8 @@ const BEGINS: [BeginError; 7] = [
     BeginError::Memory,
 ];
 
+const OPENS: [OpenError; 3] = [OpenError::Ended, OpenError::Taken, OpenError::Memory];
+
 const CALLS: [Failed; 1] = [Failed];
 
 /// `display`: what the value of a variant prints. A variant that holds something holds what stands in
@@ -40,7 +44,9 @@ pub(crate) fn display(alloc: Global, case: &Case) -> Result<String, CaseError> {
         "Failed" => one_of(alloc, &CALLS, variant),
         "FrontError" => front_error(alloc, variant),
         "LoginError" => login_error(alloc, variant),
+        "LogoutError" => logout_error(alloc, variant),
         "NewLoginsError" => one_of(alloc, &STORES, variant),
+        "OpenError" => one_of(alloc, &OPENS, variant),
         "TooLong" => one_of(alloc, &PLACES, variant),
         _ => Err(CaseError::NoCase),
     }
@@ -77,6 +83,24 @@ fn front_error(alloc: Global, variant: &str) -> Result<String, CaseError> {
         FrontError::TokenHash,
         FrontError::CodeHash,
         FrontError::Memory,
+    ];
+    one_of(alloc, &all, variant)
+}
+
+fn logout_error(alloc: Global, variant: &str) -> Result<String, CaseError> {
+    let all = [
+        LogoutError::Parse(Refusal::of_text(alloc, ParseKind::Token)),
+        LogoutError::Unsupported,
+        LogoutError::InvalidIssuer,
+        LogoutError::InvalidAudience,
+        LogoutError::WrongAlgorithm,
+        LogoutError::Signature(SignatureVerificationError::InvalidKey),
+        LogoutError::Expired,
+        LogoutError::Events,
+        LogoutError::NoName,
+        LogoutError::Nonce,
+        LogoutError::Replayed,
+        LogoutError::Memory,
     ];
     one_of(alloc, &all, variant)
 }

@@ -7,6 +7,8 @@ mod displays;
 mod front;
 mod operations;
 mod scripts;
+mod sessions;
+mod users;
 
 use crate::operations::Operation;
 use case_lines::{answer_lines, exit_code};

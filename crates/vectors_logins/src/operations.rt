@@ -3,7 +3,7 @@
 ghost use Rattle.std.specs.Prelude.{◌≡◌};
 ghost use Rattle.vectors_logins.specs.Operations as spec;
 
-use crate::{displays, front, scripts};
+use crate::{displays, front, scripts, sessions};
 use case_lines::{Case, CaseError, CaseOperation};
 use std::alloc::Global;
 
@@ -12,12 +12,18 @@ use std::alloc::Global;
 pub(crate) enum Operation {
     Run,
     Front,
+    Sessions,
     Display,
 }
 
 impl Operation {
     /// Every operation.
-    const ALL: [Operation; 3] = [Operation::Run, Operation::Front, Operation::Display];
+    const ALL: [Operation; 4] = [
+        Operation::Run,
+        Operation::Front,
+        Operation::Sessions,
+        Operation::Display,
+    ];
 
     // Its name, the value of `op`.
     fn name(self) -> &'static str
@@ -26,6 +32,7 @@ impl Operation {
         match self {
             Operation::Run => "run",
             Operation::Front => "front",
+            Operation::Sessions => "sessions",
             Operation::Display => "display",
         }
     }
@@ -52,6 +59,7 @@ impl CaseOperation for Operation {
         match self {
             Operation::Run => scripts::run(alloc, case),
             Operation::Front => front::front(alloc, case),
+            Operation::Sessions => sessions::sessions(alloc, case),
             Operation::Display => displays::display(alloc, case),
         }
     }

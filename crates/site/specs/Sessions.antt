@@ -1,0 +1,44 @@
+-- The provider's session behind a sign-in, by which its logout tokens name it (the claim `sid`), and what such a token
+-- leaves once it is posted to the site (OpenID Connect Back-Channel Logout 1.0 sections 2.1, 2.5 and 2.7).
+use Rattle.std.specs.Prelude.{ℕ, ℤ, List, Option, codes}
+use Rattle.std.specs.List.{find}
+use Rattle.std.specs.Option.{option_and_then}
+use Rattle.std.specs.Str.{bytes_eq}
+use Rattle.serde_json.specs.Find.{as_str}
+use Rattle.oidc_members.specs.Seen.{OutSeen}
+use Rattle.oidc_types.specs.declared.core_algorithms.CoreJwsSigningAlgorithm.{CoreJwsSigningAlgorithm}
+use Rattle.oidc_claims.specs.Others.{list_of}
+use Rattle.oidc_keys.specs.CoreJwk.{SymmetricKey}
+use Rattle.oidc.specs.Pairs.{values, only_of}
+use Rattle.oidc.specs.Token.{subject_of}
+use Rattle.oidc.specs.Sessions.{Kept, Opening, opening}
+use Rattle.oidc.specs.LogoutTokens.{SeenSessions, logout_keys, accepted_logout}
+use Rattle.oidc.specs.SessionEvents.{left_by}
+use Rattle.site.specs.Types.{types, SeenUser}
+
+abbrev pub SeenSiteSessions : Type 0
+SeenSiteSessions = SeenSessions SymmetricKey CoreJwsSigningAlgorithm
+
+-- the text of the first claim `sid`, where it is one
+abbrev pub sid_in : List OutSeen → Option (List ℕ)
+sid_in claims =
+    option_and_then (λ claim. as_str claim.value) (find (λ claim. bytes_eq claim.name (codes "sid")) claims)
+
+-- the provider's session behind a sign-in, where the ID token names it
+abbrev pub sid_of : SeenUser → Option (List ℕ)
+sid_of user = sid_in (list_of user.id_token.payload.additional_claims)
+
+-- the session of a user, under this id, until a moment, opened at another
+abbrev pub opening_of : List ℕ → SeenUser → ℤ → ℤ → Opening
+opening_of id user end now = opening id (subject_of user.id_token) (sid_of user) end now
+
+-- the one logout token of what is posted
+abbrev pub posted_token : List ℕ → Option (List ℕ)
+posted_token body = only_of (values body (codes "logout_token"))
+
+-- What is kept after a logout token: where it is accepted, the sessions that it names are gone, and its id stands among
+-- those that were accepted.
+abbrev pub kept_after : SeenSiteSessions → ℤ → List ℕ → Kept
+kept_after sessions now token =
+    let keys = logout_keys types.keys.algorithm_words types.keys.keys.verdict in
+    left_by sessions.kept (accepted_logout keys sessions.verifier sessions.kept.token_ids now token)
