@@ -43,7 +43,7 @@ pub use oidc_types::{
 
 // Why a text doesn't read, and the members of an object.
 pub use oidc_members::{
-    FieldName, Member, Members, OutMember, ParseError, ParseKind, Reading, Refusal,
+    FieldName, Member, MemberName, Members, OutMember, ParseError, ParseKind, Reading, Refusal,
 };
 
 // Claims.

@@ -2,6 +2,7 @@ mod Apart
 mod Bases
 mod Homes
 mod Kept
+mod Lengths
 mod LocalizedNames
 mod MayStand
 mod Moves

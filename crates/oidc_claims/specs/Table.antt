@@ -1,6 +1,6 @@
 -- The table of the standard claims (OpenID Connect Core 1.0 section 5.1), and how a member's name
 -- is cut into a claim's name and a language tag (section 5.2).
-use Rattle.std.specs.Prelude.{ℕ, ◌==◌, List, [], ◌∷◌, Bool, codes, Option, Some, None}
+use Rattle.std.specs.Prelude.{ℕ, ◌==◌, List, [], ◌∷◌, Bool, codes, filter, length, Option, Some, None}
 use Rattle.std.specs.List.{find, before_first, after_first}
 use Rattle.std.specs.Str.{bytes_eq}
 use Rattle.oidc_claims.specs.declared.claim.Claim.{Claim}
@@ -62,6 +62,10 @@ all_claims =
 -- the claim of that name
 abbrev pub claim_of : List ℕ → Option Claim
 claim_of base = find (λ claim. bytes_eq (name_of claim) base) all_claims
+
+-- the claims whose names have so many bytes, in that order
+abbrev pub claims_of_length : ℕ → List Claim
+claims_of_length size = filter (λ claim. length (name_of claim) == size) all_claims
 
 -- ---- names
 

@@ -8,7 +8,7 @@ ghost use Rattle.oidc_claims.specs.Others.{list_of};
 
 use crate::additional::AdditionalClaims;
 use crate::same::is_same_list;
-use oidc_members::{Member, OutMember, ParseError};
+use oidc_members::{Member, MemberName, OutMember, ParseError};
 use oidc_readers::put;
 use std::alloc::{AllocError, Global};
 use std::marker::Model;
@@ -43,13 +43,24 @@ impl AllOtherClaims {
     }
 }
 
+// The name that is this text.
+fn name_of(alloc: Global, text: &str) -> Result<MemberName, AllocError>
+    ensures { IfOk result (λ name. name ≡ text.now) }
+{
+    Ok(MemberName::new(String::from_str(alloc, text)?))
+}
+
 // The names and values of members.
 fn outs_of(alloc: Global, members: &[Member]) -> Result<Vec<OutMember>, AllocError>
     ensures { IfOk result (λ outs. outs.items ≡ map out_of members.now) }
 {
-    let mut outs = Vec::new(alloc);
+    let mut outs = Vec::with_capacity(alloc, members.len())?;
     for member in members {
-        put(alloc, &mut outs, member.name(), member.value().clone()?)?;
+        put(
+            &mut outs,
+            name_of(alloc, member.name())?,
+            member.value().clone()?,
+        )?;
     }
     Ok(outs)
 }
@@ -63,14 +74,18 @@ fn push_copy(
     ensures members { OnOk result (copies.new.items ≡ copies.old.items ++ member.now ∷ []) }
     ensures texts { OnOk result (KeepsUtf8 copies.old.items copies.new.items) }
 {
-    put(alloc, copies, member.name.as_str(), member.value.clone()?)
+    put(
+        copies,
+        name_of(alloc, member.name.as_str())?,
+        member.value.clone()?,
+    )
 }
 
 fn copies_of(alloc: Global, members: &[OutMember]) -> Result<Vec<OutMember>, AllocError>
     ensures copies { IfOk result (λ copies. copies.items ≡ members.now) }
     ensures texts { IfOk result (λ copies. All IsUtf8Member copies.items) }
 {
-    let mut copies = Vec::new(alloc);
+    let mut copies = Vec::with_capacity(alloc, members.len())?;
     for member in members {
         push_copy(alloc, &mut copies, member)?;
     }

@@ -1,9 +1,12 @@
 // The table of the standard claims.
 ghost use Rattle.std.specs.Prelude.{◌≡◌};
-ghost use Rattle.oidc_claims.specs.Table.{name_of, kind_of, claim_of, base_of};
+ghost use Rattle.std.specs.List.{find};
+ghost use Rattle.std.specs.Str.{bytes_eq};
+ghost use Rattle.oidc_claims.specs.Table.{name_of, kind_of, claim_of, base_of, claims_of_length};
 
 use crate::name::base_of_name;
-use oidc_members::Member;
+use oidc_members::{Member, MemberName};
+use oidc_readers::named;
 
 /// A standard claim (OpenID Connect Core 1.0 section 5.1).
 #[derive(Clone, Copy, Debug, Drop, PartialEq, Eq)]
@@ -126,6 +129,13 @@ impl Claim {
         }
     }
 
+    // The name of the member that it is written as.
+    pub(crate) fn member_name(self) -> MemberName
+        ensures { result ≡ name_of self }
+    {
+        named(self.name())
+    }
+
     /// What its value is.
     pub fn kind(self) -> ClaimKind
         ensures { result ≡ kind_of self }
@@ -148,14 +158,46 @@ impl Claim {
         }
     }
 
-    /// The claim that a base names, if it names one.
+    // The claims whose names have so many bytes.
+    fn of_length(size: usize) -> &'static [Claim]
+        ensures { result.now ≡ claims_of_length size }
+    {
+        match size {
+            3 => &[Claim::Subject],
+            4 => &[Claim::Name],
+            5 => &[Claim::Email],
+            6 => &[Claim::Gender, Claim::Locale],
+            7 => &[
+                Claim::Profile,
+                Claim::Picture,
+                Claim::Website,
+                Claim::Address,
+            ],
+            8 => &[Claim::Nickname, Claim::Birthday, Claim::Zoneinfo],
+            9 => &[Claim::Birthdate],
+            10 => &[Claim::GivenName, Claim::UpdatedAt],
+            11 => &[Claim::FamilyName, Claim::MiddleName],
+            12 => &[Claim::PhoneNumber],
+            14 => &[Claim::EmailVerified],
+            18 => &[Claim::PreferredUsername],
+            21 => &[Claim::PhoneNumberVerified],
+            _ => &[],
+        }
+    }
+
+    // The first of these claims that a base names.
+    fn named(base: &str, claims: &[Claim]) -> Option<Claim>
+        ensures { result ≡ find (λ claim. bytes_eq (name_of claim) base.now) claims.now }
+    {
+        claims.iter().copied().find(|claim| claim.name() == base)
+    }
+
+    /// The claim that a base names, if it names one. It is asked for each member of claims, so that
+    /// only names of the base's length are compared.
     pub fn of_base(base: &str) -> Option<Claim>
         ensures { result ≡ claim_of base.now }
     {
-        Claim::ALL
-            .iter()
-            .copied()
-            .find(|claim| claim.name() == base)
+        Claim::named(base, Claim::of_length(base.len()))
     }
 
     /// The claim that a member's name is of: that of its base, whatever its tag.

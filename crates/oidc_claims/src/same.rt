@@ -1,5 +1,6 @@
 // When two JSON values are the same. `==` of `serde_json` states nothing, so the walk is our own.
-ghost use Rattle.std.specs.Prelude.{◌≡◌};
+ghost use Rattle.std.specs.Prelude.{◌≡◌, ◌&&◌};
+ghost use Rattle.std.specs.Str.{bytes_eq};
 ghost use Rattle.serde_json.specs.View.{view, items_view, members_view, number_view};
 ghost use Rattle.oidc_claims.specs.Same.{same_number, same_data, same_items, same_members, same_list};
 
@@ -70,6 +71,13 @@ fn is_same_object(a: &Map<String, Value>, b: &Map<String, Value>) -> bool
     others.next().is_none()
 }
 
+// Whether two members have the same name and value.
+fn is_same_member(a: &OutMember, b: &OutMember) -> bool
+    ensures { result ≡ (bytes_eq a.now.name b.now.name && same_data a.now.value b.now.value) }
+{
+    a.name.as_str() == b.name.as_str() && is_same_value(&a.value, &b.value)
+}
+
 /// Whether two lists have the same names and values, one by one.
 pub(crate) fn is_same_list(a: &[OutMember], b: &[OutMember]) -> bool
     ensures { result ≡ same_list a.now b.now }
@@ -79,7 +87,7 @@ pub(crate) fn is_same_list(a: &[OutMember], b: &[OutMember]) -> bool
         match others.next() {
             None => return false,
             Some(other) => {
-                if member.name != other.name || !is_same_value(&member.value, &other.value) {
+                if !is_same_member(member, other) {
                     return false;
                 }
             }

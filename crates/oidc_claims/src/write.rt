@@ -19,11 +19,14 @@ use crate::claim::Claim;
 use crate::claims::{AddressClaim, StandardClaims};
 use crate::gender::GenderClaim;
 use jiff::Timestamp;
-use oidc_members::OutMember;
+use oidc_members::{MemberName, OutMember};
 use oidc_readers::{put, put_text, seconds_value};
 use oidc_types::{LanguageTag, LocalizedClaim, Marker, Text};
 use serde_json::{Map, Value};
 use std::alloc::{AllocError, Global};
+
+// How many members there is room for at once. Most sets of claims have fewer.
+const ROOM: usize = 12;
 
 /// The standard claims as members: in the order of the getters of [`StandardClaims`], which is that of
 /// the table in OpenID Connect Core 1.0 section 5.1, absent claims left out. The variants of a claim
@@ -44,7 +47,7 @@ pub fn write_standard<GC: GenderClaim>(
     ensures reads_back { IsInRange claims.now
         → IfOk result (λ out. GivesClaims GC.read_of out.items claims.now) }
 {
-    let mut out = Vec::new(alloc);
+    let mut out = Vec::with_capacity(alloc, ROOM)?;
     for claim in Claim::ALL {
         write_claim(alloc, &mut out, claim, claims)?;
     }
@@ -63,7 +66,7 @@ fn write_claim<GC: GenderClaim>(
     ensures texts { OnOk result (KeepsUtf8 out.old.items out.new.items) }
 {
     match claim {
-        Claim::Subject => put_text(alloc, out, claim.name(), claims.subject.as_str()),
+        Claim::Subject => put_text(alloc, out, claim.member_name(), claims.subject.as_str()),
         Claim::Name => write_variants(alloc, out, claim, &claims.name),
         Claim::GivenName => write_variants(alloc, out, claim, &claims.given_name),
         Claim::FamilyName => write_variants(alloc, out, claim, &claims.family_name),
@@ -74,16 +77,16 @@ fn write_claim<GC: GenderClaim>(
         Claim::Picture => write_variants(alloc, out, claim, &claims.picture),
         Claim::Website => write_variants(alloc, out, claim, &claims.website),
         Claim::Email => write_text(alloc, out, claim, &claims.email),
-        Claim::EmailVerified => write_flag(alloc, out, claim, claims.email_verified),
+        Claim::EmailVerified => write_flag(out, claim, claims.email_verified),
         Claim::Gender => write_gender(alloc, out, claim, &claims.gender),
         Claim::Birthday => write_text(alloc, out, claim, &claims.birthday),
         Claim::Birthdate => write_text(alloc, out, claim, &claims.birthdate),
         Claim::Zoneinfo => write_text(alloc, out, claim, &claims.zoneinfo),
         Claim::Locale => write_text(alloc, out, claim, &claims.locale),
         Claim::PhoneNumber => write_text(alloc, out, claim, &claims.phone_number),
-        Claim::PhoneNumberVerified => write_flag(alloc, out, claim, claims.phone_number_verified),
+        Claim::PhoneNumberVerified => write_flag(out, claim, claims.phone_number_verified),
         Claim::Address => write_address(alloc, out, claim, &claims.address),
-        Claim::UpdatedAt => write_moment(alloc, out, claim, claims.updated_at),
+        Claim::UpdatedAt => write_moment(out, claim, claims.updated_at),
     }
 }
 
@@ -101,7 +104,7 @@ fn write_text<M: Marker>(
 {
     match text {
         None => Ok(()),
-        Some(text) => put_text(alloc, out, claim.name(), text.as_str()),
+        Some(text) => put_text(alloc, out, claim.member_name(), text.as_str()),
     }
 }
 
@@ -138,27 +141,22 @@ fn write_variant<M: Marker>(
     ensures texts { OnOk result (KeepsUtf8 out.old.items out.new.items) }
 {
     match tag {
-        None => put_text(alloc, out, claim.name(), text.as_str()),
+        None => put_text(alloc, out, claim.member_name(), text.as_str()),
         Some(tag) => {
             let name = tagged_name(alloc, claim, tag)?;
-            put_text(alloc, out, name.as_str(), text.as_str())
+            put_text(alloc, out, MemberName::new(name), text.as_str())
         }
     }
 }
 
-fn write_flag(
-    alloc: Global,
-    out: &mut Vec<OutMember>,
-    claim: Claim,
-    flag: Option<bool>,
-) -> Result<(), AllocError>
+fn write_flag(out: &mut Vec<OutMember>, claim: Claim, flag: Option<bool>) -> Result<(), AllocError>
     ensures members { OnOk result (out.new.items
         ≡ out.old.items ++ plain_member claim (option_map boolean flag)) }
     ensures texts { OnOk result (KeepsUtf8 out.old.items out.new.items) }
 {
     match flag {
         None => Ok(()),
-        Some(flag) => put(alloc, out, claim.name(), Value::Bool(flag)),
+        Some(flag) => put(out, claim.member_name(), Value::Bool(flag)),
     }
 }
 
@@ -174,7 +172,7 @@ fn write_gender<GC: GenderClaim>(
 {
     match gender {
         None => Ok(()),
-        Some(gender) => put(alloc, out, claim.name(), gender.write(alloc)?),
+        Some(gender) => put(out, claim.member_name(), gender.write(alloc)?),
     }
 }
 
@@ -190,12 +188,11 @@ fn write_address(
 {
     match address {
         None => Ok(()),
-        Some(address) => put(alloc, out, claim.name(), address_value(alloc, address)?),
+        Some(address) => put(out, claim.member_name(), address_value(alloc, address)?),
     }
 }
 
 fn write_moment(
-    alloc: Global,
     out: &mut Vec<OutMember>,
     claim: Claim,
     moment: Option<Timestamp>,
@@ -207,7 +204,7 @@ fn write_moment(
 {
     match moment {
         None => Ok(()),
-        Some(moment) => put(alloc, out, claim.name(), seconds_value(moment)),
+        Some(moment) => put(out, claim.member_name(), seconds_value(moment)),
     }
 }
 

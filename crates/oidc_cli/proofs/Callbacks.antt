@@ -2,13 +2,14 @@
 use Rattle.std.proofs.Common.{◌≡◌, ℕ, suc, take, None, Some, subst, ◌+◌, ◌<◌, List, [], ◌++◌, drop, length, get_or, Result, Ok, Err, IfOk, OnOk, IfErr, Bool, true, false, refl, sym, ap, ◌∙◌, add-one, drop-cons}
 use Rattle.std.proofs.Math.Seq.{take-length}
 use Rattle.oidc_oauth2.specs.Messages.{SeenRequest, SeenAnswer}
-use Rattle.oidc_oauth2.specs.Transport.{Log, log_after, Plays}
+use Rattle.oidc_oauth2.specs.Transport.{Log, log_after, Plays, in_order}
 use Rattle.oidc_keys.specs.CoreJwk.{SymmetricKey}
 use Rattle.oidc_oauth2.specs.Replies.{Unless, OrMemory}
 use Rattle.oidc_login.specs.Errors.{Error, login_errors, seen_reply, wants_memory}
 use Rattle.oidc_oauth2.specs.Exchanges.{Known, Run}
 use Rattle.oidc_login.specs.Callback.{Attempt, outcome}
 use Rattle.oidc_login.specs.Runs.{Ran, handed_over}
+use Rattle.oidc_oauth2.proofs.Theorems.{played_next}
 use Rattle.oidc_login.proofs.Theorems.{outcome-of_script}
 use Rattle.oidc_login.specs.declared.errors.LoginError.{LoginError}
 use Rattle.oidc_login.specs.declared.errors.LoginError.TheVariants as login
@@ -57,15 +58,20 @@ on_replied (Ok x) F memory f = f memory
 on_replied (Err e) F memory f = tt
 
 module _ {E : Type 0} (a : Attempt SymmetricKey) (old new : Known) (result : Result SeenSignedIn (LoginError E)) (ran : Ran types a old new result) (script : List SeenAnswer) where
-  same : old.script ≡ Some script → length ran.exchanged.answers ≡ length (outcome types a ran.exchanged.answers).sent → outcome types a ran.exchanged.answers ≡ outcome types a script
-  same is all = outcome-of_script types a ran.exchanged.answers script (subst (λ s. Plays s ran.exchanged.answers new.script) is ran.exchanged.plays).0 all
+  same : old.script ≡ Some (in_order script) → length ran.exchanged.answers ≡ length (outcome types a ran.exchanged.answers).sent → outcome types a ran.exchanged.answers ≡ outcome types a script
+  same is all =
+      let x = ran.exchanged in
+      let sent = (outcome types a x.answers).sent in
+      let plays = subst (λ s. Plays s (take (length x.answers) sent) x.answers new.script) is x.plays in
+      outcome-of_script types a x.answers script
+      (played_next script (take (length x.answers) sent) x.answers new.script plays (ap (λ n. length (take n sent)) all ∙ ap length (take-length sent) ∙ sym all)) all
 
   -- the reply and the requests are those that the script gives
-  pub recorded_reply : old.script ≡ Some script → length ran.exchanged.answers ≡ length (outcome types a ran.exchanged.answers).sent
+  pub recorded_reply : old.script ≡ Some (in_order script) → length ran.exchanged.answers ≡ length (outcome types a ran.exchanged.answers).sent
       → (outcome types a ran.exchanged.answers).reply ≡ seen_reply result → seen_reply result ≡ (outcome types a script).reply
   recorded_reply is all reply = sym reply ∙ ap (λ (r : Run SeenSignedIn Error). r.reply) (same is all)
 
-  pub recorded_sent : (log : Log) → old.script ≡ Some script → old.log ≡ Some (record { requests = []; answers = [] }) → new.log ≡ Some log
+  pub recorded_sent : (log : Log) → old.script ≡ Some (in_order script) → old.log ≡ Some (record { requests = []; answers = [] }) → new.log ≡ Some log
       → length ran.exchanged.answers ≡ length (outcome types a ran.exchanged.answers).sent → log.requests ≡ (outcome types a script).sent
   recorded_sent log is none logged all =
       let same_log : Some log ≡ log_after (Some (record { requests = []; answers = [] })) (handed_over types a ran.exchanged.answers) ran.exchanged.answers =

@@ -6,7 +6,7 @@ use Rattle.std.specs.FinMap as finite
 use Rattle.serde_json.specs.Data.{string}
 use Rattle.url.specs.declared.host.Host.TheVariants.{Domain}
 use Rattle.oidc_members.specs.Write.{object_text}
-use Rattle.oidc_members.specs.declared.reading.TheConstants.Reading.{STRICT}
+use Rattle.oidc_members.specs.Seen.{strict}
 use Rattle.oidc_types.specs.{TextAndUrl, signing_text}
 use Rattle.oidc_types.specs.declared.core_algorithms.CoreJwsSigningAlgorithm.TheVariants.{HmacSha256}
 use Rattle.oidc_types.specs.declared.signing_error.SigningError.{SigningError}
@@ -71,7 +71,7 @@ client_line = record {
   };
   redirect = None;
   algorithms = HmacSha256 ∷ [];
-  reading = STRICT;
+  reading = strict;
 }
 
 abbrev pub drill_client : SeenScriptClient

@@ -6,7 +6,7 @@ use Rattle.std.specs.Str.Parse.{digits_value}
 use Rattle.url.specs.Parser.{parse_url}
 use Rattle.http_header.specs.Token.{is_visible_or_blank}
 use Rattle.oidc_members.specs.declared.reading.Reading.{Reading}
-use Rattle.oidc_members.specs.declared.reading.TheConstants.Reading.{STRICT}
+use Rattle.oidc_members.specs.Seen.{strict}
 use Rattle.oidc_types.specs.declared.core_algorithms.CoreJwsSigningAlgorithm.{CoreJwsSigningAlgorithm}
 use Rattle.oidc_types.specs.{TextAndUrl, find_word, signing_text, signing_algorithms}
 use Rattle.oidc_readers.specs.Moments.{moment_at}
@@ -70,7 +70,7 @@ reading_of text =
 -- the reading of a line that names one, and else the strict one
 abbrev pub reading_on : List (List ℕ × List ℕ) → Option Reading
 reading_on line =
-    if lacks line (codes "reading") then Some STRICT else pair_value reading_of line (codes "reading")
+    if lacks line (codes "reading") then Some strict else pair_value reading_of line (codes "reading")
 
 -- ---- demands
 

@@ -1,4 +1,4 @@
--- A challenge stands in an authorization URL; state, nonce and redirect stand in it once each.
+-- A challenge stands in an authorization URL; client ID, state, nonce and redirect stand in it once each.
 use Rattle.std.proofs.Common.{◌≡◌, ℕ, List, [], ◌∷◌, ◌++◌, All, Option, Some, refl, ap, ◌∙◌, append-nil, lit<}
 use Rattle.std.specs.Prelude.{codes, unwrap_or, option_map}
 use Rattle.oidc_pairs.specs.Pairs.{pairs, values, values_in, IsTextPair}
@@ -8,7 +8,10 @@ use Rattle.oidc_user_info.specs.QueryPairs.{given_pairs, joined, spaced}
 use Rattle.oidc_client.specs.Authorization.{SeenAuthorization, text_if, managed_names, given_before_extra, given_after_extra, pairs_before_extra, pairs_after_extra, auth_list, auth_url, query_values, at_most_one, HasPair, HasChallenge, IsUnmanagedBeside, StandOnce}
 use Rattle.oidc_client.proofs.QueryValues.{pairs_joined, values_in_append, pass_by, one_here, none_among}
 
--- what holds of each managed name holds of these three
+-- what holds of each managed name holds of these four
+second : (P : List ℕ → Type 0) → All P managed_names → P (codes "client_id")
+second P all = all 1 [] (lit< tt)
+
 third : (P : List ℕ → Type 0) → All P managed_names → P (codes "state")
 third P all = all 2 [] (lit< tt)
 
@@ -62,7 +65,7 @@ module _ {Display Prompt ResponseType : Type 0} (display_text : Display → List
       ∙ ap (λ middle. (values_in before name ++ middle) ++ values_in after name) in_extra
       ∙ ap (λ front. front ++ values_in after name) (append-nil (values_in before name))
 
-  -- ---- the three names
+  -- ---- the four names
 
   abbrev redirect : Option (List ℕ)
   redirect = option_map (λ u. u.text) r.redirect_uri
@@ -72,6 +75,10 @@ module _ {Display Prompt ResponseType : Type 0} (display_text : Display → List
 
   abbrev given_after : List (List ℕ × Option (List ℕ))
   given_after = given_after_extra display_text prompt_text type_text r
+
+  id_before : values_in before (codes "client_id") ≡ r.client_id ∷ []
+  id_before =
+      ap (λ later. r.client_id ∷ later) (none_among (codes "client_id") given_before (refl, (refl, (refl, (refl, tt)))))
 
   state_before : values_in before (codes "state") ≡ r.state ∷ []
   state_before =
@@ -89,6 +96,10 @@ module _ {Display Prompt ResponseType : Type 0} (display_text : Display → List
       pass_by name (codes "code_challenge") r.challenge (pair_if (codes "code_challenge_method") method ++ from_redirect) refl
       ∙ pass_by name (codes "code_challenge_method") method from_redirect refl
       ∙ one_here name name redirect (given_pairs scope) refl (none_among name scope (refl, tt))
+
+  id_after : values_in after (codes "client_id") ≡ []
+  id_after =
+      none_among (codes "client_id") given_after (refl, (refl, (refl, (refl, (refl, (refl, (refl, (refl, tt))))))))
 
   state_after : values_in after (codes "state") ≡ []
   state_after =
@@ -152,6 +163,8 @@ module _ {Display Prompt ResponseType : Type 0} (display_text : Display → List
 
     pub stand_once : StandOnce r (auth_url display_text prompt_text type_text r)
     stand_once = record {
+      client_id = one_of (codes "client_id") (r.client_id ∷ []) (second InQuery unmanaged.query) (second InExtra unmanaged.extra)
+          (ap (λ front. front ++ values_in after (codes "client_id")) id_before ∙ ap (λ later. r.client_id ∷ later) id_after);
       state = one_of (codes "state") (r.state ∷ []) (third InQuery unmanaged.query) (third InExtra unmanaged.extra) (ap (λ front. front ++ values_in after (codes "state")) state_before ∙ ap (λ later. r.state ∷ later) state_after);
       nonce = one_of (codes "nonce") (r.nonce ∷ []) (eighth InQuery unmanaged.query) (eighth InExtra unmanaged.extra) (ap (λ front. front ++ values_in after (codes "nonce")) nonce_before ∙ nonce_after);
       redirect_uri = one_of (codes "redirect_uri") (at_most_one redirect) (sixth InQuery unmanaged.query) (sixth InExtra unmanaged.extra)

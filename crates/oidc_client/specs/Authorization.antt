@@ -128,7 +128,7 @@ module _ {Display Prompt ResponseType : Type 0} (display_text : Display → List
   abbrev pub auth_url : SeenAuthorization Display Prompt ResponseType → Parts
   auth_url r = extended r.endpoint.url (auth_list r)
 
--- ---- challenge, state, nonce and redirect in the URL
+-- ---- client, challenge, state, nonce and redirect in the URL
 
 -- the names that a request itself gives to pairs
 abbrev pub managed_names : List (List ℕ)
@@ -163,8 +163,9 @@ module _ {Display Prompt ResponseType : Type 0} where
     pub query : All (λ name. query_values r.endpoint.url name ≡ []) managed_names
     pub extra : All (λ name. values_in r.extra name ≡ []) managed_names
 
-  -- State, nonce and any redirect stand in the URL once each, and are the request's.
+  -- Client ID, state, nonce and any redirect stand in the URL once each, and are the request's.
   pub record StandOnce (r : SeenAuthorization Display Prompt ResponseType) (url : Parts) : Type 0 where
+    pub client_id : query_values url (codes "client_id") ≡ r.client_id ∷ []
     pub state : query_values url (codes "state") ≡ r.state ∷ []
     pub nonce : query_values url (codes "nonce") ≡ r.nonce ∷ []
     pub redirect_uri : query_values url (codes "redirect_uri") ≡ at_most_one (option_map (λ u. u.text) r.redirect_uri)

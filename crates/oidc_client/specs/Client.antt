@@ -3,7 +3,7 @@
 use Rattle.std.specs.Prelude.{◌≡◌, ℕ, List, [], ◌∷◌, Bool, true, false, Option, None, Some, option_map, if◌then◌else◌, codes}
 use Rattle.url.specs.Parts.{serialize}
 use Rattle.oidc_members.specs.declared.reading.Reading.{Reading}
-use Rattle.oidc_members.specs.declared.reading.TheConstants.Reading.{STRICT}
+use Rattle.oidc_members.specs.Seen.{strict}
 use Rattle.oidc_types.specs.{TextAndUrl}
 use Rattle.oidc_types.specs.declared.endpoint.Presence.{Presence}
 use Rattle.oidc_types.specs.declared.endpoint.Presence.TheVariants.{Set, NotSet, MaybeSet}
@@ -54,7 +54,7 @@ new_client client_id issuer keys = record {
   auth_type = BasicAuth;
   redirect_uri = None;
   openid_scope = true;
-  reading = STRICT;
+  reading = strict;
   code_hash_required = false;
   issuer = issuer;
   keys = keys;

@@ -8,7 +8,7 @@ ghost use Rattle.oidc_id_token_claims.specs.TokenFields.{own_members as members_
 
 use crate::token_fields::OwnClaims;
 use oidc_members::OutMember;
-use oidc_readers::{put_optional_moment, put_optional_text, put_text, put_texts};
+use oidc_readers::{named, put_optional_moment, put_optional_text, put_text, put_texts};
 use oidc_types::{Marker, Nonce, Text};
 use std::alloc::{AllocError, Global};
 
@@ -21,17 +21,42 @@ pub(crate) fn own_members(alloc: Global, own: &OwnClaims) -> Result<Vec<OutMembe
     ensures texts { IfOk result (λ members. All IsUtf8Member members.items) }
 {
     let mut out = Vec::with_capacity(alloc, ROOM)?;
-    put_text(alloc, &mut out, "iss", own.issuer.as_str())?;
-    put_texts(alloc, &mut out, "aud", Some(own.audiences.as_slice()))?;
-    put_optional_moment(alloc, &mut out, "exp", Some(own.expiration))?;
-    put_optional_moment(alloc, &mut out, "iat", Some(own.issue_time))?;
-    put_optional_moment(alloc, &mut out, "auth_time", own.auth_time)?;
-    put_optional_text(alloc, &mut out, "nonce", text_of_nonce(&own.nonce))?;
-    put_optional_text(alloc, &mut out, "acr", text_of(&own.auth_context_ref))?;
-    put_texts(alloc, &mut out, "amr", slice_of(&own.auth_method_refs))?;
-    put_optional_text(alloc, &mut out, "azp", text_of(&own.authorized_party))?;
-    put_optional_text(alloc, &mut out, "at_hash", text_of(&own.access_token_hash))?;
-    put_optional_text(alloc, &mut out, "c_hash", text_of(&own.code_hash))?;
+    put_text(alloc, &mut out, named("iss"), own.issuer.as_str())?;
+    put_texts(
+        alloc,
+        &mut out,
+        named("aud"),
+        Some(own.audiences.as_slice()),
+    )?;
+    put_optional_moment(alloc, &mut out, named("exp"), Some(own.expiration))?;
+    put_optional_moment(alloc, &mut out, named("iat"), Some(own.issue_time))?;
+    put_optional_moment(alloc, &mut out, named("auth_time"), own.auth_time)?;
+    put_optional_text(alloc, &mut out, named("nonce"), text_of_nonce(&own.nonce))?;
+    put_optional_text(
+        alloc,
+        &mut out,
+        named("acr"),
+        text_of(&own.auth_context_ref),
+    )?;
+    put_texts(
+        alloc,
+        &mut out,
+        named("amr"),
+        slice_of(&own.auth_method_refs),
+    )?;
+    put_optional_text(
+        alloc,
+        &mut out,
+        named("azp"),
+        text_of(&own.authorized_party),
+    )?;
+    put_optional_text(
+        alloc,
+        &mut out,
+        named("at_hash"),
+        text_of(&own.access_token_hash),
+    )?;
+    put_optional_text(alloc, &mut out, named("c_hash"), text_of(&own.code_hash))?;
     Ok(out)
 }
 

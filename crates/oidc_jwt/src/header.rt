@@ -10,7 +10,8 @@ ghost use Rattle.oidc_jwt.specs.HeaderFields.{header_fields};
 
 use oidc_members::{FieldName, Member, Members, OutMember, ParseError, ParseKind, Reading};
 use oidc_readers::{
-    FieldValue, MemberReader, Once, Present, put_optional_text, put_text, read_fields, refused,
+    FieldValue, MemberReader, Once, Present, named, put_optional_text, put_text, read_fields,
+    refused,
 };
 use oidc_types::{ClosedVocabulary, JsonWebKeyId};
 use std::alloc::{AllocError, Global};
@@ -155,8 +156,8 @@ pub(crate) fn header_members(
     ensures texts { IfOk result (λ members. All IsUtf8Member members.items) }
 {
     let mut members = Vec::new(alloc);
-    put_text(alloc, &mut members, "alg", alg)?;
-    put_optional_text(alloc, &mut members, "kid", text_of(key_id))?;
+    put_text(alloc, &mut members, named("alg"), alg)?;
+    put_optional_text(alloc, &mut members, named("kid"), text_of(key_id))?;
     Ok(members)
 }
 

@@ -62,9 +62,9 @@ pub is_true : (b : Bool) → (b ≡ false → ⊥) → b ≡ true
 is_true true is = refl
 is_true false is = absurd (is refl)
 
--- what state, nonce and redirect have to do with nothing else of a request
+-- what client ID, state, nonce and redirect have to do with nothing else of a request
 pub stand_without : (request : LoginRequest) (challenge : List ℕ) (url : Parts) → StandOnce (record request { challenge = Some challenge }) url → StandOnce request url
-stand_without request challenge url x = record { state = x.state; nonce = x.nonce; redirect_uri = x.redirect_uri }
+stand_without request challenge url x = record { client_id = x.client_id; state = x.state; nonce = x.nonce; redirect_uri = x.redirect_uri }
 
 pub unmanaged_with : (request : LoginRequest) (challenge : List ℕ) → IsUnmanagedBeside request → IsUnmanagedBeside (record request { challenge = Some challenge })
 unmanaged_with request challenge x = record { query = x.query; extra = x.extra }

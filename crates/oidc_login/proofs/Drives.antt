@@ -3,7 +3,7 @@ use Rattle.std.proofs.Common.{◌≡◌, ℕ, ℤ, zero, suc, List, [], ◌∷�
 use Rattle.std.specs.Prelude.{◌⊎◌, IfOk, IfErr, IsOk, OnOk}
 use Rattle.oidc_oauth2.specs.Replies.{Unless, OrMemory, Gives}
 use Rattle.oidc_oauth2.specs.Messages.{SeenRequest, SeenAnswer}
-use Rattle.oidc_oauth2.specs.Transport.{Log, log_after, first_answer, Plays}
+use Rattle.oidc_oauth2.specs.Transport.{Log, Script, log_after, first_answer, Plays}
 use Rattle.oidc_oauth2.specs.Exchanges.{Known, Exchanged, Follows}
 use Rattle.oidc_oauth2.proofs.Runs.{unless_map, or_map, or_known, settled}
 use Rattle.oidc_user_info.specs.InfoRequests.{SeenInfoRequest}
@@ -50,19 +50,14 @@ log_twice : (log : Option Log) (p q : List SeenRequest) (x y : List SeenAnswer) 
 log_twice None p q x y = refl
 log_twice (Some log) p q x y = ap Some (λ i. record { requests = append_assoc log.requests p q i; answers = append_assoc log.answers x y i })
 
-drop_more : (n : ℕ) (script : List SeenAnswer) → drop n (drop 1 script) ≡ drop (suc n) script
-drop_more zero [] = refl
-drop_more (suc n) [] = refl
-drop_more n (x ∷ later) = refl
-
-plays_twice : (script mid left : Option (List SeenAnswer)) (x : SeenAnswer) (later : List SeenAnswer) → Plays script (x ∷ []) mid → Plays mid later left → Plays script (x ∷ later) left
-plays_twice None mid left x later first second = subst (λ (m : Option (List SeenAnswer)). Plays m later left) first second
-plays_twice (Some script) mid left x later first second =
-    let rest = subst (λ (m : Option (List SeenAnswer)). Plays m later left) first.1 second in
-    let same : x ≡ first_answer script = ap first_answer first.0 in (
-      (λ i. same i ∷ rest.0 i),
-      rest.1 ∙ ap Some (drop_more (length later) script),
-    )
+plays_twice : (script mid left : Option Script) (request : SeenRequest) (sent : List SeenRequest) (x : SeenAnswer) (later : List SeenAnswer)
+    → Plays script (request ∷ []) (x ∷ []) mid → Plays mid sent later left → Plays script (request ∷ sent) (x ∷ later) left
+plays_twice None mid left request sent x later first second = subst (λ (m : Option Script). Plays m sent later left) first second
+plays_twice (Some script) None left request sent x later first second = absurd first
+plays_twice (Some script) (Some mid) None request sent x later first second = absurd second
+plays_twice (Some script) (Some mid) (Some left) request sent x later first second = record {
+  gives = λ more. first.gives (sent ++ more) ∙ ap (λ answers. x ∷ answers) (second.gives more);
+}
 
 -- ---- the steps with a transport
 
@@ -83,7 +78,7 @@ module _ {A E : Type 0} where
     logged = later.logged
         ∙ ap (λ l. log_after l (take (length later.answers) (whole x later.answers).sent) later.answers) sent.0
         ∙ log_twice old.log (request ∷ []) (take (length later.answers) (whole x later.answers).sent) (x ∷ []) later.answers;
-    plays = plays_twice old.script mid.script new.script x later.answers sent.1 later.plays;
+    plays = plays_twice old.script mid.script new.script request (take (length later.answers) (whole x later.answers).sent) x later.answers sent.1 later.plays;
     answered = omega (arith, later.answered);
     all_sent = or_map login_errors result (λ is. ap suc is) later.all_sent;
     reply = later.reply;

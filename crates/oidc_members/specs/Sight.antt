@@ -1,5 +1,5 @@
 -- Values that are known at sight, and what every text that is one of them reads as.
-use Rattle.std.specs.Prelude.{◌≡◌, ℕ, ◌==◌, ◌||◌, nat_lt, Bool, true, not, List, [], ◌∷◌, ◌++◌, Some, IsUtf8}
+use Rattle.std.specs.Prelude.{◌≡◌, ℕ, ◌==◌, ◌&&◌, ◌||◌, nat_lt, Bool, true, not, List, [], ◌∷◌, ◌++◌, Some, IsUtf8}
 use Rattle.std.specs.List.{list_all}
 use Rattle.serde_json.specs.Data.{Data, null, boolean, number, unsigned, string}
 use Rattle.oidc_members.specs.declared.sight.Scalar.{Scalar}
@@ -9,6 +9,10 @@ use Rattle.oidc_members.specs.Objects.{trimmed, read_bytes}
 -- A byte that stands for itself in a string: no control byte, no quote and no backslash (RFC 8259 section 7).
 abbrev pub is_plain : ℕ → Bool
 is_plain b = not (nat_lt b 32 || b == 34 || b == 92)
+
+-- the same of ASCII
+abbrev pub is_plain_ascii : ℕ → Bool
+is_plain_ascii b = is_plain b && nat_lt b 128
 
 abbrev pub data_of : Scalar → Data
 data_of (Text s) = string s.now

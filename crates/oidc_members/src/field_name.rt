@@ -8,8 +8,8 @@ ghost use Rattle.std.proofs.Common.{rules};
 use std::fmt;
 use std::marker::Model;
 
-/// The name of a member that is written, or of the field that a refusal speaks of. A contract sees
-/// it as its text, and it is equal to another where the texts are.
+/// The name of the field that a refusal speaks of. A contract sees it as its text, and it is equal to another where
+/// the texts are.
 #[derive(Debug, Drop)]
 pub struct FieldName {
     text: String,

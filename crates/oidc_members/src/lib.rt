@@ -10,7 +10,8 @@
 //! - `Reading` says which spellings of booleans and moments the readers of a list take. The list
 //!   carries it; what it means for a value stands in `oidc_readers`. [`laws`] says what the strict
 //!   one is.
-//! - `OutMember` and `write_object` go the other way: the compact text of a list of members.
+//! - `OutMember`, whose name is a `MemberName`, and `write_object` go the other way: the compact text
+//!   of a list of members.
 //! - `ParseError`, `Refusal` and `ParseKind` say why a text was refused, and at which field; each
 //!   reader of this project answers with them. `FieldName` is that field's name.
 //!
@@ -32,6 +33,7 @@ mod field_name;
 mod float;
 pub mod laws;
 mod member;
+mod member_name;
 mod objects;
 mod read;
 mod reading;
@@ -43,6 +45,7 @@ mod write;
 
 pub use crate::field_name::FieldName;
 pub use crate::member::Member;
+pub use crate::member_name::MemberName;
 pub use crate::objects::Members;
 pub use crate::reading::Reading;
 pub use crate::refusal::{ParseError, ParseKind, Refusal};

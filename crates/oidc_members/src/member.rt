@@ -1,5 +1,6 @@
 // One member of an object.
 ghost use Rattle.std.specs.Prelude.{◌≡◌, IfOk};
+ghost use Rattle.std.specs.Str.{bytes_eq};
 ghost use Rattle.serde_json.specs.View.{view};
 ghost use Rattle.oidc_members.specs.Objects.{member_of};
 
@@ -14,13 +15,15 @@ use std::marker::Model;
 /// the white space around them. A contract sees it as the record of these three.
 #[derive(Drop)]
 pub struct Member {
-    name: String,
     value: Value,
-    text: Vec<u8>,
+    // the bytes of the value, and behind them those of the name: one piece of memory for both
+    bytes: Vec<u8>,
+    text_len: usize,
 }
 
 impl Model for Member {
-    ghost use Rattle.std.specs.String.{string_bytes};
+    ghost use Rattle.std.specs.Prelude.{◌≤◌, length, take, drop};
+    ghost use Rattle.std.specs.Str.{IsUtf8};
     ghost use Rattle.serde_json.specs.View.{view as data_of};
     ghost use Rattle.oidc_members.specs.Seen.{SeenMember};
     ghost use Rattle.oidc_members.specs.Codes.{seen_member_code};
@@ -30,10 +33,13 @@ impl Model for Member {
     ghost coded = { seen_member_code };
 
     ghost view = { λ m. record {
-      name = string_bytes m.name;
+      name = drop m.text_len m.bytes.items;
       value = data_of m.value;
-      text = m.text.items;
+      text = take m.text_len m.bytes.items;
     } };
+
+    ghost invariant = { λ m. (m.text_len ≤ length m.bytes.items)
+        × IsUtf8 (drop m.text_len m.bytes.items) };
 }
 
 impl Member {
@@ -49,15 +55,40 @@ impl Member {
         let Some(value) = value_of(alloc, item.value, text)? else {
             return Ok(None);
         };
-        let text = Vec::from_slice(alloc, text)?;
-        Ok(Some(Member { name, value, text }))
+        Ok(Some(Member::of_parts(alloc, name.as_str(), value, text)?))
+    }
+
+    // The member of these parts.
+    fn of_parts(alloc: Global, name: &str, value: Value, text: &[u8]) -> Result<Member, AllocError>
+        ensures { IfOk result (λ member. member
+            ≡ record { name = name.now; value = view value; text = text.now }) }
+    {
+        let mut bytes = Vec::with_capacity(alloc, text.len() + name.len())?;
+        bytes.extend_from_slice(text)?;
+        bytes.extend_from_slice(name.as_bytes())?;
+        Ok(Member {
+            value,
+            bytes,
+            text_len: text.len(),
+        })
     }
 
     /// The name, with its escapes read.
     pub fn name(&self) -> &str
         ensures { result.now ≡ self.now.name }
     {
-        self.name.as_str()
+        match str::from_utf8(&self.bytes[self.text_len..]) {
+            Ok(name) => name,
+            Err(_) => unreachable!(),
+        }
+    }
+
+    /// Whether this is the name. It is asked of each member for each field of a record, and looks at the name's bytes
+    /// as they stand.
+    pub fn is_named(&self, name: &str) -> bool
+        ensures { result ≡ bytes_eq self.now.name name.now }
+    {
+        &self.bytes[self.text_len..] == name.as_bytes()
     }
 
     /// The value that `serde_json` reads.
@@ -71,16 +102,19 @@ impl Member {
     pub fn text(&self) -> &[u8]
         ensures { result.now ≡ self.now.text }
     {
-        self.text.as_slice()
+        &self.bytes[..self.text_len]
     }
 
     /// A copy of the member, which equals it.
     pub fn clone_in(&self, alloc: Global) -> Result<Self, AllocError>
         ensures { IfOk result (λ copy. copy ≡ self.now) }
     {
-        let name = String::from_str(alloc, self.name.as_str())?;
         let value = self.value.clone()?;
-        let text = Vec::from_slice(alloc, self.text.as_slice())?;
-        Ok(Member { name, value, text })
+        let bytes = Vec::from_slice(alloc, self.bytes.as_slice())?;
+        Ok(Member {
+            value,
+            bytes,
+            text_len: self.text_len,
+        })
     }
 }

@@ -1,5 +1,6 @@
 // The values that the bytes of names and values are.
-ghost use Rattle.std.specs.Prelude.{◌≡◌, IfOk, option_and_then, option_map, string_bytes};
+ghost use Rattle.std.specs.Prelude.{◌≡◌, IfOk, option_and_then, option_map};
+ghost use Rattle.std.specs.Cow.{cow_str_bytes};
 ghost use Rattle.serde_json.specs.Data.{array, item, no_items, string};
 ghost use Rattle.serde_json.specs.Find.{as_str};
 ghost use Rattle.serde_json.specs.View.{view};
@@ -8,6 +9,7 @@ ghost use Rattle.oidc_members.specs.Objects.{read_bytes, trimmed};
 use crate::sight::{Scalar, at_sight, lone_text, plain_text};
 use serde_json::{Number, Value};
 use std::alloc::{AllocError, Global};
+use std::borrow::CowStr;
 
 // Any value. `serde_json` zeroes some 16 KB for each read, so it stands in a function of its own.
 #[inline(never)]
@@ -59,21 +61,21 @@ pub(crate) fn value_of(
     }
 }
 
-// The same of a name, which is a text.
-pub(crate) fn name_of(
+// The same of a name, which is a text: it is borrowed where it has no escapes.
+pub(crate) fn name_of<'a>(
     alloc: Global,
-    bytes: &[u8],
-    text: &[u8],
-) -> Result<Option<String>, AllocError>
+    bytes: &'a [u8],
+    text: &'a [u8],
+) -> Result<Option<CowStr<'a, Global>>, AllocError>
     requires { text.now ≡ trimmed bytes.now }
-    ensures { IfOk result (λ found. option_map string_bytes found
+    ensures { IfOk result (λ found. option_map cow_str_bytes found
         ≡ option_and_then as_str (read_bytes bytes.now)) }
 {
     if let Some(text) = plain_text(text) {
-        return Ok(Some(String::from_str(alloc, text)?));
+        return Ok(Some(CowStr::Borrowed(text)));
     }
     match read_whole(alloc, bytes)? {
-        Some(Value::String(name)) => Ok(Some(name)),
+        Some(Value::String(name)) => Ok(Some(CowStr::Owned(name))),
         _ => Ok(None),
     }
 }

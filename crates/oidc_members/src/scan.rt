@@ -1,6 +1,6 @@
 // Where a place of a text stands, as one pass over its bytes finds it.
-ghost use Rattle.std.specs.Prelude.{◌≡◌, ◌+◌, ◌<◌, ◌≤◌, length, not, slice_index};
-ghost use Rattle.oidc_members.specs.Places.{open_brace, is_outside, is_at_level_one, is_even, backslashes, opened, closed};
+ghost use Rattle.std.specs.Prelude.{◌≡◌, ◌==◌, ◌||◌, ◌+◌, ◌<◌, ◌≤◌, length, not, slice_index};
+ghost use Rattle.oidc_members.specs.Places.{open_brace, quote, backslash, is_outside, is_at_level_one, is_even, backslashes, opened, closed};
 ghost use Rattle.oidc_members.specs.Scan.{IsAt, IsPassed, ArePlain};
 
 use memchr::memchr2;
@@ -16,8 +16,38 @@ pub(crate) struct Scan {
     pub(crate) level: usize,
 }
 
+// How many bytes of a string are looked at one by one before the others are searched. Most names and values have
+// fewer.
+const NEAR: usize = 16;
+
+fn is_mark(byte: u8) -> bool
+    ensures { result ≡ (byte == quote || byte == backslash) }
+{
+    byte == b'"' || byte == b'\\'
+}
+
 // The first quote or backslash from a place on, or the last place where none stands before it.
 fn plain_end(text: &[u8], from: usize, last: usize) -> usize
+    requires range { from ≤ last }
+    requires within { last ≤ length text.now }
+    ensures range { (from ≤ result) × (result ≤ last) }
+    ensures plain { ArePlain text.now from result }
+{
+    let near = if last - from <= NEAR {
+        last
+    } else {
+        from + NEAR
+    };
+    for i in from..near {
+        if is_mark(text[i]) {
+            return i;
+        }
+    }
+    far_end(text, near, last)
+}
+
+// The same, by a search.
+fn far_end(text: &[u8], from: usize, last: usize) -> usize
     requires range { from ≤ last }
     requires within { last ≤ length text.now }
     ensures range { (from ≤ result) × (result ≤ last) }

@@ -1,13 +1,14 @@
 // Values that are known at sight, scalars and an array of one text: their bytes say what they are, and nothing need be
 // unescaped.
-ghost use Rattle.std.specs.Prelude.{◌≡◌, ◌==◌, ◌&&◌, ◌<◌, IfSome, Some, false, length, nat_lt, slice_index};
+ghost use Rattle.std.specs.Prelude.{◌≡◌, ◌==◌, ◌&&◌, ◌<◌, IfSome, IsUtf8, Some, false, true, length, nat_lt, slice_index};
 ghost use Rattle.std.specs.Char.{is_ascii_digit};
 ghost use Rattle.std.specs.List.{list_all};
 ghost use Rattle.serde_json.specs.Data.{array, item, no_items, number, string, unsigned};
 ghost use Rattle.serde_json.specs.Read.{number_from};
-ghost use Rattle.oidc_members.specs.Sight.{is_plain as is_plain_byte, data_of, IsQuoted, ReadsAs};
+ghost use Rattle.oidc_members.specs.Sight.{is_plain as is_plain_byte, is_plain_ascii as is_plain_ascii_byte, data_of, IsQuoted, ReadsAs};
 
 use fast_float::Numeral;
+use percent_encoding::ascii_str;
 
 // A string of plain bytes, a whole number without a sign, true, false or null.
 #[derive(Clone, Copy, Drop)]
@@ -35,6 +36,32 @@ pub(crate) fn is_plain_text(bytes: &[u8]) -> bool
     plain
 }
 
+// The same of bytes that are ASCII too.
+fn is_plain_ascii(bytes: &[u8]) -> bool
+    ensures { result ≡ list_all is_plain_ascii_byte bytes.now }
+{
+    let mut plain = true;
+    for byte in bytes {
+        plain = plain & (is_plain(*byte) & (*byte < 0x80));
+    }
+    plain
+}
+
+// The text that bytes are, where they are plain. Most are ASCII, and are gone over once.
+fn content_text(bytes: &[u8]) -> Option<&str>
+    ensures same { IfSome result (λ text. text.now ≡ bytes.now) }
+    ensures plain { IfSome result (λ text. list_all is_plain_byte bytes.now ≡ true) }
+    ensures utf8 { IfSome result (λ text. IsUtf8 bytes.now) }
+{
+    if is_plain_ascii(bytes) {
+        return Some(ascii_str(bytes));
+    }
+    if !is_plain_text(bytes) {
+        return None;
+    }
+    str::from_utf8(bytes).ok()
+}
+
 // The text of a string without escapes, where the bytes are one.
 pub(crate) fn plain_text(bytes: &[u8]) -> Option<&str>
     ensures reads { IfSome result (λ text. ReadsAs bytes.now (string text.now)) }
@@ -43,13 +70,7 @@ pub(crate) fn plain_text(bytes: &[u8]) -> Option<&str>
     if bytes.len() < 2 || bytes[0] != b'"' || bytes[bytes.len() - 1] != b'"' {
         return None;
     }
-    let content = &bytes[1..bytes.len() - 1];
-    if !is_plain_text(content) {
-        return None;
-    }
-    let Ok(text) = str::from_utf8(content) else {
-        return None;
-    };
+    let text = content_text(&bytes[1..bytes.len() - 1])?;
     Some(text)
 }
 

@@ -1,18 +1,18 @@
 -- What a run of requests leaves of a transport, step by step.
-use Rattle.std.proofs.Common.{◌≡◌, ℕ, Bool, true, false, List, [], ◌∷◌, length, Option, None, Some, refl, sym, ap, subst, ◌∙◌, arith, append-nil}
+use Rattle.std.proofs.Common.{◌≡◌, Bool, true, false, List, [], ◌∷◌, length, Option, None, Some, refl, sym, ap, subst, ◌∙◌, arith, append-nil}
 use Rattle.std.specs.Prelude.{Result, Ok, Err, IfErr}
 use Rattle.oidc_oauth2.specs.Replies.{ErrorMeaning, Unless, OrMemory, Gives}
 use Rattle.oidc_oauth2.specs.Messages.{SeenRequest, SeenAnswer}
-use Rattle.oidc_oauth2.specs.Transport.{Log, log_after, Plays}
+use Rattle.oidc_oauth2.specs.Transport.{Log, Script, log_after, Plays}
 use Rattle.oidc_oauth2.specs.Exchanges.{Known, Exchanged, Untouched, Run, one_request, Follows}
 
 log_kept : (log : Option Log) → log_after log [] [] ≡ log
 log_kept None = refl
 log_kept (Some log) = ap Some (λ i. record { requests = append-nil log.requests i; answers = append-nil log.answers i })
 
-plays_none : (script : Option (List SeenAnswer)) → Plays script [] script
+plays_none : (script : Option Script) → Plays script [] [] script
 plays_none None = refl
-plays_none (Some script) = (refl, refl)
+plays_none (Some script) = record { gives = λ later. refl }
 
 pub unless_map : {A B : Type 0} (test : Bool) → (A → B) → Unless test A → Unless test B
 unless_map true f known = tt

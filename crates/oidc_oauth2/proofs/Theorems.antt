@@ -1,10 +1,11 @@
 -- What crates above may cite: the refusals that a response is never worth, what each reply to a request for tokens
--- rests on, and by which steps a response is judged.
-use Rattle.std.proofs.Common.{◌==◌, ℕ, List, Bool, true, false, cond, Result, Ok, Err, refl, subst}
+-- rests on, by which steps a response is judged, and what a script gave.
+use Rattle.std.proofs.Common.{◌==◌, ℕ, zero, suc, List, [], ◌∷◌, ◌++◌, Option, None, Some, drop, length, Bool, true, false, cond, Result, Ok, Err, refl, sym, ap, subst, ◌∙◌, arith, append-nil, length-append}
 use Rattle.std.specs.Prelude.{◌≡◌, not, IfErr}
 use Rattle.oidc_members.specs.Seen.{SeenMember}
 use Rattle.oidc_members.specs.declared.refusal.Refusal.{Refusal}
-use Rattle.oidc_oauth2.specs.Messages.{SeenResponse}
+use Rattle.oidc_oauth2.specs.Messages.{SeenRequest, SeenResponse, SeenAnswer}
+use Rattle.oidc_oauth2.specs.Transport.{Script, Leaves, Plays, played, in_order}
 use Rattle.oidc_oauth2.specs.Replies.{◌>>=◌, ◌>>◌, ◌when◌, ◌or_as◌, Gives}
 use Rattle.oidc_oauth2.specs.TokenAnswers.{TokenRefusal, record_in, error_in, tokens_in, status_worth, token_answer, is_over_long, is_empty, may_be_json, is_fault, token_errors}
 use Rattle.oidc_oauth2.specs.declared.token_answers.OtherCause.TheVariants.{Uri, EmptyBody, MediaType}
@@ -70,3 +71,28 @@ module _ (A TE : Type 0) where
     pub token_answer-unblamed : {RE : Type 0} (result : Result A (RequestTokenError RE TE)) → Gives token_errors result (token_answer error_of token_of r) → IfErr result (λ e. is_fault e ≡ false)
     unfolding token_answer
     token_answer-unblamed result gives = unblamed result (is_over_long r.body) gives
+
+-- ---- scripts
+
+no_more : {A : Type 0} (xs ys zs : List A) → xs ≡ ys ++ zs → length xs ≡ length ys → xs ≡ ys
+no_more xs ys [] is same = is ∙ append-nil ys
+no_more xs ys (z ∷ zs) is same = absurd (omega (arith, ap length is, length-append ys (z ∷ zs)))
+
+-- a script that gives an answer to each request gave these to these
+pub gave : (script : Script) (requests : List SeenRequest) (answers : List SeenAnswer) (left : Script)
+    → Leaves script requests answers left → length (script requests) ≡ length answers → script requests ≡ answers
+gave script requests answers left leaves same =
+    let all : script requests ≡ answers ++ left [] = ap script (sym (append-nil requests)) ∙ leaves.gives [] in
+    no_more (script requests) answers (left []) all same
+
+all_played : (script : List SeenAnswer) (n : ℕ) → length (played script n) ≡ n
+all_played script zero = refl
+all_played script (suc n) = ap suc (all_played (drop 1 script) n)
+
+-- a list of answers, one for each request, gave its next ones
+pub played_next : (script : List SeenAnswer) (requests : List SeenRequest) (answers : List SeenAnswer) (left : Option Script)
+    → Plays (Some (in_order script)) requests answers left → length requests ≡ length answers → answers ≡ played script (length answers)
+played_next script requests answers None plays same = absurd plays
+played_next script requests answers (Some left) plays same =
+    sym (gave (in_order script) requests answers left plays (all_played script (length requests) ∙ same))
+    ∙ ap (played script) same

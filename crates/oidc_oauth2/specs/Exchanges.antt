@@ -3,14 +3,14 @@ use Rattle.std.specs.Prelude.{◌≡◌, ◌≤◌, ℕ, List, [], ◌∷◌, le
 use Rattle.http.specs.declared.response.Response.{Response}
 use Rattle.oidc_oauth2.specs.Replies.{ErrorMeaning, OrMemory, Gives}
 use Rattle.oidc_oauth2.specs.Messages.{SeenRequest, SeenResponse, SeenAnswer, seen_response}
-use Rattle.oidc_oauth2.specs.Transport.{Log, log_after, Plays, HasRisen, first_answer}
+use Rattle.oidc_oauth2.specs.Transport.{Log, Script, log_after, Plays, HasRisen, first_answer}
 
--- what is known of a transport at one time: its log, and the script of its answers
+-- what is known of a transport at one time: its log, and what it answers to the requests to come
 pub record Known : Type 0 where
   pub log : Option Log
-  pub script : Option (List SeenAnswer)
+  pub script : Option Script
 
-abbrev pub known : Option Log → Option (List SeenAnswer) → Known
+abbrev pub known : Option Log → Option Script → Known
 known log script = record { log = log; script = script }
 
 -- ---- one request
@@ -23,11 +23,11 @@ answer_of (Err e) = None
 -- This one request was handed over and took this answer, and nothing else was.
 abbrev pub Exchanged : Known → Known → SeenRequest → SeenAnswer → Type 0
 Exchanged old new request answer =
-    (new.log ≡ log_after old.log (request ∷ []) (answer ∷ [])) × Plays old.script (answer ∷ []) new.script
+    (new.log ≡ log_after old.log (request ∷ []) (answer ∷ [])) × Plays old.script (request ∷ []) (answer ∷ []) new.script
 
 -- nothing was handed over
 abbrev pub Untouched : Known → Known → Type 0
-Untouched old new = (new.log ≡ old.log) × Plays old.script [] new.script
+Untouched old new = (new.log ≡ old.log) × Plays old.script [] [] new.script
 
 -- ---- runs of requests
 
@@ -53,7 +53,7 @@ pub record Follows {A E F : Type 0} (errors : ErrorMeaning E F) (run : List Seen
     (result : Result A E) : Type 0 where
   pub answers : List SeenAnswer
   pub logged : new.log ≡ log_after old.log (take (length answers) (run answers).sent) answers
-  pub plays : Plays old.script answers new.script
+  pub plays : Plays old.script (take (length answers) (run answers).sent) answers new.script
   pub answered : length answers ≤ length (run answers).sent
   pub all_sent : OrMemory errors result (length answers ≡ length (run answers).sent)
   pub reply : Gives errors result (run answers).reply

@@ -1,8 +1,7 @@
 -- Token introspection responses (RFC 7662 section 2.2).
 use Rattle.std.specs.Prelude.{ℕ, ℤ, Bool, List, [], ◌∷◌, Option, option_map, Result, Ok, codes, refl}
 use Rattle.std.specs.Coded.{Coded, code_by, coded×, coded_option, coded_list, coded_ℕ, coded_ℤ, coded_bool}
-use Rattle.oidc_members.specs.Seen.{SeenMember}
-use Rattle.oidc_members.specs.declared.reading.TheConstants.Reading.{STRICT}
+use Rattle.oidc_members.specs.Seen.{SeenMember, strict}
 use Rattle.oidc_members.specs.declared.refusal.Refusal.{Refusal}
 use Rattle.oidc_readers.specs.Kinds.{text_kind, flag_kind, moment_kind, text_or_texts_kind, or_null}
 use Rattle.oidc_readers.specs.Fields.{Field, field, judged}
@@ -12,7 +11,7 @@ use Rattle.oidc_oauth2.specs.TokenResponse.{scopes_in}
 -- ---- the table of the fields, which are read strictly
 
 abbrev pub active : Field Bool
-active = field (codes "active") (flag_kind STRICT)
+active = field (codes "active") (flag_kind strict)
 
 abbrev pub scope : Field (Option (List ℕ))
 scope = field (codes "scope") (or_null text_kind)
@@ -36,13 +35,13 @@ abbrev pub jti : Field (Option (List ℕ))
 jti = field (codes "jti") (or_null text_kind)
 
 abbrev pub exp : Field (Option ℤ)
-exp = field (codes "exp") (or_null (moment_kind STRICT))
+exp = field (codes "exp") (or_null (moment_kind strict))
 
 abbrev pub nbf : Field (Option ℤ)
-nbf = field (codes "nbf") (or_null (moment_kind STRICT))
+nbf = field (codes "nbf") (or_null (moment_kind strict))
 
 abbrev pub iat : Field (Option ℤ)
-iat = field (codes "iat") (or_null (moment_kind STRICT))
+iat = field (codes "iat") (or_null (moment_kind strict))
 
 abbrev pub aud : Field (Option (List (List ℕ)))
 aud = field (codes "aud") (or_null text_or_texts_kind)

@@ -36,10 +36,29 @@ abbrev pub played : List SeenAnswer → ℕ → List SeenAnswer
 played script zero = []
 played script (suc n) = first_answer script ∷ played (drop 1 script) n
 
--- These answers are the next ones of a script, and the others are left. Without a script any may come.
-abbrev pub Plays : Option (List SeenAnswer) → List SeenAnswer → Option (List SeenAnswer) → Type 0
-Plays None answers left = left ≡ None
-Plays (Some script) answers left = (answers ≡ played script (length answers)) × (left ≡ Some (drop (length answers) script))
+-- What is answered to the requests to come, one after another: an answer may rest on its request, and on those before it.
+abbrev pub Script : Type 0
+Script = List SeenRequest → List SeenAnswer
+
+-- the answers of a list to whatever requests, in their order
+abbrev pub in_order : List SeenAnswer → Script
+in_order answers requests = played answers (length requests)
+
+-- Whatever requests come behind these, a script gives these answers, and then what is left of it gives.
+pub record Leaves (script : Script) (requests : List SeenRequest) (answers : List SeenAnswer) (left : Script) : Type 0 where
+  pub gives : (later : List SeenRequest) → script (requests ++ later) ≡ answers ++ left later
+
+-- These requests got the answers of a script, and this is left of it. Without a script any may come.
+abbrev pub Plays : Option Script → List SeenRequest → List SeenAnswer → Option Script → Type 0
+Plays None requests answers left = left ≡ None
+Plays (Some script) requests answers None = ⊥
+Plays (Some script) requests answers (Some left) = Leaves script requests answers left
+
+-- the request that a call handed over, where it did
+abbrev pub requests_in : {E : Type 0} → SeenRequest → CallResult E → List SeenRequest
+requests_in request (Ok response) = request ∷ []
+requests_in request (Err (Transport e)) = request ∷ []
+requests_in request (Err Memory) = []
 
 -- the answer that a call gave, where it gave one
 abbrev pub answers_in : {E : Type 0} → CallResult E → List SeenAnswer

@@ -33,7 +33,7 @@ impl<F> Adapter<F> {
 
 impl<E, F: FnMut(HttpRequest) -> Result<HttpResponse, E>> SyncHttpClient for Adapter<F> {
     ghost use Rattle.std.specs.Prelude.{◌≡◌, ◌≤◌, Option, OnOk, OnErr};
-    ghost use Rattle.oidc_oauth2.specs.Transport.{IsLogged, Plays, answers_in, IsBlamed};
+    ghost use Rattle.oidc_oauth2.specs.Transport.{IsLogged, Plays, requests_in, answers_in, IsBlamed};
     ghost use Rattle.oidc_oauth2.specs.Adapter.{closure_of, fault_count_of, answered, risen};
 
     type Error = E;
@@ -48,7 +48,7 @@ impl<E, F: FnMut(HttpRequest) -> Result<HttpResponse, E>> SyncHttpClient for Ada
         requires { F.IsAlwaysCallable (closure_of self.old) }
         ensures again { F.IsAlwaysCallable (closure_of self.new) }
         ensures logged { IsLogged Option.None Option.None request result }
-        ensures plays { Plays Option.None (answers_in result) Option.None }
+        ensures plays { Plays Option.None (requests_in request result) (answers_in result) Option.None }
         ensures never_falls { fault_count_of self.old ≤ fault_count_of self.new }
         ensures blamed { IsBlamed (fault_count_of self.old) (fault_count_of self.new) result }
 

@@ -2,7 +2,7 @@
 
 ghost use Rattle.std.specs.Prelude.{◌≡◌, [], ◌∷◌, ◌++◌, Some, map, drop, option_map, IfOk, OnOk, OnErr};
 ghost use Rattle.oidc_oauth2.specs.Messages.{seen_response};
-ghost use Rattle.oidc_oauth2.specs.Transport.{first_answer};
+ghost use Rattle.oidc_oauth2.specs.Transport.{first_answer, in_order};
 ghost use Rattle.oidc_oauth2.specs.Recorded.{seen_answer, left_of};
 
 use crate::transport::{CallError, HttpRequest, HttpResponse, SyncHttpClient};
@@ -120,7 +120,7 @@ impl Recorded {
         ensures log { ⟦<Recorded as SyncHttpClient>⟧.log result
             ≡ Some (record { requests = []; answers = [] }) }
         ensures script { ⟦<Recorded as SyncHttpClient>⟧.script result
-            ≡ Some (map seen_answer answers.items) }
+            ≡ Some (in_order (map seen_answer answers.items)) }
         ensures faults { ⟦<Recorded as SyncHttpClient>⟧.faults result ≡ 0 }
     {
         let mut later = answers.into_iter();
@@ -185,12 +185,13 @@ fn kept_of(alloc: Global, next: &Option<Answer>) -> Result<Option<Kept>, AllocEr
 impl SyncHttpClient for Recorded {
     ghost use Rattle.std.specs.Prelude.{Option};
     ghost use Rattle.oidc_oauth2.specs.Recorded.{fault_count};
+    ghost use Rattle.oidc_oauth2.specs.Transport.{in_order};
 
     type Error = Fault;
 
     ghost log = { λ r. Option.Some (record { requests = r.requests; answers = r.given }) };
 
-    ghost script = { λ r. Option.Some r.left };
+    ghost script = { λ r. Option.Some (in_order r.left) };
 
     ghost faults = { λ r. fault_count r.given };
 

@@ -16,7 +16,7 @@ use crate::scopes::{optional_joined, optional_scopes};
 use crate::token_type::TokenType;
 use oidc_members::{FieldName, Member, Members, OutMember, ParseError, Reading, write_object};
 use oidc_readers::{
-    MemberReader, Once, put_optional_text, put_optional_whole, put_text, read_fields,
+    MemberReader, Once, named, put_optional_text, put_optional_whole, put_text, read_fields,
 };
 use oidc_types::{AccessToken, RefreshToken, Scope};
 use std::alloc::{AllocError, Global};
@@ -262,17 +262,32 @@ impl<EF: ExtraTokenFields, TT: TokenType> StandardTokenResponse<EF, TT> {
             (λ members. members.items ≡ spec.written_tokens TT.as_ref EF.write_of self.now) }
     {
         let mut out = Vec::new(alloc);
-        put_text(alloc, &mut out, "access_token", self.access_token.secret())?;
-        put_text(alloc, &mut out, "token_type", self.token_type.as_ref())?;
-        put_optional_whole(alloc, &mut out, "expires_in", seconds_of(self.expires_in))?;
+        put_text(
+            alloc,
+            &mut out,
+            named("access_token"),
+            self.access_token.secret(),
+        )?;
+        put_text(
+            alloc,
+            &mut out,
+            named("token_type"),
+            self.token_type.as_ref(),
+        )?;
+        put_optional_whole(
+            alloc,
+            &mut out,
+            named("expires_in"),
+            seconds_of(self.expires_in),
+        )?;
         put_optional_text(
             alloc,
             &mut out,
-            "refresh_token",
+            named("refresh_token"),
             text_of(&self.refresh_token),
         )?;
         let scope = optional_joined(alloc, &self.scopes)?;
-        put_optional_text(alloc, &mut out, "scope", scope.as_deref())?;
+        put_optional_text(alloc, &mut out, named("scope"), scope.as_deref())?;
         let mut extra_fields = self.extra_fields.write(alloc)?;
         out.append(&mut extra_fields)?;
         Ok(out)

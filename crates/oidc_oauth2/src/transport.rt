@@ -99,8 +99,7 @@ pub enum CallError<E> {
 /// call changes whether they are known.
 pub trait SyncHttpClient {
     ghost use Rattle.std.specs.Prelude.{◌≡◌, ◌≤◌, ℕ, List, Option};
-    ghost use Rattle.oidc_oauth2.specs.Messages.{SeenAnswer};
-    ghost use Rattle.oidc_oauth2.specs.Transport.{Log, IsLogged, Plays, answers_in, IsBlamed};
+    ghost use Rattle.oidc_oauth2.specs.Transport.{Log, Script, IsLogged, Plays, requests_in, answers_in, IsBlamed};
 
     /// What a request fails with on its way.
     type Error;
@@ -108,8 +107,8 @@ pub trait SyncHttpClient {
     /// The requests that were handed over and the answers that were given, where they are known.
     ghost log: { Self → Option Log };
 
-    /// The answers that are still to come, where they are known; behind the last one come faults.
-    ghost script: { Self → Option (List SeenAnswer) } = { λ _. Option.None };
+    /// What it answers to the requests to come, where that is known.
+    ghost script: { Self → Option Script } = { λ _. Option.None };
 
     /// How often it has failed.
     ghost faults: { Self → ℕ };
@@ -128,7 +127,8 @@ pub trait SyncHttpClient {
         requires { ready self.old }
         ensures again { ready self.new }
         ensures logged { IsLogged (log self.old) (log self.new) request result }
-        ensures plays { Plays (script self.old) (answers_in result) (script self.new) }
+        ensures plays { Plays (script self.old) (requests_in request result) (answers_in result)
+            (script self.new) }
         ensures never_falls { faults self.old ≤ faults self.new }
         ensures blamed { IsBlamed (faults self.old) (faults self.new) result };
 }

@@ -1,16 +1,16 @@
 -- The judge of revocations.
-use Rattle.std.proofs.Common.{◌≡◌, ◌≢◌, ◌==◌, ℕ, Bool, true, false, List, refl, ap, sym, ◌∙◌, arith}
+use Rattle.std.proofs.Common.{◌≡◌, ◌≢◌, ◌==◌, ℕ, Bool, true, false, List, refl, ap, ◌∙◌, arith}
 use Rattle.std.specs.Prelude.{Result, Ok, Err, if◌then◌else◌}
 use Rattle.oidc_members.specs.Seen.{SeenMember}
 use Rattle.oidc_members.specs.declared.refusal.Refusal.{Refusal}
 use Rattle.oidc_oauth2.specs.Messages.{SeenResponse}
 use Rattle.oidc_oauth2.specs.Replies.{◌>>=◌, ◌>>◌, ◌when◌}
 use Rattle.oidc_oauth2.specs.TokenAnswers.{TokenRefusal, is_over_long, is_empty, record_in, refused_by, refusal_in, success_in}
-use Rattle.oidc_oauth2.specs.AnswerCauses.{HoldsErrorObject, IsTooLong}
+use Rattle.oidc_oauth2.specs.AnswerCauses.{HoldsErrorObject}
 use Rattle.oidc_oauth2.specs.declared.token_answers.OtherCause.TheVariants.{Uri, EmptyBody, MediaType}
 use Rattle.oidc_oauth2.specs.declared.token_answers.RequestTokenError.TheVariants.{ServerResponse, Request, Parse, Other, TooLong, Memory}
 use Rattle.oidc_oauth2_requests.specs.RequestAnswers.{revocation_answer}
-use Rattle.oidc_oauth2_requests.specs.RequestCauses.{IsRevoked, IsRefusedSilently, SaysError, SaysNoError, RefusalCause, FailsWith, RevocationCause}
+use Rattle.oidc_oauth2_requests.specs.RequestCauses.{IsRevoked, RefusalCause, FailsWith, RevocationCause}
 use Rattle.oidc_oauth2_requests.proofs.Judges.{Rests, IsJudge}
 
 equal : (n m : ℕ) → (n == m) ≡ true → n ≡ m

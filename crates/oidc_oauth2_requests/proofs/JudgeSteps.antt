@@ -8,13 +8,12 @@ use Rattle.oidc_oauth2.specs.TokenAnswers.{TokenRefusal, token_answer}
 use Rattle.oidc_oauth2.specs.AnswerCauses.{AnswerCause, IsTokenAnswer}
 use Rattle.oidc_oauth2.specs.declared.error_types.DeviceCodeErrorResponseType.{DeviceCodeErrorResponseType}
 use Rattle.oidc_oauth2.specs.declared.error_types.DeviceCodeErrorResponseType.TheVariants.{AuthorizationPending, SlowDown, AccessDenied, ExpiredToken, Basic}
-use Rattle.oidc_oauth2.specs.declared.token_answers.OtherCause.TheVariants.{Uri}
 use Rattle.oidc_oauth2.specs.declared.token_answers.RequestTokenError.TheVariants.{ServerResponse, Request, Parse, Other, TooLong, Memory}
 use Rattle.oidc_oauth2.proofs.Theorems.{tokens_answer, refused_answer}
 use Rattle.oidc_oauth2_requests.specs.declared.device.PollStep.{PollStep}
 use Rattle.oidc_oauth2_requests.specs.declared.device.PollStep.TheVariants as step
 use Rattle.oidc_oauth2_requests.specs.RequestAnswers.{DeviceError, device_error_response_of, step_on, step_of, poll_answer}
-use Rattle.oidc_oauth2_requests.specs.RequestCauses.{IsRefusal, SaysRefusal, PollCause, StepCause}
+use Rattle.oidc_oauth2_requests.specs.RequestCauses.{IsRefusal, PollCause, StepCause}
 use Rattle.oidc_oauth2_requests.proofs.Judges.{Rests, IsJudge}
 use Rattle.oidc_oauth2_requests.proofs.JudgeRecords.{records}
 

@@ -3,7 +3,7 @@
 -- sections 3.1 and 3.4).
 use Rattle.std.specs.Prelude.{ℕ, List, [], ◌∷◌, ◌++◌, Option, None, if◌then◌else◌, codes}
 use Rattle.oidc_members.specs.declared.reading.Reading.{Reading}
-use Rattle.oidc_members.specs.declared.reading.TheConstants.Reading.{STRICT}
+use Rattle.oidc_members.specs.Seen.{strict}
 use Rattle.oidc_oauth2.specs.Messages.{SeenRequest}
 use Rattle.oidc_oauth2.specs.ClientAuth.{SeenClientAuth, client_pairs, pair_if}
 use Rattle.oidc_oauth2.specs.TokenAnswers.{is_empty}
@@ -48,7 +48,7 @@ new_request address client own = record {
   scopes = [];
   redirect_uri = None;
   extra = [];
-  reading = STRICT;
+  reading = strict;
 }
 
 -- ---- the own pairs of each request

@@ -12,7 +12,7 @@ use Rattle.oidc_oauth2.specs.declared.token_answers.RequestTokenError.{RequestTo
 use Rattle.oidc_oauth2.specs.declared.token_answers.RequestTokenError.TheVariants.{Request, Other}
 use Rattle.oidc_oauth2_requests.specs.declared.device.PollStep.{PollStep}
 use Rattle.oidc_oauth2_requests.specs.FormRequests.{SeenFormRequest, form_request}
-use Rattle.oidc_oauth2_requests.specs.RequestAnswers.{DeviceError, device_error_response_of, revocation_answer, poll_answer}
+use Rattle.oidc_oauth2_requests.specs.RequestAnswers.{DeviceError, revocation_answer, poll_answer}
 use Rattle.oidc_oauth2_requests.specs.RequestCauses.{IsRevoked, RevocationCause, PollCause, StepCause, IsHeld, Cause}
 
 module _ {A TE : Type 0} (worth : SeenResponse → Result A (TokenRefusal TE)) where

@@ -1,6 +1,6 @@
 -- What a form makes of bytes, a few at a time.
-use Rattle.std.proofs.Common.{◌≡◌, ℕ, ◌+◌, ◌<◌, List, [], ◌∷◌, ◌++◌, length, get_or, take, sym, ap, ◌∙◌, append_assoc, append-nil}
-use Rattle.std.proofs.lemmas.List.{take_more}
+use Rattle.std.proofs.Common.{◌≡◌, ℕ, ◌+◌, ◌<◌, ◌≤◌, List, [], ◌∷◌, ◌++◌, length, get_or, take, sym, ap, ◌∙◌, arith, append_assoc, append-nil}
+use Rattle.std.proofs.lemmas.List.{take_more, take-append-le, length-take}
 use Rattle.form_urlencoded.specs.Form.{serialize_byte, byte_serialize}
 use Rattle.form_urlencoded.proofs.FormLemmas.{byte_serialize-nil, byte_serialize-cons, byte_serialize-append}
 
@@ -20,3 +20,9 @@ piece_written old text front rest later whole grown =
 pub all_written : (text rest whole : List ℕ) → rest ≡ [] → text ++ byte_serialize rest ≡ whole → text ≡ whole
 all_written text rest whole none is =
     sym (append-nil text) ∙ ap (λ x. text ++ x) (sym (ap byte_serialize none ∙ byte_serialize-nil)) ∙ is
+
+-- what begins with a text still does where it has grown
+pub begins_still : (old now grown added : List ℕ) → take (length old) now ≡ old → grown ≡ now ++ added → take (length old) grown ≡ old
+begins_still old now grown added begun is =
+    let short : length old ≤ length now = omega (arith, length-take (length old) now, ap length begun) in
+    ap (take (length old)) is ∙ rw take-append-le begun

@@ -6,3 +6,4 @@ mod FormTexts
 mod Lookups
 mod PlainTexts
 mod TextBytes
+mod Written

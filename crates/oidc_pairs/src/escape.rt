@@ -1,7 +1,8 @@
 //! Names and values as a form writes them.
-ghost use Rattle.std.specs.Prelude.{◌≡◌, ◌++◌, ◌+◌, ◌≤◌, length, take, IfOk, OnOk};
+ghost use Rattle.std.specs.Prelude.{◌≡◌, ◌++◌, ◌∷◌, ◌+◌, ◌≤◌, [], length, take, IfOk, OnOk, OnErr, MatchOption};
 ghost use Rattle.std.specs.String.{string_bytes};
-ghost use Rattle.form_urlencoded.specs.Form.{is_unchanged as is_unchanged_byte, serialize_byte, byte_serialize};
+ghost use Rattle.form_urlencoded.specs.Form.{serialize_byte, byte_serialize};
+ghost use Rattle.percent_encoding.specs.Percent.{percent_encode_byte};
 ghost use Rattle.oidc_pairs.specs.Form.{escaped};
 
 use percent_encoding::{ascii_str, percent_encode_byte};
@@ -12,19 +13,24 @@ const PIECE: usize = 40;
 
 const ROOM: usize = 120;
 
-// Whether a form writes a byte as it is. Letters take the fewest tests.
-fn is_unchanged(byte: u8) -> bool
-    ensures { result ≡ is_unchanged_byte byte }
+// The byte that a form writes for each byte: for one that is escaped the percent sign, which is written for no other.
+static WRITTEN: [u8; 256] = *b"\
+    %%%%%%%%%%%%%%%%%%%%%%%%%%%%%%%%\
+    +%%%%%%%%%*%%-.%0123456789%%%%%%\
+    %ABCDEFGHIJKLMNOPQRSTUVWXYZ%%%%_\
+    %abcdefghijklmnopqrstuvwxyz%%%%%\
+    %%%%%%%%%%%%%%%%%%%%%%%%%%%%%%%%\
+    %%%%%%%%%%%%%%%%%%%%%%%%%%%%%%%%\
+    %%%%%%%%%%%%%%%%%%%%%%%%%%%%%%%%\
+    %%%%%%%%%%%%%%%%%%%%%%%%%%%%%%%%";
+
+// What a form makes of a byte, by its entry: it is escaped where that is the percent sign.
+fn written_for(byte: u8) -> Option<u8>
+    ensures { MatchOption result (percent_encode_byte byte ≡ serialize_byte byte)
+        (λ written. written ∷ [] ≡ serialize_byte byte) }
 {
-    if byte >= b'a' {
-        byte <= b'z'
-    } else if byte >= b'A' {
-        byte <= b'Z' || byte == b'_'
-    } else if byte >= b'0' {
-        byte <= b'9'
-    } else {
-        byte == b'*' || byte == b'-' || byte == b'.'
-    }
+    let written = WRITTEN[byte as usize];
+    if written == b'%' { None } else { Some(written) }
 }
 
 // Writes what a form makes of a byte at a place, and says where it ends.
@@ -33,12 +39,8 @@ fn put(room: &mut [u8; ROOM], at: usize, byte: u8) -> usize
     ensures end { result ≤ at + 3 }
     ensures bytes { take result room.new ≡ take at room.old ++ serialize_byte byte }
 {
-    if is_unchanged(byte) {
-        room[at] = byte;
-        return at + 1;
-    }
-    if byte == b' ' {
-        room[at] = b'+';
+    if let Some(written) = written_for(byte) {
+        room[at] = written;
         return at + 1;
     }
     room[at..at + 3].copy_from_slice(percent_encode_byte(byte).as_bytes());
@@ -48,7 +50,8 @@ fn put(room: &mut [u8; ROOM], at: usize, byte: u8) -> usize
 // Adds what a form makes of a few bytes.
 fn push_piece(text: &mut String, piece: &[u8]) -> Result<(), AllocError>
     requires { length piece.now ≤ 40 }
-    ensures { OnOk result (string_bytes text.new ≡ string_bytes text.old ++ escaped piece.now) }
+    ensures ok { OnOk result (string_bytes text.new ≡ string_bytes text.old ++ escaped piece.now) }
+    ensures err { OnErr result (string_bytes text.new ≡ string_bytes text.old) }
 {
     let mut room = [0u8; ROOM];
     let mut used = 0;
@@ -71,9 +74,11 @@ fn first_piece(bytes: &[u8]) -> (&[u8], &[u8])
     }
 }
 
-/// Adds bytes as a form writes a name or a value. After an error some of them may have been added.
-pub fn push_escaped(text: &mut String, bytes: &[u8]) -> Result<(), AllocError>
-    ensures { OnOk result (string_bytes text.new ≡ string_bytes text.old ++ escaped bytes.now) }
+// Adds bytes as a form writes a name or a value. After an error some of them may have been added.
+pub(crate) fn push_bytes(text: &mut String, bytes: &[u8]) -> Result<(), AllocError>
+    ensures ok { OnOk result (string_bytes text.new ≡ string_bytes text.old ++ escaped bytes.now) }
+    ensures begun { take (length (string_bytes text.old)) (string_bytes text.new)
+        ≡ string_bytes text.old }
 {
     let mut rest = bytes;
     while !rest.is_empty() {
@@ -82,6 +87,13 @@ pub fn push_escaped(text: &mut String, bytes: &[u8]) -> Result<(), AllocError>
         rest = later;
     }
     Ok(())
+}
+
+/// Adds bytes as a form writes a name or a value. After an error some of them may have been added.
+pub fn push_escaped(text: &mut String, bytes: &[u8]) -> Result<(), AllocError>
+    ensures { OnOk result (string_bytes text.new ≡ string_bytes text.old ++ escaped bytes.now) }
+{
+    push_bytes(text, bytes)
 }
 
 /// One text as a form writes a name or a value (URL Standard, section 5.2).

@@ -9,8 +9,8 @@
 //! - [`first_value`] and [`only_value`] look one name up in a form text and keep none of its pairs;
 //!   [`BorrowedPairs`] are the pairs, borrowed from the text where decoding changes nothing.
 //! - [`FormText`] writes pairs one by one, and [`form_text`] writes a list of them; the text is the
-//!   definition `form` of the list. [`escaped_text`] writes one name or value alone, [`push_escaped`]
-//!   behind a text.
+//!   definition `form` of the list. [`push_pair`] adds a pair behind any form text, [`escaped_text`]
+//!   writes one name or value alone, [`push_escaped`] behind a text.
 //! - [`form_reads_back`] says that a list of pairs that was written is read as the same list.
 //!
 //! `README.md` says what is proved and by which clause, `CALLING.md` how to call it.
@@ -26,6 +26,6 @@ mod scan;
 
 pub use crate::borrowed::{BorrowedPair, BorrowedPairs};
 pub use crate::escape::{escaped_text, push_escaped};
-pub use crate::form::{FormText, form_reads_back, form_text};
+pub use crate::form::{FormText, form_reads_back, form_text, push_pair};
 pub use crate::pairs::{Pair, Pairs};
 pub use crate::scan::{first_value, only_value};

@@ -1,5 +1,5 @@
 -- What a program holds is UTF-8, since a `String` is.
-use Rattle.std.proofs.Common.{◌≡◌, List, [], ◌∷◌, ◌++◌, map, String, string_bytes, Global, subst, sym, All}
+use Rattle.std.proofs.Common.{◌≡◌, List, [], ◌∷◌, ◌++◌, map, String, Global, subst, sym, All}
 use Rattle.std.proofs.lemmas.List.Elements.{All-push}
 use Rattle.std.specs.Str.{IsUtf8}
 use Rattle.std.proofs.lemmas.Str.{IsUtf8-string_bytes}
@@ -39,8 +39,8 @@ value_has_texts = ind-Value (λ v. HasTexts (view v)) (λ x y is.
     subst HasTexts (sym (fold-roll-Value Data view_step x)) (subst (λ x. HasTexts (view_step (map-Value Value Data view x))) is (layer_fine y)))
 
 -- One more member of a name and a value that a program holds is UTF-8.
-pub utf8_pushed : (before after : List OutSeen) (m : OutSeen) (name : String Global) (value : Value)
-    → after ≡ before ++ m ∷ [] → m.name ≡ string_bytes name → m.value ≡ view value → All IsUtf8Member before → All IsUtf8Member after
-utf8_pushed before after m name value is named valued h =
-    let member : IsUtf8Member m = (subst IsUtf8 (sym named) (IsUtf8-string_bytes name), subst HasTexts (sym valued) (value_has_texts value)) in
+pub utf8_pushed : (before after : List OutSeen) (m : OutSeen) (value : Value)
+    → after ≡ before ++ m ∷ [] → IsUtf8 m.name → m.value ≡ view value → All IsUtf8Member before → All IsUtf8Member after
+utf8_pushed before after m value is named valued h =
+    let member : IsUtf8Member m = (named, subst HasTexts (sym valued) (value_has_texts value)) in
     subst (All IsUtf8Member) (sym is) (All-push IsUtf8Member before m h member)

@@ -37,5 +37,5 @@ pub use crate::passes::{MemberReader, PlacedError, read_members};
 pub use crate::records::{Both, read_fields};
 pub use crate::slots::Once;
 pub use crate::writing::{
-    put, put_optional_moment, put_optional_text, put_optional_whole, put_text, put_texts,
+    named, put, put_optional_moment, put_optional_text, put_optional_whole, put_text, put_texts,
 };

@@ -58,7 +58,7 @@ impl<T: FieldValue> Once<T> {
             → Took (judged f before member.now) result
             (self.new ≡ slot f (before ++ member.now ∷ [])) }
     {
-        if member.name() == name {
+        if member.is_named(name) {
             self.take_own(alloc, member, reading)
         } else {
             Ok(())
@@ -79,7 +79,7 @@ impl<T: FieldValue> Once<T> {
             → Took (judged f before member.now) result
             (self.new ≡ slot f (before ++ member.now ∷ [])) }
     {
-        if member.name() == name || member.name() == alias {
+        if member.is_named(name) || member.is_named(alias) {
             self.take_own(alloc, member, Reading::STRICT)
         } else {
             Ok(())

@@ -4,8 +4,7 @@ use Rattle.std.specs.Option.{option_map_or}
 use Rattle.serde_json.specs.Data.{Data}
 use Rattle.serde_json.specs.Find.{as_object, get}
 use Rattle.oidc_types.specs.{TextAndUrl}
-use Rattle.oidc_members.specs.Seen.{SeenMember}
-use Rattle.oidc_members.specs.declared.reading.TheConstants.Reading.{STRICT}
+use Rattle.oidc_members.specs.Seen.{SeenMember, strict}
 use Rattle.oidc_members.specs.declared.refusal.Refusal.{Refusal}
 use Rattle.oidc_members.specs.declared.refusal.ParseKind.TheVariants.{WrongType}
 use Rattle.oidc_readers.specs.declared.kinds.Present.{Present}
@@ -41,11 +40,11 @@ aud = field (codes "aud") text_or_texts_kind
 
 -- when it was issued, which has to be said and isn't judged
 abbrev pub iat : Field ℤ
-iat = field (codes "iat") (moment_kind STRICT)
+iat = field (codes "iat") (moment_kind strict)
 
 -- when it expires
 abbrev pub exp : Field ℤ
-exp = field (codes "exp") (moment_kind STRICT)
+exp = field (codes "exp") (moment_kind strict)
 
 -- its own id (RFC 7519 section 4.1.7)
 abbrev pub jti : Field (List ℕ)

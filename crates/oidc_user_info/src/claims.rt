@@ -21,7 +21,7 @@ use oidc_claims::{
     AdditionalClaims, ClaimsReader, GenderClaim, StandardClaims, USER_INFO_FIELDS, write_standard,
 };
 use oidc_members::{Member, Members, OutMember, ParseError};
-use oidc_readers::{Both, put_optional_text, put_texts, read_fields};
+use oidc_readers::{Both, named, put_optional_text, put_texts, read_fields};
 use oidc_tokens::{AudiencesClaim, IssuerClaim, Payload, additional_copies};
 use oidc_types::{Audience, IssuerUrl};
 use std::alloc::{AllocError, Global};
@@ -237,8 +237,8 @@ fn issuer_and_audience_members(
     ensures texts { IfOk result (λ out. All IsUtf8Member out.items) }
 {
     let mut out = Vec::with_capacity(alloc, ROOM)?;
-    put_optional_text(alloc, &mut out, "iss", text_of(issuer))?;
-    put_texts(alloc, &mut out, "aud", audiences)?;
+    put_optional_text(alloc, &mut out, named("iss"), text_of(issuer))?;
+    put_texts(alloc, &mut out, named("aud"), audiences)?;
     Ok(out)
 }
 

@@ -4,7 +4,7 @@ ghost use Rattle.oidc_members.specs.Answers.{Answers};
 ghost use Rattle.oidc_members.specs.Seen.{SeenMember};
 ghost use Rattle.oidc_members.specs.declared.refusal.ParseKind.TheVariants.{Additional};
 
-use oidc_members::{FieldName, Members, OutMember, ParseError, ParseKind, Refusal};
+use oidc_members::{MemberName, Members, OutMember, ParseError, ParseKind, Refusal};
 use oidc_oauth2::{ExtraDeviceAuthorizationFields, ExtraTokenFields};
 use serde_json::Value;
 use std::alloc::{AllocError, Global};
@@ -45,7 +45,7 @@ impl ExtraTokenFields for Few {
     }
 
     fn write(&self, alloc: Global) -> Result<Vec<OutMember>, AllocError> {
-        let name = FieldName::new(String::from_str(alloc, "few")?);
+        let name = MemberName::of_word("few");
         let value = Value::Bool(true);
         let mut members = Vec::new(alloc);
         members.push(OutMember { name, value })?;

@@ -1,7 +1,7 @@
 //! Texts of hundreds of thousands of members, bytes that are no text, values beside what `serde_json` reads of the same
 //! text, and members whose values are floats, which no text that is read has.
 
-use oidc_members::{FieldName, Members, OutMember, ParseError, ParseKind, write_object};
+use oidc_members::{MemberName, Members, OutMember, ParseError, ParseKind, write_object};
 use serde_json::Value;
 use std::alloc::Global;
 use std::process::Abort;
@@ -122,7 +122,7 @@ fn values_are_what_serde_json_reads(rt: HostRuntime) {
 
 fn member(rt: &impl Abort, alloc: Global, name: &str, value: &str) -> OutMember {
     OutMember {
-        name: FieldName::new(String::from_str(alloc, name).expect(rt, "memory")),
+        name: MemberName::new(String::from_str(alloc, name).expect(rt, "memory")),
         value: Value::from_str(alloc, value).expect(rt, "a value"),
     }
 }

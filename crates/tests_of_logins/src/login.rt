@@ -325,22 +325,35 @@ fn begin_word<U>(rt: &impl Abort, alloc: Global, reply: &Result<U, BeginError>) 
     }
 }
 
-// What the store of the client `aaa` answers to a begin with a request of a client of this ID and a verifier of so
-// many letters, and how many logins are pending after it.
-fn begin_line(rt: &impl Abort, alloc: Global, id: &str, flow: &str, letters: usize) -> String {
-    let client = client_of(rt, alloc, "aaa");
-    let other = client_of(rt, alloc, id);
-    let mut logins = Logins::new(alloc, &client).expect(rt, "a token endpoint");
+// What the store of a client answers to a begin with a request of another client and a verifier of so many letters, and
+// how many logins are pending after it.
+fn begin_words<'c>(
+    rt: &impl Abort,
+    alloc: Global,
+    own: &'c LoginClient,
+    other: &'c LoginClient,
+    flow: &str,
+    letters: usize,
+) -> String {
+    let mut logins = Logins::new(alloc, own).expect(rt, "a token endpoint");
     let state = text(rt, alloc, "CSRF123");
-    let request = request_of(rt, alloc, &other, flow_of(alloc, flow), state);
+    let request = request_of(rt, alloc, other, flow_of(alloc, flow), state);
     let reply = logins.begin(request, verifier(rt, alloc, letters), None);
     let word = begin_word(rt, alloc, &reply);
     drop(reply);
     let count = logins.pending();
     drop(logins);
+    format!(in alloc; "{word} {count}").expect(rt, "memory")
+}
+
+// The same of the store of the client `aaa` and a client of this ID.
+fn begin_line(rt: &impl Abort, alloc: Global, id: &str, flow: &str, letters: usize) -> String {
+    let client = client_of(rt, alloc, "aaa");
+    let other = client_of(rt, alloc, id);
+    let line = begin_words(rt, alloc, &client, &other, flow, letters);
     drop(other);
     drop(client);
-    format!(in alloc; "{word} {count}").expect(rt, "memory")
+    line
 }
 
 // The ID of the client that makes the request, the flow, the letters of the verifier, and the line: the first

@@ -6,7 +6,7 @@ ghost use Rattle.serde_json.specs.Find.{as_str};
 ghost use Rattle.oidc_claims.specs.Additional.{out_of};
 
 use oidc_claims::AdditionalClaims;
-use oidc_members::{FieldName, Member, OutMember, ParseError, ParseKind, Refusal};
+use oidc_members::{FieldName, Member, MemberName, OutMember, ParseError, ParseKind, Refusal};
 use serde_json::Value;
 use std::alloc::{AllocError, Global};
 
@@ -59,7 +59,7 @@ impl AdditionalClaims for Tenant {
     }
 
     fn write(&self, alloc: Global) -> Result<Vec<OutMember>, AllocError> {
-        let name = FieldName::new(String::from_str(alloc, "tenant")?);
+        let name = MemberName::of_word("tenant");
         let value = Value::String(String::from_str(alloc, self.name.as_str())?);
         let mut members = Vec::new(alloc);
         members.push(OutMember { name, value })?;

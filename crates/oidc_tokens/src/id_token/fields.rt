@@ -13,7 +13,9 @@ use crate::id_token::IdToken;
 use oidc_claims::{AdditionalClaims, GenderClaim};
 use oidc_members::{Member, Members, OutMember, ParseError, ParseKind, Reading};
 use oidc_oauth2::ExtraTokenFields;
-use oidc_readers::{FieldValue, MemberReader, Once, put_optional_text, read_fields, refused};
+use oidc_readers::{
+    FieldValue, MemberReader, Once, named, put_optional_text, read_fields, refused,
+};
 use oidc_types::{JweContentEncryptionAlgorithm, JwsSigningAlgorithm};
 use std::alloc::{AllocError, Global};
 use std::marker::Model;
@@ -178,7 +180,7 @@ impl<
 
     fn write(&self, alloc: Global) -> Result<Vec<OutMember>, AllocError> {
         let mut members = Vec::new(alloc);
-        put_optional_text(alloc, &mut members, "id_token", self.token_text())?;
+        put_optional_text(alloc, &mut members, named("id_token"), self.token_text())?;
         let mut extra_fields = self.extra_fields.write(alloc)?;
         members.append(&mut extra_fields)?;
         Ok(members)

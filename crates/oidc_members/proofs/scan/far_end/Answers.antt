@@ -1,6 +1,6 @@
 use Rattle.std.proofs.Common.{◌+◌, ◌≤◌, arith}
 use Rattle.oidc_members.proofs.Passing.{length_range, none_found, none_to_end}
-use Rattle.oidc_members.proofs.scan.plain_end.Goals as goal
+use Rattle.oidc_members.proofs.scan.far_end.Goals as goal
 
 pub returns-in-Some-clause-plain : goal.returns-in-Some-clause-plain
 returns-in-Some-clause-plain c =
