@@ -1,0 +1,11 @@
+mod Bits
+mod Congruence
+mod Digits
+mod Masks
+mod Powers
+mod Residues
+mod Rows
+mod Sizes
+mod Steps
+mod Values
+mod Verdicts
