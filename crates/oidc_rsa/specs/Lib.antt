@@ -5,6 +5,9 @@ pub mod Key
 pub mod Pkcs1
 pub mod Pss
 pub mod Signature
+pub mod ProviderKey
+pub mod Confusion
 -- what no public clause cites
 pub mod Limbs
 pub mod Sound
+pub mod Materials
