@@ -77,3 +77,7 @@ IsReadAs text read = (value : Json) × IsTextOf value text × HasUniqueKeys valu
 abbrev pub OrMemory : {V : Type 0} → Result V KeySetError → Type 0 → Type 0
 OrMemory (Err Memory) Fact = Unit {0}
 OrMemory result Fact = Fact
+
+-- a text is read as this, or there was no memory
+abbrev pub IsRead : List ℕ → Result (List SeenRsaKey) KeySetError → Type 0
+IsRead text read = OrMemory read (IsReadAs text read)

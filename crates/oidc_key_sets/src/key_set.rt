@@ -53,7 +53,7 @@ impl PublishedKeySet {
     /// aren't of their kinds.
     pub fn read(alloc: Global, text: &[u8]) -> Result<PublishedKeySet, KeySetError>
         // The result is what the text is read as, want of memory aside.
-        ensures read { spec.OrMemory result (spec.IsReadAs text.now result) }
+        ensures read { spec.IsRead text.now result }
         ensures caused { (meant : Result (List SeenRsaKey) KeySetError)
             → spec.IsReadAs text.now meant → spec.OrMemory result (result ≡ meant) }
     {
