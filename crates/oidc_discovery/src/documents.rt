@@ -214,6 +214,27 @@ impl ProviderDocument {
         )
     }
 
+    /// The texts of the algorithms by which ID tokens are signed, as they are listed.
+    pub fn signing_algorithms(&self) -> &[Text<ListedMarker>]
+        ensures algorithms { result.now ≡ self.now.needed.signing_algorithms }
+    {
+        self.said.needed.signing_algorithms.as_slice()
+    }
+
+    /// The methods of PKCE challenges, where they are listed.
+    pub fn challenge_methods(&self) -> Option<&[Text<ListedMarker>]>
+        ensures methods { option_copied result ≡ self.now.challenge_methods }
+    {
+        self.said.challenge_methods()
+    }
+
+    /// Whether the answers at the redirect name the issuer (`iss`, RFC 9207 section 3), where that is said.
+    pub fn iss_parameter(&self) -> Option<bool>
+        ensures parameter { result ≡ self.now.iss_parameter }
+    {
+        self.said.iss_parameter
+    }
+
     /// Whether the answers at the redirect name the issuer (`iss`, RFC 9207 section 2). Where they do, a
     /// site takes none without it.
     pub fn names_issuer_in_answers(&self) -> bool

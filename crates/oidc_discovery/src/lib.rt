@@ -23,6 +23,7 @@ mod urls;
 
 pub use crate::documents::ProviderDocument;
 pub use crate::errors::{AnswerError, DocumentError, FetchError, MetadataUrl, PinError};
+pub use crate::metadata::ListedMarker;
 pub use crate::pinned::FetchedMetadata;
 pub use crate::requests::{DocumentRequest, KeySetRequest};
 pub use crate::urls::UrlFault;

@@ -17,7 +17,7 @@ use std::marker::Model;
 
 /// The name of a word that a provider lists.
 #[derive(Drop)]
-pub(crate) struct ListedMarker;
+pub struct ListedMarker;
 
 impl Marker for ListedMarker {
     ghost use Rattle.std.specs.Prelude.{codes};

@@ -3,13 +3,13 @@
 use case_lines::{Case, CaseError, ok_form, ok_pair, refused_word, text_of};
 use hex::encode;
 use oidc_key_sets::{KeyError, KeyMember, KeySetError, PublishedKeySet, RsaJsonWebKey, SigningKeyError};
-use oidc_keys::{CoreJsonWebKeyUse, JsonWebKey};
+use oidc_keys::{CoreJsonWebKeyUse, JsonWebKey, JsonWebKeySet};
 use oidc_pairs::FormText;
 use oidc_rsa::ProviderKey;
 use std::alloc::{AllocError, Global};
 
 // A refusal of a kind, at a field.
-fn refused_at(alloc: Global, kind: &str, field: &str) -> Result<String, CaseError> {
+pub(crate) fn refused_at(alloc: Global, kind: &str, field: &str) -> Result<String, CaseError> {
     let mut form = FormText::new(alloc);
     form.push("kind", kind)?;
     form.push("field", field)?;
@@ -32,7 +32,7 @@ fn refused_key(alloc: Global, error: KeyError) -> Result<String, CaseError> {
 }
 
 // Why a set isn't read.
-fn refused_set(alloc: Global, error: KeySetError) -> Result<String, CaseError> {
+pub(crate) fn refused_set(alloc: Global, error: KeySetError) -> Result<String, CaseError> {
     match error {
         KeySetError::NoJson | KeySetError::NoObject => refused_at(alloc, "syntax", ""),
         KeySetError::DoubledName => refused_at(alloc, "duplicate", ""),
@@ -63,18 +63,22 @@ fn key_line(alloc: Global, key: &RsaJsonWebKey) -> Result<String, AllocError> {
     Ok(line)
 }
 
-/// `key_set`: the keys of a set that are kept.
-pub(crate) fn key_set(alloc: Global, case: &Case) -> Result<String, CaseError> {
-    case.check(&["text"])?;
-    let set = match PublishedKeySet::read(alloc, case.value("text").as_bytes()) {
-        Ok(set) => set,
-        Err(error) => return refused_set(alloc, error),
-    };
+// The keys of a set.
+pub(crate) fn keys_line(alloc: Global, set: &PublishedKeySet) -> Result<String, CaseError> {
     let mut form = FormText::new(alloc);
     for key in set.keys() {
         form.push("key", key_line(alloc, key)?.as_str())?;
     }
     ok_form(alloc, form)
+}
+
+/// `key_set`: the keys of a set that are kept.
+pub(crate) fn key_set(alloc: Global, case: &Case) -> Result<String, CaseError> {
+    case.check(&["text"])?;
+    match PublishedKeySet::read(alloc, case.value("text").as_bytes()) {
+        Ok(set) => keys_line(alloc, &set),
+        Err(error) => refused_set(alloc, error),
+    }
 }
 
 // What a key is for.
@@ -109,22 +113,31 @@ fn refused_signing_key(alloc: Global, error: SigningKeyError) -> Result<String, 
     }
 }
 
-/// `signing_keys`: the keys of a set that check signatures.
-pub(crate) fn signing_keys(alloc: Global, case: &Case) -> Result<String, CaseError> {
-    case.check(&["text"])?;
-    let set = match PublishedKeySet::read(alloc, case.value("text").as_bytes()) {
-        Ok(set) => set,
-        Err(error) => return refused_set(alloc, error),
-    };
-    let keys = match set.signing_keys(alloc) {
-        Ok(keys) => keys,
-        Err(error) => return refused_signing_key(alloc, error),
-    };
+fn signing_keys_line(
+    alloc: Global,
+    keys: &JsonWebKeySet<ProviderKey>,
+) -> Result<String, CaseError> {
     let mut form = FormText::new(alloc);
     for key in keys.keys() {
         form.push("key", signing_key_line(alloc, key)?.as_str())?;
     }
     ok_form(alloc, form)
+}
+
+fn signing_keys_of(alloc: Global, set: &PublishedKeySet) -> Result<String, CaseError> {
+    match set.signing_keys(alloc) {
+        Ok(keys) => signing_keys_line(alloc, &keys),
+        Err(error) => refused_signing_key(alloc, error),
+    }
+}
+
+/// `signing_keys`: the keys of a set that check signatures.
+pub(crate) fn signing_keys(alloc: Global, case: &Case) -> Result<String, CaseError> {
+    case.check(&["text"])?;
+    match PublishedKeySet::read(alloc, case.value("text").as_bytes()) {
+        Ok(set) => signing_keys_of(alloc, &set),
+        Err(error) => refused_set(alloc, error),
+    }
 }
 
 /// `written_key_set`: the text of a set that was read.

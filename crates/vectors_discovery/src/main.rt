@@ -3,6 +3,7 @@
 //! The page of `case_lines` has the rules of lines, README.md the operations.
 #![tactic(auto)]
 
+mod documents;
 mod key_sets;
 mod operations;
 

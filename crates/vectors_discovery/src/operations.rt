@@ -3,7 +3,7 @@
 ghost use Rattle.std.specs.Prelude.{◌≡◌};
 ghost use Rattle.vectors_discovery.specs.Operations as spec;
 
-use crate::key_sets;
+use crate::{documents, key_sets};
 use case_lines::{Case, CaseError, CaseOperation};
 use std::alloc::Global;
 
@@ -13,14 +13,26 @@ pub(crate) enum Operation {
     KeySet,
     SigningKeys,
     WrittenKeySet,
+    Metadata,
+    Pinned,
+    DocumentRequest,
+    DocumentAnswer,
+    KeySetRequest,
+    KeySetAnswer,
 }
 
 impl Operation {
     /// Every operation.
-    const ALL: [Operation; 3] = [
+    const ALL: [Operation; 9] = [
         Operation::KeySet,
         Operation::SigningKeys,
         Operation::WrittenKeySet,
+        Operation::Metadata,
+        Operation::Pinned,
+        Operation::DocumentRequest,
+        Operation::DocumentAnswer,
+        Operation::KeySetRequest,
+        Operation::KeySetAnswer,
     ];
 
     // Its name, the value of `op`.
@@ -31,6 +43,12 @@ impl Operation {
             Operation::KeySet => "key_set",
             Operation::SigningKeys => "signing_keys",
             Operation::WrittenKeySet => "written_key_set",
+            Operation::Metadata => "metadata",
+            Operation::Pinned => "pinned",
+            Operation::DocumentRequest => "document_request",
+            Operation::DocumentAnswer => "document_answer",
+            Operation::KeySetRequest => "key_set_request",
+            Operation::KeySetAnswer => "key_set_answer",
         }
     }
 
@@ -57,6 +75,12 @@ impl CaseOperation for Operation {
             Operation::KeySet => key_sets::key_set(alloc, case),
             Operation::SigningKeys => key_sets::signing_keys(alloc, case),
             Operation::WrittenKeySet => key_sets::written_key_set(alloc, case),
+            Operation::Metadata => documents::metadata(alloc, case),
+            Operation::Pinned => documents::pinned(alloc, case),
+            Operation::DocumentRequest => documents::document_request(alloc, case),
+            Operation::DocumentAnswer => documents::document_answer(alloc, case),
+            Operation::KeySetRequest => documents::key_set_request(alloc, case),
+            Operation::KeySetAnswer => documents::key_set_answer(alloc, case),
         }
     }
 }
