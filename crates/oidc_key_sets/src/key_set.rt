@@ -10,7 +10,7 @@ use crate::errors::KeySetError;
 use crate::key::{RsaJsonWebKey, key_in};
 use crate::members::KeyFault;
 use json::{Error, Scratch, Value};
-use std::alloc::{AllocError, Global};
+use std::alloc::{AllocFailed, Global};
 use std::marker::Model;
 
 /// The most keys that a set may have, those that are left out among them.
@@ -32,13 +32,13 @@ impl Model for PublishedKeySet {
     ghost view = { λ set. set.keys.items };
 }
 
-impl From<AllocError> for KeySetError {
+impl<T: Drop> From<AllocFailed<T>> for KeySetError {
     ghost use Rattle.std.specs.Prelude.{◌≡◌};
     ghost use Rattle.oidc_key_sets.specs.declared.errors.KeySetError.TheVariants.{Memory};
 
     ghost from_gives = { λ _ error. error ≡ Memory };
 
-    fn from(_refused: AllocError) -> KeySetError {
+    fn from(_refused: AllocFailed<T>) -> KeySetError {
         KeySetError::Memory
     }
 }

@@ -13,15 +13,15 @@ use oidc_keys::{CoreJsonWebKeyUse, JsonWebKeySet};
 use oidc_members::FieldName;
 use oidc_rsa::{KeyOperation, ProviderKey, RsaKeyError, RsaPublicKey};
 use oidc_types::{ClosedVocabulary, CoreJwsSigningAlgorithm, JsonWebKeyId};
-use std::alloc::{AllocError, Global};
+use std::alloc::{AllocError, AllocFailed, Global};
 
-impl From<AllocError> for SigningKeyError {
+impl<T: Drop> From<AllocFailed<T>> for SigningKeyError {
     ghost use Rattle.std.specs.Prelude.{◌≡◌};
     ghost use Rattle.oidc_key_sets.specs.declared.errors.SigningKeyError.TheVariants.{Memory};
 
     ghost from_gives = { λ _ error. error ≡ Memory };
 
-    fn from(_refused: AllocError) -> SigningKeyError {
+    fn from(_refused: AllocFailed<T>) -> SigningKeyError {
         SigningKeyError::Memory
     }
 }
