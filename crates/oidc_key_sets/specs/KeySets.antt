@@ -1,5 +1,5 @@
 -- A set of keys as it is published (RFC 7517 section 5), and why a text is none.
-use Rattle.std.specs.Prelude.{◌≡◌, ℕ, ◌+◌, nat_lt, List, [], ◌∷◌, codes, Option, None, Some, Result, Ok, Err, if◌then◌else◌}
+use Rattle.std.specs.Prelude.{◌≡◌, ◌⊎◌, ℕ, ◌+◌, nat_lt, List, [], ◌∷◌, codes, Option, None, Some, Result, Ok, Err, if◌then◌else◌}
 use Rattle.std.specs.Option.{ok_or}
 use Rattle.std.specs.Str.{IsUtf8}
 use Rattle.json.specs.Json.{Json, Items, no_items, item, document}
@@ -60,16 +60,30 @@ IsTextOf value text = IsUtf8 text × (document text ≡ Some value)
 abbrev pub IsJson : List ℕ → Type 0
 IsJson text = (value : Json) × IsTextOf value text
 
--- a value in which some object has a member name twice (RFC 7517 section 4 asks that such keys be rejected)
-abbrev pub HasDoubledName : List ℕ → Type 0
-HasDoubledName text = (value : Json) × IsTextOf value text × (¬ HasUniqueKeys value)
+-- the value that a text is, where no object in it has a member name twice (RFC 7517 section 4 asks that such keys be
+-- rejected)
+pub record IsPlainText (value : Json) (text : List ℕ) : Type 0 where
+  pub of_text : IsTextOf value text
+  pub unique : HasUniqueKeys value
 
--- What a text is read as. No text is read as want of memory.
+-- some object in the value that a text is has a member name twice
+pub record HasDoubledName (text : List ℕ) : Type 0 where
+  pub value : Json
+  pub of_text : IsTextOf value text
+  pub doubled : ¬ HasUniqueKeys value
+
+-- what a text is read as by its value
+pub record IsReadByValue (text : List ℕ) (read : Result (List SeenRsaKey) KeySetError) : Type 0 where
+  pub value : Json
+  pub plain : IsPlainText value text
+  pub said : set_in value ≡ read
+
+-- What a text is read as: that it isn't JSON, that a name stands twice in it, or what its value says.
 abbrev pub IsReadAs : List ℕ → Result (List SeenRsaKey) KeySetError → Type 0
-IsReadAs text (Err NoJson) = ¬ IsJson text
-IsReadAs text (Err DoubledName) = HasDoubledName text
-IsReadAs text (Err Memory) = ⊥
-IsReadAs text read = (value : Json) × IsTextOf value text × HasUniqueKeys value × (set_in value ≡ read)
+IsReadAs text read =
+    ((¬ IsJson text) × (read ≡ Err NoJson))
+    ⊎ ((HasDoubledName text × (read ≡ Err DoubledName))
+    ⊎ IsReadByValue text read)
 
 -- ---- results
 
