@@ -562,7 +562,7 @@ def edited(text, old, new):
 
 def key_set_cases():
     rsa = {"kty": "RSA", "n": "AQAB", "e": "AQAB"}
-    yield "# Sets of keys: what is no set (RFC 8259, RFC 7517 section 5)."
+    yield "# Sets of keys, by tools/plain_discovery.py: what is no set (RFC 8259, RFC 7517 section 5)."
     for text in [
         "", " ", "{", "[]", "null", "{}", '{"keys":null}', '{"keys":{}}', '{"keys":"a"}', '{"keys":[]}', ' {"keys":[]}\n',
         '{"keys":[],}', '{"keys":[]}{}', "\ufeff" + '{"keys":[]}', '{"keys":[1]}', '{"keys":[null]}', '{"keys":[[]]}',
@@ -572,7 +572,7 @@ def key_set_cases():
         '{"a":' + "[" * 128 + "]" * 128 + ',"keys":[]}',
     ]:
         yield case("key_set", text=text)
-    yield "# Sets of keys: RFC 7517 appendixes A.1 to A.3, and the key of A.1 with other members."
+    yield "# Sets of keys, by tools/plain_discovery.py: RFC 7517 appendixes A.1 to A.3, and the key of A.1 with other members."
     for text in [
         set_text(RFC_EC, RFC_RSA),
         set_text({**RFC_EC, "d": "870MB6gfuTJ4HtUnUvYMyJpr5eUZNP4Bk43bVdj3eAE"}),
@@ -582,11 +582,11 @@ def key_set_cases():
     ]:
         yield case("key_set", text=text)
     for name, value in PROVIDER_SETS.items():
-        yield f"# Sets of keys: the published form of {name}."
+        yield f"# Sets of keys, by tools/plain_discovery.py: the published form of {name}."
         for op in ("key_set", "signing_keys", "written_key_set"):
             yield case(op, text=text_of(value))
         yield case("key_set", text=json.dumps(value, indent=2))
-    yield "# Sets of keys: members of a key of RSA (RFC 7517 section 4, RFC 7518 sections 2 and 6.3.1), and kty."
+    yield "# Sets of keys, by tools/plain_discovery.py: members of a key of RSA (RFC 7517 section 4, RFC 7518 sections 2 and 6.3.1), and kty."
     for name in ("kty", "n", "e"):
         yield case("key_set", text=set_text(without(rsa, name)))
         yield case("key_set", text=set_text({**rsa, name: None}))
@@ -617,7 +617,7 @@ def key_set_cases():
     yield case("key_set", text=set_text({"kty": "RSA", "d": "a"}))
     yield case("key_set", text=set_text({"kty": "RSA", "e": 1}))
     yield case("key_set", text=set_text({**rsa, "e": 1, "use": 1, "kid": 1}))
-    yield "# Sets of keys: several keys, names that stand twice, and 256 keys at most."
+    yield "# Sets of keys, by tools/plain_discovery.py: several keys, names that stand twice, and 256 keys at most."
     yield case("key_set", text=set_text({**rsa, "kid": "1"}, {"kty": "x"}, {**rsa, "kid": "2"}, {**rsa, "kid": "1"}))
     yield case("key_set", text=set_text({"kty": "x"}, rsa, without(rsa, "n"), without(rsa, "e")))
     yield case("key_set", text=set_text({"kty": "oct"}, 1))
@@ -629,7 +629,7 @@ def key_set_cases():
         yield case("key_set", text=set_text(*[{"kty": "x"}] * count))
     yield case("key_set", text=set_text(*[{**rsa, "kid": str(place)} for place in range(256)]))
     yield case("key_set", text=set_text(*[{"kty": "oct"}] * 257))
-    yield "# Sets of keys: what checks signatures (RFC 7517 sections 4.2 to 4.4, RFC 8017 section 3.1)."
+    yield "# Sets of keys, by tools/plain_discovery.py: what checks signatures (RFC 7517 sections 4.2 to 4.4, RFC 8017 section 3.1)."
     fit = without(RFC_RSA, "alg")
     for key in [
         fit, RFC_RSA, {**fit, "alg": "none"}, {**fit, "alg": "EdDSA"}, {**fit, "alg": "RSA-OAEP"}, {**fit, "alg": ""},
@@ -650,7 +650,7 @@ def key_set_cases():
 
 def document_cases():
     for issuer, document in PROVIDERS.items():
-        yield f"# Documents of providers: the published form of {issuer}."
+        yield f"# Documents, by tools/plain_discovery.py: the published form of {issuer}."
         yield case("metadata", text=text_of(document), issuer=issuer)
         yield case("metadata", text=json.dumps(document, indent=2), issuer=issuer)
         yield case("metadata", text=text_of(document), issuer=issuer + "/")
@@ -661,7 +661,7 @@ def document_cases():
     yield case("metadata", text=text_of(common), issuer=tenant)
     asked = PLAIN["issuer"]
     text = text_of(PLAIN)
-    yield "# Documents of providers: what is no object (RFC 8259), and members of their kinds (OpenID Connect Discovery 1.0 section 3)."
+    yield "# Documents, by tools/plain_discovery.py: what is no object (RFC 8259), and members of their kinds (OpenID Connect Discovery 1.0 section 3)."
     for it in ["", "[]", "{}", "{", '"a"', '{"issuer":1.5}', text[:-1] + ',"a":1.5}', text[:-1] + ',"a":{"b":1,"b":2}}']:
         yield case("metadata", text=it, issuer=asked)
     yield case("metadata", text=text, issuer=asked)
@@ -673,7 +673,7 @@ def document_cases():
         yield case("metadata", text=text[:-1] + "," + text_of({name: PLAIN[name]})[1:], issuer=asked)
     yield case("metadata", text=text_of({"issuer": 1, "jwks_uri": 1}), issuer=asked)
     yield case("metadata", text=text_of({"jwks_uri": 1, "issuer": 1}), issuer=asked)
-    yield "# Documents of providers: the issuer is the text that was asked for (section 4.3), and which URLs are taken (sections 2 and 3)."
+    yield "# Documents, by tools/plain_discovery.py: the issuer is the text that was asked for (section 4.3), and which URLs are taken (sections 2 and 3)."
     for issuer in ["https://example/i/", "https://example/I", "https://EXAMPLE/i", "https://example:443/i", "https://example/%69"]:
         yield case("metadata", text=text, issuer=issuer)
         yield case("metadata", text=text_of({**PLAIN, "issuer": issuer}), issuer=asked)
@@ -690,18 +690,18 @@ def document_cases():
         yield case("key_set_request", uri=url)
     yield case("metadata", text=text_of({**PLAIN, "token_endpoint": "http://a/", "jwks_uri": "http://a/"}), issuer=asked)
     yield case("metadata", text=text_of({**PLAIN, "jwks_uri": "http://a/", "end_session_endpoint": "http://a/"}), issuer=asked)
-    yield "# Documents of providers: challenge methods (RFC 7636 section 4.2, RFC 8414 section 2) and iss (RFC 9207 section 3)."
+    yield "# Documents, by tools/plain_discovery.py: challenge methods (RFC 7636 section 4.2, RFC 8414 section 2) and iss (RFC 9207 section 3)."
     for methods in ([], ["plain"], ["plain", "S256"], ["s256"], ["S256 "], None):
         yield case("metadata", text=text_of({**PLAIN, "code_challenge_methods_supported": methods}), issuer=asked)
     for flag in (True, False, None, "true", 0):
         given = {**PLAIN, "authorization_response_iss_parameter_supported": flag}
         yield case("metadata", text=text_of(given), issuer=asked)
-    yield "# Documents of providers: the one algorithm that is pinned (RFC 8725 section 3.1)."
+    yield "# Documents, by tools/plain_discovery.py: the one algorithm that is pinned (RFC 8725 section 3.1)."
     for listed in ([], ["RS256"], ["HS256", "RS256"], ["none", "HS256"], ["rs256"], ["x", "PS256"]):
         for alg in ("RS256", "HS256", "PS256", "none", "x"):
             given = {**PLAIN, "id_token_signing_alg_values_supported": listed}
             yield case("pinned", text=text_of(given), issuer=asked, alg=alg)
-    yield "# Requests for documents and sets of keys (OpenID Connect Discovery 1.0 section 4.1)."
+    yield "# Requests for documents and sets of keys, by tools/plain_discovery.py (OpenID Connect Discovery 1.0 section 4.1)."
     for issuer in [
         "https://example.com/", "https://example.com/issuer1", "https://example.com/issuer1/", "https://example.com/issuer1//",
         "example", "https://example.com/" + "a" * 65_480, "https://example.com/" + "a" * 65_481, "https://example.com/%2F/",
@@ -710,7 +710,7 @@ def document_cases():
     for uri in ["https://example.com/", "https://example.com/keys?a=b&c", "https://example.com/" + "a" * 65_514,
                 "https://example.com/" + "a" * 65_515]:
         yield case("key_set_request", uri=uri)
-    yield "# Answers to them (section 4.2, RFC 7517 section 8.5)."
+    yield "# Answers to them, by tools/plain_discovery.py (section 4.2, RFC 7517 section 8.5)."
     keys = set_text(RFC_RSA)
     for status in ("200", "201", "204", "301", "302", "400", "404", "500", "99", "2000", "abc"):
         yield case("document_answer", issuer=asked, status=status, type="application/json", body=text)
