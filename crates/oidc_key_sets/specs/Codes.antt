@@ -1,9 +1,10 @@
--- How the logic stores keys, and what the steps of reading one answer. No public clause cites this.
+-- How the logic stores keys, what the writer knows of their numbers, and what the steps of reading one answer. No public clause cites this.
 use Rattle.std.specs.Prelude.{◌≡◌, ℕ, List, Option, Result, Ok, Err, refl}
 use Rattle.std.specs.Coded.{Coded, code_by, coded×, coded_option, coded_list, coded_ℕ}
 use Rattle.oidc_key_sets.specs.declared.errors.KeyError.{KeyError}
 use Rattle.oidc_key_sets.specs.declared.members.KeyFault.{KeyFault}
 use Rattle.oidc_key_sets.specs.declared.members.KeyFault.TheVariants.{Refused, Memory}
+use Rattle.oidc_key_sets.specs.Numbers.{IsNumber}
 use Rattle.oidc_key_sets.specs.Keys.{SeenRsaKey}
 
 abbrev text_code : Coded (List ℕ)
@@ -31,6 +32,11 @@ rsa_key_code =
       id = p.1.1.1.1.1;
     })
     (λ _. refl)
+
+-- the numbers of a key are read again of what is written of them
+pub record HasNumbers (key : SeenRsaKey) : Type 0 where
+  pub modulus : IsNumber key.modulus
+  pub exponent : IsNumber key.exponent
 
 -- The answer is the one that is meant, or want of memory.
 abbrev pub GivesKey : {V : Type 0} → Result V KeyError → Result V KeyFault → Type 0

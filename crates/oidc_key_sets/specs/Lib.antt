@@ -6,3 +6,4 @@ pub mod SigningKeys
 pub mod Written
 -- what no public clause cites
 pub mod Codes
+pub mod WrittenSeen

@@ -5,6 +5,7 @@ ghost use Rattle.std.specs.Option.{option_copied};
 ghost use Rattle.json.specs.Value.{value_view};
 ghost use Rattle.oidc_key_sets.specs.Keys as spec;
 ghost use Rattle.oidc_key_sets.specs.Codes.{GivesKey};
+ghost use Rattle.oidc_key_sets.specs.Numbers.{IsNumber};
 
 use crate::errors::{KeyError, KeyMember};
 use crate::members::{
@@ -60,6 +61,7 @@ impl RsaJsonWebKey {
     /// The octets of the modulus, the highest first (`n`).
     pub fn modulus(&self) -> &[u8]
         ensures modulus { result.now ≡ self.now.modulus }
+        ensures number { IsNumber self.now.modulus }
     {
         self.modulus.as_slice()
     }
@@ -67,6 +69,7 @@ impl RsaJsonWebKey {
     /// The octets of the exponent, the highest first (`e`).
     pub fn exponent(&self) -> &[u8]
         ensures exponent { result.now ≡ self.now.exponent }
+        ensures number { IsNumber self.now.exponent }
     {
         self.exponent.as_slice()
     }

@@ -1,6 +1,6 @@
 //! A set of keys as it is published, and its reading.
 
-ghost use Rattle.std.specs.Prelude.{◌≡◌, Ok, Err, Result, List, ◌<◌};
+ghost use Rattle.std.specs.Prelude.{◌≡◌, ◌≤◌, length, List, Result};
 ghost use Rattle.json.specs.Value.{value_view, items_view};
 ghost use Rattle.oidc_key_sets.specs.declared.errors.KeySetError.{KeySetError};
 ghost use Rattle.oidc_key_sets.specs.Keys.{SeenRsaKey};
@@ -24,12 +24,14 @@ pub struct PublishedKeySet {
 }
 
 impl Model for PublishedKeySet {
-    ghost use Rattle.std.specs.Prelude.{List};
+    ghost use Rattle.std.specs.Prelude.{◌≤◌, length, List};
     ghost use Rattle.oidc_key_sets.specs.Keys.{SeenRsaKey};
 
     ghost Value = { List SeenRsaKey };
 
     ghost view = { λ set. set.keys.items };
+
+    ghost invariant = { λ set. length set.keys.items ≤ 256 };
 }
 
 impl<T: Drop> From<AllocFailed<T>> for KeySetError {
@@ -70,9 +72,10 @@ impl PublishedKeySet {
         }
     }
 
-    /// The keys.
+    /// The keys, of which there are at most 256.
     pub fn keys(&self) -> &[RsaJsonWebKey]
         ensures keys { result.now ≡ self.now }
+        ensures count { length self.now ≤ 256 }
     {
         self.keys.as_slice()
     }
@@ -80,6 +83,7 @@ impl PublishedKeySet {
 
 // The keys of RSA that values are, the first that is refused refusing them.
 fn keys_of(alloc: Global, values: &[Value<'_>]) -> Result<PublishedKeySet, KeySetError>
+    requires { length values.now ≤ 256 }
     ensures { spec.OrMemory result (spec.keys_from 0 (items_view values.now) ≡ result) }
 {
     let mut keys = Vec::new(alloc);

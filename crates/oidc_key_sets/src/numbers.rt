@@ -17,15 +17,21 @@ pub struct Octets {
 impl Model for Octets {
     ghost use Rattle.std.specs.Prelude.{List, ℕ};
 
+    ghost use Rattle.oidc_key_sets.specs.Numbers.{IsNumber};
+
     ghost Value = { List ℕ };
 
     ghost view = { λ o. o.octets.items };
+
+    ghost invariant = { λ o. IsNumber o.octets.items };
 }
 
 impl Octets {
     /// The octets.
     pub fn as_slice(&self) -> &[u8]
         ensures octets { result.now ≡ self.now }
+        // They are read again of their base64url.
+        ensures number { spec.IsNumber self.now }
     {
         self.octets.as_slice()
     }

@@ -1,0 +1,44 @@
+-- A set that is written is read as the same.
+use Rattle.std.proofs.Common.{◌≡◌, ◌≢◌, ℕ, ◌+◌, ◌≤◌, suc, Bool, true, false, List, [], ◌∷◌, ◌++◌, length, map, All, Option, Some, None, Result, Ok, Err, refl, sym, ap, ◌∙◌, option_map, option_and_then, codes}
+use Rattle.json.specs.Json.{Json, Items, no_items, item, string, array, object}
+use Rattle.json.specs.Value.{items_of}
+use Rattle.oidc_key_sets.specs.declared.errors.KeyError.{KeyError}
+use Rattle.oidc_key_sets.specs.declared.errors.KeySetError.{KeySetError}
+use Rattle.oidc_key_sets.specs.Numbers.{octets_of, encoded, IsNumber}
+use Rattle.oidc_key_sets.specs.Keys.{SeenRsaKey, texts_in, key_in, rsa_key_in}
+use Rattle.oidc_key_sets.specs.KeySets.{set_in, keys_from, with_key}
+use Rattle.oidc_key_sets.specs.Written.{written_key, written_set, members_of, key_members}
+use Rattle.oidc_key_sets.specs.Codes.{HasNumbers}
+
+-- the texts of an array come back
+texts_back : (texts : List (List ℕ)) → texts_in (items_of (map string texts)) ≡ Some texts
+texts_back [] = refl
+texts_back (text ∷ texts) = ap (λ rest. option_map (λ texts. text ∷ texts) rest) (texts_back texts)
+
+-- a key whose numbers are read back, by what it has
+abbrev key : List ℕ → List ℕ → Option (List ℕ) → Option (List (List ℕ)) → Option (List ℕ) → Option (List ℕ) → SeenRsaKey
+key m e purpose operations algorithm id = record { modulus = m; exponent = e; purpose = purpose; operations = operations; algorithm = algorithm; id = id }
+
+module _ (m e : List ℕ) (of_m : octets_of (encoded m) ≡ Some m) (of_e : octets_of (encoded e) ≡ Some e) where
+  rsa_back : (u : Option (List ℕ)) (o : Option (List (List ℕ))) (a i : Option (List ℕ))
+      → key_in (written_key (key m e u o a i)) ≡ Ok (Some (key m e u o a i))
+  unfolding key_in rsa_key_in written_key
+  rsa_back None None None None = rw (of_m, of_e) refl
+  rsa_back None None None (Some i) = rw (of_m, of_e) refl
+  rsa_back None None (Some a) None = rw (of_m, of_e) refl
+  rsa_back None None (Some a) (Some i) = rw (of_m, of_e) refl
+  rsa_back None (Some o) None None = rw (of_m, of_e, texts_back o) refl
+  rsa_back None (Some o) None (Some i) = rw (of_m, of_e, texts_back o) refl
+  rsa_back None (Some o) (Some a) None = rw (of_m, of_e, texts_back o) refl
+  rsa_back None (Some o) (Some a) (Some i) = rw (of_m, of_e, texts_back o) refl
+  rsa_back (Some u) None None None = rw (of_m, of_e) refl
+  rsa_back (Some u) None None (Some i) = rw (of_m, of_e) refl
+  rsa_back (Some u) None (Some a) None = rw (of_m, of_e) refl
+  rsa_back (Some u) None (Some a) (Some i) = rw (of_m, of_e) refl
+  rsa_back (Some u) (Some o) None None = rw (of_m, of_e, texts_back o) refl
+  rsa_back (Some u) (Some o) None (Some i) = rw (of_m, of_e, texts_back o) refl
+  rsa_back (Some u) (Some o) (Some a) None = rw (of_m, of_e, texts_back o) refl
+  rsa_back (Some u) (Some o) (Some a) (Some i) = rw (of_m, of_e, texts_back o) refl
+
+pub key_back : (k : SeenRsaKey) → HasNumbers k → key_in (written_key k) ≡ Ok (Some k)
+key_back k h = rsa_back k.modulus k.exponent h.modulus h.exponent k.purpose k.operations k.algorithm k.id
