@@ -102,7 +102,7 @@ pub enum AnswerError<E> {
     #[error("another media type")]
     MediaType,
     /// The body is refused, or there was no memory to read it.
-    #[error("{0}")]
+    #[error("a text that is refused")]
     Refused(E),
 }
 
