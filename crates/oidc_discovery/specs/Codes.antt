@@ -14,8 +14,8 @@ Part = Option TextAndUrl
 abbrev part_code : Coded Part
 part_code = coded_option text_and_url_code
 
-abbrev pub needed_code : Coded SeenNeeded
-needed_code =
+abbrev pub needed_fields_code : Coded SeenNeeded
+needed_fields_code =
     code_by (TextAndUrl × (TextAndUrl × (TextAndUrl × List (List ℕ))))
     (coded× text_and_url_code (coded× text_and_url_code (coded× text_and_url_code texts_code)))
     (λ n. (n.issuer, (n.authorization_endpoint, (n.jwks_uri, n.signing_algorithms))))
@@ -25,7 +25,7 @@ needed_code =
 abbrev pub metadata_code : Coded SeenMetadata
 metadata_code =
     code_by (SeenNeeded × (Part × (Part × (Part × (Option (List (List ℕ)) × Option Bool)))))
-    (coded× needed_code
+    (coded× needed_fields_code
     (coded× part_code (coded× part_code (coded× part_code (coded× (coded_option texts_code) (coded_option coded_bool))))))
     (λ m. (m.needed, (m.token_endpoint, (m.userinfo_endpoint, (m.end_session_endpoint, (m.challenge_methods, m.iss_parameter))))))
     (λ p. record {

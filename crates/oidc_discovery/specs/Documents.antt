@@ -61,10 +61,10 @@ of_parse_error (Refused refusal) = Parse refusal
 of_parse_error parsing.Memory = Memory
 
 -- the fact, unless the result is want of memory
-abbrev pub OrMemory : {V : Type 0} → Result V DocumentError → Type 0 → Type 0
-OrMemory (Err Memory) Fact = Unit {0}
-OrMemory result Fact = Fact
+abbrev pub UnlessMemory : {V : Type 0} → Result V DocumentError → Type 0 → Type 0
+UnlessMemory (Err Memory) Fact = Unit {0}
+UnlessMemory result Fact = Fact
 
 -- a text is read as this for the issuer that was asked for, or there was no memory
 abbrev pub IsReadFor : List ℕ → List ℕ → Result SeenMetadata DocumentError → Type 0
-IsReadFor asked text read = OrMemory read (document_of asked text ≡ read)
+IsReadFor asked text read = UnlessMemory read (document_of asked text ≡ read)

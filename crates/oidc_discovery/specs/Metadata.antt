@@ -71,8 +71,8 @@ pub record SeenMetadata : Type 0 where
   pub challenge_methods : Option (List (List ℕ))
   pub iss_parameter : Option Bool
 
-unfoldable pub needed_of : List SeenMember → Result SeenNeeded Refusal
-needed_of members = do
+unfoldable pub needed_fields_of : List SeenMember → Result SeenNeeded Refusal
+needed_fields_of members = do
   named ← required issuer members
   authorization ← required authorization_endpoint members
   keys ← required jwks_uri members
@@ -88,7 +88,7 @@ needed_of members = do
 unfoldable pub metadata_of : List SeenMember → Result SeenMetadata Refusal
 metadata_of members = do
   u ← faultless metadata_rule members
-  there ← needed_of members
+  there ← needed_fields_of members
   Ok (record {
     needed = there;
     token_endpoint = optional token_endpoint members;

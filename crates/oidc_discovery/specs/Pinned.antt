@@ -44,6 +44,6 @@ pinned said algorithm keys =
     if lists said algorithm then Ok (metadata_with said (algorithm ∷ []) keys) else Err NotListed
 
 -- the fact, unless the result is want of memory
-abbrev pub OrMemory : {V : Type 0} → Result V PinError → Type 0 → Type 0
-OrMemory (Err Memory) Fact = Unit {0}
-OrMemory result Fact = Fact
+abbrev pub UnlessMemory : {V : Type 0} → Result V PinError → Type 0 → Type 0
+UnlessMemory (Err Memory) Fact = Unit {0}
+UnlessMemory result Fact = Fact

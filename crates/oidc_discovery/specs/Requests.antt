@@ -58,6 +58,6 @@ key_set_request uri = do
   get_url uri.url
 
 -- the result is the one that is meant, or want of memory
-abbrev pub Prepares : Result SeenRequest FetchError → Result SeenRequest FetchError → Type 0
-Prepares (Err Memory) meant = Unit {0}
-Prepares result meant = meant ≡ result
+abbrev pub IsPrepared : Result SeenRequest FetchError → Result SeenRequest FetchError → Type 0
+IsPrepared (Err Memory) meant = Unit {0}
+IsPrepared result meant = meant ≡ result

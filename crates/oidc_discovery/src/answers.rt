@@ -10,9 +10,7 @@ use crate::documents::ProviderDocument;
 use crate::errors::{AnswerError, DocumentError};
 use crate::requests::{DocumentRequest, KeySetRequest};
 use oidc_key_sets::{KeySetError, PublishedKeySet};
-use oidc_oauth2::{
-    HttpResponse, MAX_BODY, MIME_TYPE_JSON, MIME_TYPE_JWKS, check_content_type,
-};
+use oidc_oauth2::{HttpResponse, MAX_BODY, MIME_TYPE_JSON, MIME_TYPE_JWKS, check_content_type};
 use oidc_types::Body;
 use std::alloc::Global;
 

@@ -150,7 +150,7 @@ impl ProviderDocument {
         asked: &IssuerUrl,
         text: &[u8],
     ) -> Result<ProviderDocument, DocumentError>
-        ensures read { spec.OrMemory result (spec.document_of asked.now.text text.now ≡ result) }
+        ensures read { spec.UnlessMemory result (spec.document_of asked.now.text text.now ≡ result) }
     {
         let said = metadata_of(alloc, text)?;
         match said.check(asked) {

@@ -4,7 +4,7 @@ ghost use Rattle.std.specs.Prelude.{◌≡◌, [], option_map};
 ghost use Rattle.oidc_members.specs.Answers.{Answers};
 ghost use Rattle.oidc_readers.specs.Slots.{slot};
 ghost use Rattle.oidc_discovery.specs.Metadata as spec;
-ghost use Rattle.oidc_discovery.specs.Metadata.{needed_of, metadata_of};
+ghost use Rattle.oidc_discovery.specs.Metadata.{needed_fields_of, metadata_of};
 ghost use Rattle.oidc_discovery.specs.MetadataFields.{metadata_fields};
 
 use oidc_members::{Member, Members, ParseError, Reading};
@@ -40,11 +40,11 @@ pub(crate) struct Needed {
 
 impl Model for Needed {
     ghost use Rattle.oidc_discovery.specs.Metadata.{SeenNeeded};
-    ghost use Rattle.oidc_discovery.specs.Codes.{needed_code};
+    ghost use Rattle.oidc_discovery.specs.Codes.{needed_fields_code};
 
     ghost Value = { SeenNeeded };
 
-    ghost coded = { needed_code };
+    ghost coded = { needed_fields_code };
 
     ghost view = { λ n. record {
       issuer = n.issuer;
@@ -130,18 +130,35 @@ impl MemberReader for MetadataFields {
     ) -> Result<(), ParseError> {
         self.issuer
             .take(alloc, "issuer", member)
-            .and(self.authorization_endpoint.take(alloc, "authorization_endpoint", member))
+            .and(
+                self.authorization_endpoint
+                    .take(alloc, "authorization_endpoint", member),
+            )
             .and(self.token_endpoint.take(alloc, "token_endpoint", member))
-            .and(self.userinfo_endpoint.take(alloc, "userinfo_endpoint", member))
+            .and(
+                self.userinfo_endpoint
+                    .take(alloc, "userinfo_endpoint", member),
+            )
             .and(self.jwks_uri.take(alloc, "jwks_uri", member))
-            .and(self.signing_algorithms.take(alloc, "id_token_signing_alg_values_supported", member))
-            .and(self.end_session_endpoint.take(alloc, "end_session_endpoint", member))
-            .and(self.challenge_methods.take(alloc, "code_challenge_methods_supported", member))
-            .and(self.iss_parameter.take(
-                alloc,
-                "authorization_response_iss_parameter_supported",
-                member,
-            ))
+            .and(
+                self.signing_algorithms
+                    .take(alloc, "id_token_signing_alg_values_supported", member),
+            )
+            .and(
+                self.end_session_endpoint
+                    .take(alloc, "end_session_endpoint", member),
+            )
+            .and(
+                self.challenge_methods
+                    .take(alloc, "code_challenge_methods_supported", member),
+            )
+            .and(
+                self.iss_parameter.take(
+                    alloc,
+                    "authorization_response_iss_parameter_supported",
+                    member,
+                ),
+            )
     }
 }
 
@@ -155,7 +172,7 @@ struct NeededFields {
 }
 
 // The fields that have to be there.
-#[tactic(auto, unfolding(crate::specs::Metadata::needed_of, oidc_readers::specs::Slots::slot))]
+#[tactic(auto, unfolding(crate::specs::Metadata::needed_fields_of, oidc_readers::specs::Slots::slot))]
 fn needed_in(alloc: Global, fields: NeededFields, _members: &Members) -> Result<Needed, ParseError>
     requires issuer { fields.issuer ≡ slot spec.issuer _members.now.list }
     requires authorization_endpoint { fields.authorization_endpoint
@@ -163,7 +180,7 @@ fn needed_in(alloc: Global, fields: NeededFields, _members: &Members) -> Result<
     requires jwks_uri { fields.jwks_uri ≡ slot spec.jwks_uri _members.now.list }
     requires signing_algorithms { fields.signing_algorithms
         ≡ slot spec.signing_algorithms _members.now.list }
-    ensures { Answers (needed_of _members.now.list) result }
+    ensures { Answers (needed_fields_of _members.now.list) result }
 {
     let issuer = fields.issuer.required(alloc, "issuer")?;
     let authorization_endpoint = fields

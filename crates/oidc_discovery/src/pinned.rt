@@ -68,7 +68,7 @@ impl ProviderDocument {
         algorithm: CoreJwsSigningAlgorithm,
         keys: JsonWebKeySet<ProviderKey>,
     ) -> Result<FetchedMetadata, PinError>
-        ensures metadata { spec.OrMemory result (spec.pinned self algorithm keys ≡ result) }
+        ensures metadata { spec.UnlessMemory result (spec.pinned self algorithm keys ≡ result) }
         // Whatever the document lists.
         ensures alone { IfOk result (λ made. made.signing_algorithms ≡ algorithm ∷ []) }
     {

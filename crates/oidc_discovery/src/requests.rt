@@ -64,7 +64,7 @@ fn get(alloc: Global, address: &str) -> Result<HttpRequest, AllocError>
 
 // The GET of a URL.
 fn get_url(alloc: Global, url: &Url) -> Result<HttpRequest, FetchError>
-    ensures { spec.Prepares result (spec.get_url url.now) }
+    ensures { spec.IsPrepared result (spec.get_url url.now) }
 {
     if !is_address(url.as_str()) {
         return Err(FetchError::Address);
@@ -87,7 +87,7 @@ impl<'a> DocumentRequest<'a> {
     /// 0x7E.
     #[tactic(auto, unfolding(crate::specs::Requests::document_request))]
     pub fn prepare(&self, alloc: Global) -> Result<HttpRequest, FetchError>
-        ensures prepared { spec.Prepares result (spec.document_request self.now) }
+        ensures prepared { spec.IsPrepared result (spec.document_request self.now) }
     {
         if let Some(fault) = issuer_fault(self.issuer) {
             return Err(FetchError::Url(fault));
@@ -112,7 +112,7 @@ impl<'a> KeySetRequest<'a> {
     /// `Address` where it has more than 65,534 bytes, or one that isn't from 0x21 to 0x7E.
     #[tactic(auto, unfolding(crate::specs::Requests::key_set_request))]
     pub fn prepare(&self, alloc: Global) -> Result<HttpRequest, FetchError>
-        ensures prepared { spec.Prepares result (spec.key_set_request self.now) }
+        ensures prepared { spec.IsPrepared result (spec.key_set_request self.now) }
     {
         if let Some(fault) = url_fault(self.uri) {
             return Err(FetchError::Url(fault));

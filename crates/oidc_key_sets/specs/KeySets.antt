@@ -88,10 +88,10 @@ IsReadAs text read =
 -- ---- results
 
 -- the fact, unless the result is want of memory
-abbrev pub OrMemory : {V : Type 0} → Result V KeySetError → Type 0 → Type 0
-OrMemory (Err Memory) Fact = Unit {0}
-OrMemory result Fact = Fact
+abbrev pub UnlessMemory : {V : Type 0} → Result V KeySetError → Type 0 → Type 0
+UnlessMemory (Err Memory) Fact = Unit {0}
+UnlessMemory result Fact = Fact
 
 -- a text is read as this, or there was no memory
 abbrev pub IsRead : List ℕ → Result (List SeenRsaKey) KeySetError → Type 0
-IsRead text read = OrMemory read (IsReadAs text read)
+IsRead text read = UnlessMemory read (IsReadAs text read)

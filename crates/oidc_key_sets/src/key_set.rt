@@ -57,7 +57,7 @@ impl PublishedKeySet {
         // The result is what the text is read as, want of memory aside.
         ensures read { spec.IsRead text.now result }
         ensures caused { (meant : Result (List SeenRsaKey) KeySetError)
-            → spec.IsReadAs text.now meant → spec.OrMemory result (result ≡ meant) }
+            → spec.IsReadAs text.now meant → spec.UnlessMemory result (result ≡ meant) }
     {
         let Ok(text) = str::from_utf8(text) else {
             return Err(KeySetError::NoJson);
@@ -84,7 +84,7 @@ impl PublishedKeySet {
 // The keys of RSA that values are, the first that is refused refusing them.
 fn keys_of(alloc: Global, values: &[Value<'_>]) -> Result<PublishedKeySet, KeySetError>
     requires { length values.now ≤ 256 }
-    ensures { spec.OrMemory result (spec.keys_from 0 (items_view values.now) ≡ result) }
+    ensures { spec.UnlessMemory result (spec.keys_from 0 (items_view values.now) ≡ result) }
 {
     let mut keys = Vec::new(alloc);
     for (place, value) in values.iter().enumerate() {
@@ -100,7 +100,7 @@ fn keys_of(alloc: Global, values: &[Value<'_>]) -> Result<PublishedKeySet, KeySe
 
 // The keys of RSA that an array has.
 fn keys_among(alloc: Global, keys: &Value<'_>) -> Result<PublishedKeySet, KeySetError>
-    ensures { spec.OrMemory result (spec.array_in (value_view keys.now) ≡ result) }
+    ensures { spec.UnlessMemory result (spec.array_in (value_view keys.now) ≡ result) }
 {
     match keys {
         Value::Array(values) => {
@@ -117,7 +117,7 @@ fn keys_among(alloc: Global, keys: &Value<'_>) -> Result<PublishedKeySet, KeySet
 // The keys of RSA that a set has.
 #[tactic(auto, unfolding(crate::specs::KeySets::set_in))]
 fn set_in(alloc: Global, set: &Value<'_>) -> Result<PublishedKeySet, KeySetError>
-    ensures { spec.OrMemory result (spec.set_in (value_view set.now) ≡ result) }
+    ensures { spec.UnlessMemory result (spec.set_in (value_view set.now) ≡ result) }
 {
     match set {
         Value::Object(_) => match set.get("keys") {

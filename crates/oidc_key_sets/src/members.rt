@@ -73,13 +73,7 @@ fn found<'v, 'a>(key: &'v Value<'a>, member: KeyMember) -> Option<&'v Value<'a>>
         ≡ spec.found member (value_view key.now) }
 {
     match key.get(member.name()) {
-        Some(value) => {
-            if value.is_null() {
-                None
-            } else {
-                Some(value)
-            }
-        }
+        Some(value) => { if value.is_null() { None } else { Some(value) } }
         None => None,
     }
 }

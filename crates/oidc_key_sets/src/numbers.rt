@@ -16,7 +16,6 @@ pub struct Octets {
 
 impl Model for Octets {
     ghost use Rattle.std.specs.Prelude.{List, ℕ};
-
     ghost use Rattle.oidc_key_sets.specs.Numbers.{IsNumber};
 
     ghost Value = { List ℕ };

@@ -181,10 +181,7 @@ impl PublishedKeySet {
     ///
     /// `Modulus` and `Exponent` refuse the first key whose numbers aren't allowed
     /// ([`RsaPublicKey::new`]).
-    pub fn signing_keys(
-        &self,
-        alloc: Global,
-    ) -> Result<JsonWebKeySet<ProviderKey>, SigningKeyError>
+    pub fn signing_keys(&self, alloc: Global) -> Result<JsonWebKeySet<ProviderKey>, SigningKeyError>
         ensures keys { IfOk result (spec.AreSigningKeysOf self.now) }
         ensures allowed { IfOk result (λ _. All spec.IsAllowed (filter spec.may_check self.now)) }
         ensures cause { IfErr result (spec.Cause self.now) }

@@ -140,10 +140,7 @@ fn put_texts_if<'t>(
 }
 
 // The members of a key.
-fn key_members<'t>(
-    alloc: Global,
-    encoded: &'t EncodedKey<'t>,
-) -> Result<OutMembers<'t>, AllocError>
+fn key_members<'t>(alloc: Global, encoded: &'t EncodedKey<'t>) -> Result<OutMembers<'t>, AllocError>
     ensures { IfOk result (λ members. seen members.items ≡ spec.key_members encoded.now) }
 {
     let key = encoded.key();

@@ -2,12 +2,12 @@
 
 use crate::key_sets::{keys_line, refused_at, refused_set};
 use case_lines::{
-    Case, CaseError, algorithm, ok_form, ok_pair, push_some, refused_reading, refused_word, request_line,
-    response_in, url_of,
+    Case, CaseError, algorithm, ok_form, ok_pair, push_some, refused_reading, refused_word,
+    request_line, response_in, url_of,
 };
 use oidc_discovery::{
-    AnswerError, DocumentError, DocumentRequest, FetchError, FetchedMetadata, KeySetRequest, PinError,
-    ProviderDocument, UrlFault,
+    AnswerError, DocumentError, DocumentRequest, FetchError, FetchedMetadata, KeySetRequest,
+    PinError, ProviderDocument, UrlFault,
 };
 use oidc_keys::JsonWebKeySet;
 use oidc_members::ParseError;
@@ -84,10 +84,7 @@ fn push_words(
     document: &ProviderDocument,
 ) -> Result<(), AllocError> {
     let algorithms = joined(alloc, document.signing_algorithms())?;
-    form.push(
-        "id_token_signing_alg_values_supported",
-        algorithms.as_str(),
-    )?;
+    form.push("id_token_signing_alg_values_supported", algorithms.as_str())?;
     push_some(
         form,
         "end_session_endpoint",

@@ -2,7 +2,9 @@
 
 use case_lines::{Case, CaseError, ok_form, ok_pair, refused_word, text_of};
 use hex::encode;
-use oidc_key_sets::{KeyError, KeyMember, KeySetError, PublishedKeySet, RsaJsonWebKey, SigningKeyError};
+use oidc_key_sets::{
+    KeyError, KeyMember, KeySetError, PublishedKeySet, RsaJsonWebKey, SigningKeyError,
+};
 use oidc_keys::{CoreJsonWebKeyUse, JsonWebKey, JsonWebKeySet};
 use oidc_pairs::FormText;
 use oidc_rsa::ProviderKey;
