@@ -28,15 +28,19 @@ abbrev pub lacks_s256 : Option (List (List ℕ)) → Bool
 lacks_s256 None = false
 lacks_s256 (Some methods) = not (list_any (λ method. bytes_eq method (codes "S256")) methods)
 
+-- what stands against a URL refuses it
+abbrev pub unless_faulty : MetadataUrl → Option UrlFault → Result (Unit {0}) DocumentError
+unless_faulty url fault = Url url for fault
+
 -- Each URL is one that is taken.
 abbrev pub urls_checked : SeenMetadata → Result (Unit {0}) DocumentError
 urls_checked said = do
-  Url Issuer for issuer_fault said.needed.issuer
-  Url AuthorizationEndpoint for url_fault said.needed.authorization_endpoint
-  Url TokenEndpoint for fault_if_there said.token_endpoint
-  Url UserinfoEndpoint for fault_if_there said.userinfo_endpoint
-  Url JwksUri for url_fault said.needed.jwks_uri
-  Url EndSessionEndpoint for fault_if_there said.end_session_endpoint
+  unless_faulty Issuer (issuer_fault said.needed.issuer)
+  unless_faulty AuthorizationEndpoint (url_fault said.needed.authorization_endpoint)
+  unless_faulty TokenEndpoint (fault_if_there said.token_endpoint)
+  unless_faulty UserinfoEndpoint (fault_if_there said.userinfo_endpoint)
+  unless_faulty JwksUri (url_fault said.needed.jwks_uri)
+  unless_faulty EndSessionEndpoint (fault_if_there said.end_session_endpoint)
 
 -- The issuer is the text that was asked for, byte for byte (4.3).
 unfoldable pub checked : List ℕ → SeenMetadata → Result (Unit {0}) DocumentError

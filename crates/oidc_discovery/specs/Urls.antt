@@ -1,8 +1,9 @@
 -- Which URLs of a provider are taken (OpenID Connect Discovery 1.0 sections 2, 3 and 7.1).
-use Rattle.std.specs.Prelude.{ℕ, ◌==◌, List, [], Bool, true, false, not, ◌||◌, is_some, codes, Option, None, Some, if◌then◌else◌}
+use Rattle.std.specs.Prelude.{ℕ, ◌==◌, List, Bool, true, false, not, ◌||◌, is_some, codes, Option, None, Some}
 use Rattle.std.specs.List.{list_any}
 use Rattle.std.specs.Option.{option_or}
 use Rattle.std.specs.Str.{bytes_eq}
+use Rattle.url.specs.Input.{is_empty}
 use Rattle.url.specs.Parts.{Parts}
 use Rattle.oidc_types.specs.{TextAndUrl}
 use Rattle.oidc_discovery.specs.declared.urls.UrlFault.{UrlFault}
@@ -11,10 +12,6 @@ use Rattle.oidc_discovery.specs.declared.urls.UrlFault.TheVariants.{Scheme, Cred
 abbrev pub fault_if : Bool → UrlFault → Option UrlFault → Option UrlFault
 fault_if true fault later = Some fault
 fault_if false fault later = later
-
-abbrev pub is_empty : List ℕ → Bool
-is_empty [] = true
-is_empty _ = false
 
 -- it has a user or a password
 abbrev pub has_credentials : Parts → Bool

@@ -5,9 +5,8 @@ ghost use Rattle.std.specs.List.{list_any};
 ghost use Rattle.std.specs.Option.{option_copied};
 ghost use Rattle.std.specs.Str.{bytes_eq};
 ghost use Rattle.oidc_members.specs.Answers.{Answers};
-ghost use Rattle.oidc_oauth2.specs.Replies.{◌for◌};
 ghost use Rattle.oidc_discovery.specs.Documents as spec;
-ghost use Rattle.oidc_discovery.specs.Pinned.{lists};
+ghost use Rattle.oidc_discovery.specs.Pinned as pin;
 
 use crate::errors::{DocumentError, MetadataUrl};
 use crate::metadata::{ListedMarker, Metadata, metadata_in};
@@ -54,7 +53,7 @@ impl From<ParseError> for DocumentError {
 
 // A refusal for what stands against a URL, where something does.
 fn unless_faulty(url: MetadataUrl, fault: Option<UrlFault>) -> Result<(), DocumentError>
-    ensures { result ≡ (DocumentError.Url url for fault) }
+    ensures { result ≡ spec.unless_faulty url fault }
 {
     match fault {
         None => Ok(()),
@@ -206,7 +205,7 @@ impl ProviderDocument {
 
     /// Whether the provider says that it signs ID tokens by an algorithm.
     pub fn lists(&self, algorithm: CoreJwsSigningAlgorithm) -> bool
-        ensures lists { result ≡ lists self.now algorithm }
+        ensures lists { result ≡ pin.lists self.now algorithm }
     {
         has_text(
             self.said.needed.signing_algorithms.as_slice(),
@@ -240,6 +239,9 @@ impl ProviderDocument {
     pub fn names_issuer_in_answers(&self) -> bool
         ensures parameter { result ≡ unwrap_or self.now.iss_parameter false }
     {
-        self.said.iss_parameter == Some(true)
+        match self.said.iss_parameter {
+            Some(flag) => flag,
+            None => false,
+        }
     }
 }

@@ -15,6 +15,7 @@ use std::marker::Model;
 use url::Url;
 
 /// The request for the document of a provider. Contracts see its issuer.
+#[derive(Drop)]
 pub struct DocumentRequest<'a> {
     pub(crate) issuer: &'a IssuerUrl,
 }
@@ -28,6 +29,7 @@ impl<'a> Model for DocumentRequest<'a> {
 }
 
 /// The request for the set of keys of a provider. Contracts see its URL.
+#[derive(Drop)]
 pub struct KeySetRequest<'a> {
     uri: &'a JsonWebKeySetUrl,
 }

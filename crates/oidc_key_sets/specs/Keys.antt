@@ -6,7 +6,7 @@ use Rattle.json.specs.Find.{get, is_null, as_str, as_array, as_object}
 use Rattle.oidc_types.specs.{find_word}
 use Rattle.oidc_types.specs.CoreAlgorithms.{key_type_text, key_types}
 use Rattle.oidc_types.specs.declared.core_algorithms.CoreJsonWebKeyType.{CoreJsonWebKeyType}
-use Rattle.oidc_types.specs.declared.core_algorithms.CoreJsonWebKeyType.TheVariants as kind
+use Rattle.oidc_types.specs.declared.core_algorithms.CoreJsonWebKeyType.TheVariants as key_type
 use Rattle.oidc_readers.specs.Records.{◌>>=◌}
 use Rattle.oidc_key_sets.specs.declared.errors.KeyMember.{KeyMember}
 use Rattle.oidc_key_sets.specs.declared.errors.KeyMember.TheVariants as named
@@ -130,13 +130,13 @@ type_named = find_word key_type_text key_types
 -- those of curves only where nothing of theirs is private.
 abbrev pub by_type : Option CoreJsonWebKeyType → Json → Result (Option SeenRsaKey) KeyError
 by_type None key = Ok None
-by_type (Some kind.RSA) key = unless_private (private_in key) (there (rsa_key_in key))
-by_type (Some kind.EllipticCurve) key = unless_private (private_in key) (Ok None)
-by_type (Some kind.OctetKeyPair) key = unless_private (private_in key) (Ok None)
-by_type (Some kind.Symmetric) key = Err Symmetric
+by_type (Some key_type.RSA) key = unless_private (private_in key) (there (rsa_key_in key))
+by_type (Some key_type.EllipticCurve) key = unless_private (private_in key) (Ok None)
+by_type (Some key_type.OctetKeyPair) key = unless_private (private_in key) (Ok None)
+by_type (Some key_type.Symmetric) key = Err Symmetric
 
 abbrev pub typed_key : Json → Result (Option SeenRsaKey) KeyError
-typed_key key = required named.Kty (text_kind named.Kty) key >>= λ type. by_type (type_named type) key
+typed_key key = required named.Kty (text_kind named.Kty) key >>= λ text. by_type (type_named text) key
 
 -- the key of RSA that a value is, or none where it is left out
 unfoldable pub key_in : Json → Result (Option SeenRsaKey) KeyError

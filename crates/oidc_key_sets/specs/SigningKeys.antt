@@ -1,5 +1,5 @@
 -- The keys that check signatures, of a set as it is published (RFC 7517 sections 4.2 to 4.5).
-use Rattle.std.specs.Prelude.{◌≡◌, ⊤, ℕ, List, [], ◌∷◌, take, slice_get, All, Bool, true, codes, filter, is_some, Option, None, Some, option_map, option_and_then, if◌then◌else◌}
+use Rattle.std.specs.Prelude.{◌≡◌, ⊤, ℕ, List, [], ◌∷◌, take, slice_get, All, Bool, true, codes, filter, filter_map, is_some, Option, None, Some, option_map, option_and_then, if◌then◌else◌}
 use Rattle.std.specs.Str.{bytes_eq}
 use Rattle.oidc_types.specs.{find_word, signing_text, signing_algorithms}
 use Rattle.oidc_types.specs.declared.core_algorithms.CoreJwsSigningAlgorithm.{CoreJwsSigningAlgorithm}
@@ -41,14 +41,9 @@ all_operations =
 abbrev pub operation_named : List ℕ → Option KeyOperation
 operation_named = find_word operation_text all_operations
 
-abbrev pub with_operation : Option KeyOperation → List KeyOperation → List KeyOperation
-with_operation None operations = operations
-with_operation (Some operation) operations = operation ∷ operations
-
 -- the operations of those names; other names are left out
 abbrev pub operations_named : List (List ℕ) → List KeyOperation
-operations_named [] = []
-operations_named (text ∷ texts) = with_operation (operation_named text) (operations_named texts)
+operations_named = filter_map operation_named
 
 -- the algorithm that signs of that name (4.4)
 abbrev pub algorithm_named : List ℕ → Option CoreJwsSigningAlgorithm

@@ -187,7 +187,8 @@ impl PublishedKeySet {
         ensures cause { IfErr result (spec.Cause self.now) }
     {
         let mut keys = Vec::new(alloc);
-        for (place, said) in self.keys().iter().enumerate() {
+        let set = self.keys();
+        for (place, said) in set.iter().enumerate() {
             if may_check(said) {
                 match signing_key(alloc, said) {
                     Ok(key) => keys.push(key)?,
