@@ -18,6 +18,15 @@ use Rattle.oidc_discovery.specs.declared.errors.DocumentError.TheVariants.{Parse
 use Rattle.oidc_discovery.specs.Urls.{url_fault, issuer_fault}
 use Rattle.oidc_discovery.specs.Metadata.{SeenMetadata, metadata_of}
 
+-- the name of a URL's field
+abbrev pub url_name : MetadataUrl → List ℕ
+url_name Issuer = codes "issuer"
+url_name AuthorizationEndpoint = codes "authorization_endpoint"
+url_name TokenEndpoint = codes "token_endpoint"
+url_name UserinfoEndpoint = codes "userinfo_endpoint"
+url_name JwksUri = codes "jwks_uri"
+url_name EndSessionEndpoint = codes "end_session_endpoint"
+
 -- of a URL that may be absent
 abbrev pub fault_if_there : Option TextAndUrl → Option UrlFault
 fault_if_there None = None

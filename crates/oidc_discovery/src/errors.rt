@@ -1,5 +1,8 @@
 //! Why a request isn't made, an answer isn't taken, or a document is refused.
 
+ghost use Rattle.std.specs.Prelude.{◌≡◌};
+ghost use Rattle.oidc_discovery.specs.Documents.{url_name};
+
 use crate::urls::UrlFault;
 use oidc_members::Refusal;
 use std::alloc::AllocError;
@@ -25,7 +28,9 @@ pub enum MetadataUrl {
 
 impl MetadataUrl {
     /// The name of its field.
-    pub fn name(self) -> &'static str {
+    pub fn name(self) -> &'static str
+        ensures name { result.now ≡ url_name self }
+    {
         match self {
             MetadataUrl::Issuer => "issuer",
             MetadataUrl::AuthorizationEndpoint => "authorization_endpoint",
@@ -39,6 +44,11 @@ impl MetadataUrl {
 
 /// Prints the name.
 impl fmt::Display for MetadataUrl {
+    ghost use Rattle.std.specs.Prelude.{Some};
+    ghost use Rattle.oidc_discovery.specs.Documents.{url_name};
+
+    ghost output = { λ url. Some (url_name url) };
+
     fn fmt<W: fmt::Write>(&self, f: &mut fmt::Formatter<W>) -> fmt::Result {
         f.write_str(self.name())
     }
