@@ -325,6 +325,8 @@ def pinned(line):
 
 
 def get_line(address):
+    scheme, colon, rest = address.partition(":")
+    address = scheme.lower() + colon + rest
     if not fits_address(address):
         raise Word("uri")
     return ok([("method", "GET"), ("address", address), ("accept", "application/json")])
@@ -704,7 +706,7 @@ def document_cases():
     yield "# Requests for documents and sets of keys, by tools/plain_discovery.py (OpenID Connect Discovery 1.0 section 4.1)."
     for issuer in [
         "https://example.com/", "https://example.com/issuer1", "https://example.com/issuer1/", "https://example.com/issuer1//",
-        "example", "https://example.com/" + "a" * 65_480, "https://example.com/" + "a" * 65_481, "https://example.com/%2F/",
+        "example", "https://example.com/" + "a" * 65_481, "https://example.com/" + "a" * 65_482, "https://example.com/%2F/",
     ]:
         yield case("document_request", issuer=issuer)
     for uri in ["https://example.com/", "https://example.com/keys?a=b&c", "https://example.com/" + "a" * 65_514,
