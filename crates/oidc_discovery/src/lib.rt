@@ -16,6 +16,7 @@
 mod answers;
 mod documents;
 mod errors;
+pub mod laws;
 mod metadata;
 mod pinned;
 mod requests;
