@@ -42,3 +42,56 @@ module _ (m e : List ℕ) (of_m : octets_of (encoded m) ≡ Some m) (of_e : octe
 
 pub key_back : (k : SeenRsaKey) → HasNumbers k → key_in (written_key k) ≡ Ok (Some k)
 key_back k h = rsa_back k.modulus k.exponent h.modulus h.exponent k.purpose k.operations k.algorithm k.id
+
+-- ---- sets
+
+first : (k : SeenRsaKey) (ks : List SeenRsaKey) → All HasNumbers (k ∷ ks) → HasNumbers k
+first k ks all = all 0 k (zero-lt-suc (length ks))
+
+keys_back : (place : ℕ) (ks : List SeenRsaKey) → All HasNumbers ks
+    → keys_from place (items_of (map written_key ks)) ≡ Ok ks
+keys_back place [] all = refl
+keys_back place (k ∷ ks) all =
+    rw (key_back k (first k ks all), keys_back (place + 1) ks (All-tail HasNumbers k ks all)) refl
+
+count_back : (ks : List SeenRsaKey) → count_of (items_of (map written_key ks)) ≡ length ks
+count_back [] = refl
+count_back (k ∷ ks) = ap (λ n. n + 1) (count_back ks) ∙ add-one (length ks)
+
+pub set_back : (ks : List SeenRsaKey) → All HasNumbers ks → length ks ≤ 256 → set_in (written_set ks) ≡ Ok ks
+unfolding set_in
+set_back ks all few =
+    rw (count_back ks) (rw (not_above 256 (length ks) few) (keys_back 0 ks all))
+
+-- ---- names
+
+-- no text is one of those behind it
+abbrev differ : List (List ℕ) → Bool
+differ [] = true
+differ (x ∷ xs) = list_all (λ y. not (bytes_eq x y)) xs && differ xs
+
+apart : (x y : List ℕ) → not (bytes_eq x y) ≡ true → x ≢ y
+apart x y e same = ?
+
+differ_apart : (xs : List (List ℕ)) → differ xs ≡ true → AreDistinct xs
+differ_apart xs e = ?
+
+module _ (m e : List ℕ) where
+  names : (u : Option (List ℕ)) (o : Option (List (List ℕ))) (a i : Option (List ℕ))
+      → differ (keys (members_of (key_members (key m e u o a i)))) ≡ true
+  names None None None None = refl
+  names None None None (Some i) = refl
+  names None None (Some a) None = refl
+  names None None (Some a) (Some i) = refl
+  names None (Some o) None None = refl
+  names None (Some o) None (Some i) = refl
+  names None (Some o) (Some a) None = refl
+  names None (Some o) (Some a) (Some i) = refl
+  names (Some u) None None None = refl
+  names (Some u) None None (Some i) = refl
+  names (Some u) None (Some a) None = refl
+  names (Some u) None (Some a) (Some i) = refl
+  names (Some u) (Some o) None None = refl
+  names (Some u) (Some o) None (Some i) = refl
+  names (Some u) (Some o) (Some a) None = refl
+  names (Some u) (Some o) (Some a) (Some i) = refl
