@@ -17,8 +17,8 @@ const CLAIMS: &str =
 // The client's secret.
 const SECRET: &[u8] = b"bbb";
 
-// A modulus of 2,048 bits, of a key that openssl made; its exponent is 65537.
-static MODULUS: [u8; 256] = [
+/// A modulus of 2,048 bits, of a key that openssl made; its exponent is 65537.
+pub(crate) static MODULUS: [u8; 256] = [
     0xad, 0xe4, 0xc7, 0x51, 0x57, 0xff, 0x0c, 0xbd, 0x49, 0x23, 0xf5, 0x85, 0xe6, 0x36, 0xe0, 0x74,
     0xc9, 0xf9, 0xcd, 0x90, 0x34, 0x60, 0xd2, 0x7f, 0x35, 0x51, 0x3e, 0x50, 0x9f, 0xf7, 0x66, 0x60,
     0xac, 0x68, 0x02, 0x3f, 0x6a, 0x43, 0xbc, 0xe8, 0x93, 0x64, 0x41, 0x60, 0x36, 0x8d, 0xd1, 0x39,
@@ -57,10 +57,12 @@ static SIGNATURE: [u8; 256] = [
     0x72, 0xbc, 0x47, 0x50, 0x78, 0xcf, 0xf0, 0x0b, 0x4f, 0xa4, 0xfe, 0x66, 0x31, 0xdd, 0xc5, 0x29,
 ];
 
-// Of what a key is made.
+/// Of what a key is made.
 #[derive(Clone, Copy)]
-enum Made {
+pub(crate) enum Made {
+    /// The modulus and its exponent.
     PublicKey,
+    /// The client's secret.
     Secret,
 }
 
@@ -84,7 +86,8 @@ fn encoded(rt: &impl Abort, alloc: Global, octets: &[u8]) -> String {
     URL_SAFE_NO_PAD.encode(alloc, octets).expect(rt, "memory")
 }
 
-fn key(rt: &impl Abort, alloc: Global, made: Made) -> ProviderKey {
+/// The key that is made of this.
+pub(crate) fn key(rt: &impl Abort, alloc: Global, made: Made) -> ProviderKey {
     match made {
         Made::PublicKey => {
             let key = RsaPublicKey::new(alloc, &MODULUS, &[0x01, 0x00, 0x01]);
