@@ -1,5 +1,5 @@
 #!/usr/bin/env python3
-"""Makes cases of RSA signatures for crates/vectors_keys, with new keys of openssl.
+"""Makes cases of RSA signatures and of a provider's keys for crates/vectors_keys, with new keys of openssl.
 
     tools/rsa_cases.py FOLDER        writes `stdin` and `stdout` of the groups that openssl makes into FOLDER
     tools/rsa_cases.py FOLDER NIST   and those of the folder FIPS_186-2 of Debian's python3-cryptography-vectors
@@ -7,6 +7,7 @@
 An expected line comes from how the case was made: `ok` for a signature as openssl makes it, a refusal for one that was
 changed; of NIST's, from its own result. No case is taken from what a program of the product writes.
 """
+import hmac
 import os
 import random
 import re
@@ -246,6 +247,134 @@ def nist_cases(folder):
                    f"&signature={fields['S'].rjust(2 * length, '0')}"), ("ok" if accepted else "refused crypto_error")
 
 
+# ---- keys of a provider's set
+
+RSA_ALGORITHMS = ("RS256", "RS384", "RS512", "PS256", "PS384", "PS512")
+MAC_ALGORITHMS = ("HS256", "HS384", "HS512")
+SECRET = bytes(range(1, 65))
+SAID = b"header.payload"
+
+
+def said_by(made_of, alg, message, signature, own=""):
+    return f"op=provider_verdict&{made_of}{own}&alg={alg}&message={message.hex()}&signature={signature.hex()}"
+
+
+def mac(octets, alg, message):
+    return hmac.new(octets, message, "sha" + alg[2:]).digest()
+
+
+class Made:
+    """The names that make a public key and a secret, and what each signs."""
+
+    def __init__(self, key):
+        self.key, self.modulus = key, key.n.to_bytes(key.length, "big")
+        self.rsa = f"n={self.modulus.hex()}&e={key.e.to_bytes(3, 'big').hex()}"
+        self.secret = f"secret={SECRET.hex()}"
+
+    def signed(self):
+        """Of each algorithm the names of its key, and a signature."""
+        for alg in RSA_ALGORITHMS:
+            yield self.rsa, alg, self.key.signed(alg, SAID)
+        for alg in MAC_ALGORITHMS:
+            yield self.secret, alg, mac(SECRET, alg, SAID)
+
+
+def accepted_once(made):
+    yield "# Keys of a provider: each algorithm, by openssl 3.0 and by Python's hmac, and with one thing changed: a bit of the signature, the message, the length, the hash function.", None
+    for made_of, alg, signature in made.signed():
+        other = alg[:2] + {"256": "384", "384": "512", "512": "256"}[alg[2:]]
+        yield said_by(made_of, alg, SAID, signature), "ok"
+        yield said_by(made_of, alg, SAID, flipped(signature, 3)), "refused crypto_error"
+        yield said_by(made_of, alg, SAID + b"!", signature), "refused crypto_error"
+        yield said_by(made_of, alg, SAID, signature[:-1]), "refused crypto_error"
+        yield said_by(made_of, alg, SAID, signature + b"\0"), "refused crypto_error"
+        yield said_by(made_of, other, SAID, signature), "refused crypto_error"
+    for alg in RSA_ALGORITHMS:
+        other = {"R": "P", "P": "R"}[alg[0]] + alg[1:]
+        yield said_by(made.rsa, other, SAID, made.key.signed(alg, SAID)), "refused crypto_error"
+
+
+def confused(made):
+    yield "# Keys of a provider taken for another (RFC 8725 section 2.1): a MAC under the octets of a public key (its modulus, with a zero before it, its exponent, its DER and its PEM by openssl), or under none; a secret by RSA; algorithms of other keys; none.", None
+    public = [run("openssl", "pkey", "-in", made.key.path, "-pubout", "-outform", kind) for kind in ("DER", "PEM")]
+    exponent = made.key.e.to_bytes(3, "big")
+    for alg in MAC_ALGORITHMS:
+        for octets in (made.modulus, b"\0" + made.modulus, exponent, *public, b""):
+            yield said_by(made.rsa, alg, SAID, mac(octets, alg, SAID)), "refused invalid_key"
+        yield said_by(made.rsa, alg, SAID, b""), "refused invalid_key"
+        yield said_by(made.rsa, alg, SAID, made.key.signed("RS" + alg[2:], SAID)), "refused invalid_key"
+    for alg in RSA_ALGORITHMS:
+        for signature in (made.key.signed(alg, SAID), mac(SECRET, "HS" + alg[2:], SAID), b""):
+            yield said_by(made.secret, alg, SAID, signature), "refused invalid_key"
+        yield said_by("secret=" + made.modulus.hex(), alg, SAID, made.key.signed(alg, SAID)), "refused invalid_key"
+    for made_of in (made.rsa, made.secret):
+        for alg in ("ES256", "ES384", "ES512", "EdDSA"):
+            yield said_by(made_of, alg, SAID, made.key.signed("RS256", SAID)), "refused invalid_key"
+        for signature in (b"", made.key.signed("RS256", SAID), mac(SECRET, "HS256", SAID)):
+            yield said_by(made_of, "none", SAID, signature), "refused unsupported_alg"
+
+
+def of_itself(made):
+    yield "# Keys of a provider, by what they say of themselves (RFC 7517 sections 4.2 to 4.5): use, key_ops, alg, kid.", None
+    fits = ["&use=sig", "&key_ops=verify", "&key_ops=sign+verify", "&key_ops=verify+verify", "&kid=", "&kid=2011-04-29",
+            "&use=sig&key_ops=verify&kid=a"]
+    unfit = ["&use=enc", "&use=", "&use=SIG", "&use=sig+enc", "&key_ops=", "&key_ops=sign", "&key_ops=encrypt+wrapKey",
+             "&key_ops=decrypt+unwrapKey+deriveKey+deriveBits", "&use=sig&key_ops=sign", "&use=enc&key_ops=verify"]
+    for made_of, alg, signature in [(made.rsa, "RS256", made.key.signed("RS256", SAID)), (made.secret, "HS256", mac(SECRET, "HS256", SAID))]:
+        for own in fits:
+            yield said_by(made_of, alg, SAID, signature, own), "ok"
+            yield said_by(made_of, alg, SAID, flipped(signature, 0), own), "refused crypto_error"
+        for own in unfit:
+            yield said_by(made_of, alg, SAID, signature, own), "refused invalid_key"
+        yield said_by(made_of, "none", SAID, b"", "&key_ops=sign"), "refused unsupported_alg"
+    for made_of, alg, signature in made.signed():
+        yield said_by(made_of, alg, SAID, signature, "&own_alg=" + alg), "ok"
+        yield said_by(made_of, alg, SAID, flipped(signature, 0), "&own_alg=" + alg), "refused crypto_error"
+        for own in (alg[:2] + "384" if alg[2:] == "256" else alg[:2] + "256", {"R": "P", "P": "R", "H": "R"}[alg[0]] + alg[1:], "ES256", "none"):
+            yield said_by(made_of, alg, SAID, signature, "&own_alg=" + own), "refused invalid_key"
+    yield said_by(made.rsa, "none", SAID, b"", "&own_alg=none"), "refused unsupported_alg"
+    yield said_by(made.rsa, "RS256", SAID, made.key.signed("RS256", SAID), "&use=sig&key_ops=verify&kid=a&own_alg=RS256"), "ok"
+
+
+def no_cases(made):
+    yield "# Keys of a provider: lines that are no cases: README.md of crates/vectors_keys.", None
+    rest = f"&alg=RS256&message={SAID.hex()}&signature="
+    for start in ("", made.rsa.split("&")[0], made.rsa.split("&")[1], made.rsa + "&" + made.secret, made.rsa + "&e=03",
+                  "n=05&e=010001", made.rsa.split("&")[0] + "&e=02", "secret=0", made.rsa + "&own_alg=rs256",
+                  made.rsa + "&key_ops=check", made.rsa + "&key_ops=verify++sign", made.rsa + "&kty=RSA"):
+        yield "op=provider_verdict&" + start + rest, "no case"
+    yield "op=provider_verdict&" + made.rsa + "&alg=rs256&message=&signature=", "no case"
+    yield "op=provider_verdict&" + made.secret + "&message=&signature=", "no case"
+    yield "op=provider_key&" + made.secret + "&alg=HS256", "no case"
+    yield "op=provider_digest&" + made.secret + "&alg=HS256", "no case"
+
+
+def shown(made):
+    yield "# Keys of a provider: type, kid and use, as the verifiers of tokens ask for them (RFC 7517 sections 4.1, 4.2 and 4.5), and what they print.", None
+    printed = "&debug=ProviderKey%28%5Bredacted%5D%29"
+    for made_of, kind in ((made.rsa, "RSA"), (made.secret, "oct"), ("secret=", "oct")):
+        yield f"op=provider_key&{made_of}", f"ok kty={kind}{printed}"
+        for own in ("&kid=a", "&kid=", "&kid=%C3%BC&use=sig", "&use=enc", "&use=other"):
+            yield f"op=provider_key&{made_of}{own}", f"ok kty={kind}{own}{printed}"
+        yield f"op=provider_key&{made_of}&key_ops=sign&own_alg=RS256", f"ok kty={kind}{printed}"
+
+
+def digests(made):
+    yield "# Keys of a provider: digests, by Python's hashlib (OpenID Connect Core 1.0 section 3.1.3.6).", None
+    for made_of in (made.rsa, made.secret):
+        for alg in (*RSA_ALGORITHMS, *MAC_ALGORITHMS, "ES256", "ES384", "ES512"):
+            of = digest(alg[2:], b"access token").hex()
+            yield f"op=provider_digest&{made_of}&alg={alg}&text=access+token", f"ok digest={of}"
+        for alg in ("EdDSA", "none"):
+            yield f"op=provider_digest&{made_of}&alg={alg}&text=access+token", "refused unsupported"
+
+
+def provider_cases(key):
+    made = Made(key)
+    for group in (accepted_once, confused, of_itself, no_cases, shown, digests):
+        yield from group(made)
+
+
 def write(folder, cases):
     with open(os.path.join(folder, "stdin"), "w") as questions, open(os.path.join(folder, "stdout"), "w") as answers:
         for line, expected in cases:
@@ -262,6 +391,7 @@ def all_cases(nist):
         yield from bounds(keys[0], rng)
         others = [Key(os.path.join(folder, f"other{place}.pem"), *of) for place, of in enumerate(OTHER_KEYS)]
         yield from other_cases(others, keys[9], rng)
+        yield from provider_cases(keys[0])
     if nist:
         yield from nist_cases(nist)
 

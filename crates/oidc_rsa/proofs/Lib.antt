@@ -1,8 +1,10 @@
 mod Bits
+mod Confusion
 mod Congruence
 mod Digits
 mod Masks
 mod Powers
+mod ProviderVerdicts
 mod Residues
 mod Rows
 mod Sizes

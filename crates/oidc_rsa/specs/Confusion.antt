@@ -1,5 +1,5 @@
 -- That keys are not taken for one another: a public key is no secret (RFC 8725 section 2.1).
-use Rattle.std.specs.Prelude.{◌≡◌, ℕ, List, IsTrue, false, Ok, Err}
+use Rattle.std.specs.Prelude.{◌≡◌, ℕ, List, IsTrue, false, Some, Ok, Err}
 use Rattle.oidc_types.specs.{signs_with_secret}
 use Rattle.oidc_types.specs.declared.core_algorithms.CoreJwsSigningAlgorithm.{CoreJwsSigningAlgorithm}
 use Rattle.oidc_keys.specs.declared.refusals.SignatureVerificationError.TheVariants.{InvalidKey}

@@ -11,3 +11,5 @@ pub mod Confusion
 pub mod Limbs
 pub mod Sound
 pub mod Materials
+-- the proof that the law of a key's verdict cites
+pub mod NeverMemory

@@ -1,10 +1,12 @@
 //! Keys of a provider's set and of a client's secret, of one type.
 ghost use Rattle.std.specs.Prelude.{◌≡◌, ◌↔◌, Option, Some, None, Ok, Err, option_map};
+ghost use Rattle.std.specs.List.{list_any};
 ghost use Rattle.oidc_types.specs.{signing_key_type};
 ghost use Rattle.oidc_keys.specs.CoreJwk.{hash_function};
 ghost use Rattle.oidc_keys.specs.declared.refusals.SignatureVerificationError.TheVariants as cause;
 ghost use Rattle.oidc_rsa.specs.Hash.{hash_of};
 ghost use Rattle.oidc_rsa.specs.ProviderKey as spec;
+ghost use Rattle.oidc_rsa.specs.NeverMemory.{never_memory};
 
 use crate::algorithm::RsaAlgorithm;
 use crate::hash::HashFunction;
@@ -58,6 +60,8 @@ impl Model for ProviderKey {
 }
 
 impl ProviderKey {
+    ghost use Rattle.oidc_rsa.specs.Materials.{seen_material};
+
     /// A public key of RSA, that says nothing of itself.
     pub fn new_rsa(key: RsaPublicKey) -> ProviderKey
         ensures rsa { result ≡ spec.bare (spec.Rsa key) }
@@ -79,7 +83,7 @@ impl ProviderKey {
 
     /// This key under the given id (`kid`, RFC 7517 section 4.5).
     pub fn with_key_id(mut self, id: JsonWebKeyId) -> ProviderKey
-        ensures named { result ≡ record self.entry { id = Some id } }
+        ensures named { result ≡ record self { id = Some id } }
     {
         self.id = Some(id);
         self
@@ -87,7 +91,7 @@ impl ProviderKey {
 
     /// This key for the given use alone (`use`, RFC 7517 section 4.2).
     pub fn with_key_use(mut self, purpose: CoreJsonWebKeyUse) -> ProviderKey
-        ensures purpose { result ≡ record self.entry { purpose = Some purpose } }
+        ensures purpose { result ≡ record self { purpose = Some purpose } }
     {
         self.purpose = Some(purpose);
         self
@@ -95,7 +99,7 @@ impl ProviderKey {
 
     /// This key for the given algorithm alone (`alg`, RFC 7517 section 4.4).
     pub fn with_algorithm(mut self, alg: CoreJwsSigningAlgorithm) -> ProviderKey
-        ensures alg { result ≡ record self.entry { alg = Some alg } }
+        ensures alg { result ≡ record self { alg = Some alg } }
     {
         self.alg = Some(alg);
         self
@@ -103,7 +107,7 @@ impl ProviderKey {
 
     /// This key for the given operations alone (`key_ops`, RFC 7517 section 4.3).
     pub fn with_operations(mut self, operations: Vec<KeyOperation>) -> ProviderKey
-        ensures operations { result ≡ record self.entry { operations = Some operations.items } }
+        ensures operations { result ≡ record self { operations = Some operations.items } }
     {
         self.operations = Some(operations);
         self
@@ -124,7 +128,7 @@ impl ProviderKey {
         ensures { result ≡ spec.may_verify self.now.operations }
     {
         match &self.operations {
-            Some(operations) => operations.iter().any(|operation| operation.is_verify()),
+            Some(operations) => has_verify(operations.as_slice()),
             None => true,
         }
     }
@@ -177,6 +181,13 @@ impl ProviderKey {
             refused(alg)
         }
     }
+}
+
+// Whether the check of signatures is among some operations.
+fn has_verify(operations: &[KeyOperation]) -> bool
+    ensures { result ≡ list_any spec.is_verify operations.now }
+{
+    operations.iter().any(|operation| operation.is_verify())
 }
 
 // The RSA algorithm that a signing algorithm is, where it is one.
@@ -321,7 +332,7 @@ impl JsonWebKey for ProviderKey {
         }
     }
 
-    ghost verdict_is_never_memory = { ? };
+    ghost verdict_is_never_memory = { never_memory };
 }
 
 /// Prints `ProviderKey([redacted])`, since a key may be a secret.

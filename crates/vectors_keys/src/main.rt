@@ -1,9 +1,10 @@
-//! The program `vectors_keys`: cases of RSA signatures as lines of text.
+//! The program `vectors_keys`: cases of RSA signatures and of the keys of a provider, as lines of text.
 //!
 //! The page of `case_lines` has the rules of lines, README.md the operations.
 #![tactic(auto)]
 
 mod operations;
+mod provider_keys;
 mod rsa;
 
 use crate::operations::Operation;

@@ -3,7 +3,7 @@
 ghost use Rattle.std.specs.Prelude.{◌≡◌};
 ghost use Rattle.vectors_keys.specs.Operations as spec;
 
-use crate::rsa;
+use crate::{provider_keys, rsa};
 use case_lines::{Case, CaseError, CaseOperation};
 use std::alloc::Global;
 
@@ -11,11 +11,19 @@ use std::alloc::Global;
 #[derive(Clone, Copy, Debug, PartialEq, Eq)]
 pub(crate) enum Operation {
     Rsa,
+    ProviderVerdict,
+    ProviderKey,
+    ProviderDigest,
 }
 
 impl Operation {
     /// Every operation.
-    const ALL: [Operation; 1] = [Operation::Rsa];
+    const ALL: [Operation; 4] = [
+        Operation::Rsa,
+        Operation::ProviderVerdict,
+        Operation::ProviderKey,
+        Operation::ProviderDigest,
+    ];
 
     // Its name, the value of `op`.
     fn name(self) -> &'static str
@@ -23,6 +31,9 @@ impl Operation {
     {
         match self {
             Operation::Rsa => "rsa",
+            Operation::ProviderVerdict => "provider_verdict",
+            Operation::ProviderKey => "provider_key",
+            Operation::ProviderDigest => "provider_digest",
         }
     }
 
@@ -47,6 +58,9 @@ impl CaseOperation for Operation {
     fn answer(self, alloc: Global, case: &Case) -> Result<String, CaseError> {
         match self {
             Operation::Rsa => rsa::rsa(alloc, case),
+            Operation::ProviderVerdict => provider_keys::provider_verdict(alloc, case),
+            Operation::ProviderKey => provider_keys::provider_key(alloc, case),
+            Operation::ProviderDigest => provider_keys::provider_digest(alloc, case),
         }
     }
 }
