@@ -1,10 +1,11 @@
 -- A text is read as one thing alone.
-use Rattle.std.proofs.Common.{◌≡◌, ℕ, List, Some, Result, Err, ◌⊎◌, inl, inr, sym, ◌∙◌, ap, subst}
+use Rattle.std.proofs.Common.{◌≡◌, ℕ, List, Some, Result, Ok, Err, ◌⊎◌, inl, inr, sym, ◌∙◌, ap, subst}
 use Rattle.json.specs.Json.{Json, document}
 use Rattle.json.specs.Strict.{HasUniqueKeys}
 use Rattle.oidc_key_sets.specs.declared.errors.KeySetError.{KeySetError}
+use Rattle.oidc_key_sets.specs.declared.errors.KeySetError.TheVariants.{NoJson, DoubledName, NoObject, NoKeys, NoArray, TooMany, Key, Memory}
 use Rattle.oidc_key_sets.specs.Keys.{SeenRsaKey}
-use Rattle.oidc_key_sets.specs.KeySets.{IsTextOf, IsJson, IsPlainText, HasDoubledName, IsReadByValue, IsReadAs, set_in}
+use Rattle.oidc_key_sets.specs.KeySets.{IsTextOf, IsJson, IsPlainText, HasDoubledName, IsReadByValue, IsReadAs, IsRead, UnlessMemory, set_in}
 
 abbrev Read : Type 0
 Read = Result (List SeenRsaKey) KeySetError
@@ -33,3 +34,16 @@ only text a b (inr (inl x)) (inr (inr y)) = not_both text b x.0 y
 only text a b (inr (inr x)) (inl y) = absurd (y.0 (x.value, x.plain.of_text))
 only text a b (inr (inr x)) (inr (inl y)) = sym (not_both text a y.0 x)
 only text a b (inr (inr x)) (inr (inr y)) = same_said text a b x y
+
+-- what was read is what the text is read as, want of memory aside
+pub only_read : (text : List ℕ) (read meant : Read) → IsRead text read → IsReadAs text meant
+    → UnlessMemory read (read ≡ meant)
+only_read text (Ok keys) meant x y = only text (Ok keys) meant x y
+only_read text (Err NoJson) meant x y = only text (Err NoJson) meant x y
+only_read text (Err DoubledName) meant x y = only text (Err DoubledName) meant x y
+only_read text (Err NoObject) meant x y = only text (Err NoObject) meant x y
+only_read text (Err NoKeys) meant x y = only text (Err NoKeys) meant x y
+only_read text (Err NoArray) meant x y = only text (Err NoArray) meant x y
+only_read text (Err TooMany) meant x y = only text (Err TooMany) meant x y
+only_read text (Err (Key place error)) meant x y = only text (Err (Key place error)) meant x y
+only_read text (Err Memory) meant x y = tt

@@ -59,17 +59,7 @@ impl PublishedKeySet {
         ensures caused { (meant : Result (List SeenRsaKey) KeySetError)
             → spec.IsReadAs text.now meant → spec.UnlessMemory result (result ≡ meant) }
     {
-        let Ok(text) = str::from_utf8(text) else {
-            return Err(KeySetError::NoJson);
-        };
-        let mut scratch = Scratch::new(alloc);
-        match Value::parse_strict(alloc, text, &mut scratch) {
-            Ok(value) => set_in(alloc, &value),
-            Err(Error::Invalid) => Err(KeySetError::NoJson),
-            Err(Error::DuplicateKey) => Err(KeySetError::DoubledName),
-            Err(Error::OutOfMemory) => Err(KeySetError::Memory),
-            Err(Error::TooLong) => unreachable!(),
-        }
+        read_text(alloc, text)
     }
 
     /// The keys, of which there are at most 256.
@@ -78,6 +68,23 @@ impl PublishedKeySet {
         ensures count { length self.now ≤ 256 }
     {
         self.keys.as_slice()
+    }
+}
+
+// What a text is read as.
+fn read_text(alloc: Global, text: &[u8]) -> Result<PublishedKeySet, KeySetError>
+    ensures { spec.IsRead text.now result }
+{
+    let Ok(text) = str::from_utf8(text) else {
+        return Err(KeySetError::NoJson);
+    };
+    let mut scratch = Scratch::new(alloc);
+    match Value::parse_strict(alloc, text, &mut scratch) {
+        Ok(value) => set_in(alloc, &value),
+        Err(Error::Invalid) => Err(KeySetError::NoJson),
+        Err(Error::DuplicateKey) => Err(KeySetError::DoubledName),
+        Err(Error::OutOfMemory) => Err(KeySetError::Memory),
+        Err(Error::TooLong) => unreachable!(),
     }
 }
 
@@ -99,6 +106,7 @@ fn keys_of(alloc: Global, values: &[Value<'_>]) -> Result<PublishedKeySet, KeySe
 }
 
 // The keys of RSA that an array has.
+#[tactic(auto, using(crate::proofs::Sets::count))]
 fn keys_among(alloc: Global, keys: &Value<'_>) -> Result<PublishedKeySet, KeySetError>
     ensures { spec.UnlessMemory result (spec.array_in (value_view keys.now) ≡ result) }
 {
