@@ -5,7 +5,7 @@ use Rattle.std.specs.List.{list_all}
 use Rattle.std.specs.Str.{bytes_eq}
 use Rattle.std.proofs.lemmas.Bool.Decides.{nat_tests}
 use Rattle.std.proofs.lemmas.List.Elements.{All-head, All-tail}
-use Rattle.std.proofs.lemmas.List.Kept.{AllPairs-nil, AllPairs-cons}
+use Rattle.std.proofs.lemmas.List.Kept.{AllPairs-cons}
 use Rattle.std.proofs.lemmas.List.Sums.{AllPass-from_list_all}
 use Rattle.std.proofs.lemmas.Slice.Eq.{bytes_eq-Decides}
 use Rattle.json.specs.Json.{Json, Items, no_items, item, string, array, object}
@@ -91,7 +91,7 @@ both true b e = (refl, e)
 both false b e = cc
 
 differ_apart : (xs : List (List ℕ)) → differ xs ≡ true → AreDistinct xs
-differ_apart [] e = AllPairs-nil (λ a b. a ≢ b)
+differ_apart [] e = λ i j d h g. absurd (omega arith)
 differ_apart (x ∷ xs) e =
     let parts = both (list_all (λ y. not (bytes_eq x y)) xs) (differ xs) e in
     let passes = AllPass-from_list_all (λ y. not (bytes_eq x y)) xs parts.0 in
