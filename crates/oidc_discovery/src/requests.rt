@@ -87,7 +87,7 @@ impl<'a> DocumentRequest<'a> {
     /// `/.well-known/openid-configuration`. `Url` where the issuer isn't one that is taken; else
     /// `Address` where that address is no URL, has more than 65,534 bytes, or one that isn't from 0x21 to
     /// 0x7E.
-    #[tactic(auto, unfolding(crate::specs::Requests::document_request))]
+    #[tactic(auto, unfolding(crate::specs::Requests::document_request), using(crate::proofs::Addresses::joined))]
     pub fn prepare(&self, alloc: Global) -> Result<HttpRequest, FetchError>
         ensures prepared { spec.IsPrepared result (spec.document_request self.now) }
     {
