@@ -14,7 +14,7 @@ slash_back : (text : List ℕ) → ends_with nat_eq text (codes "/") ≡ true
     → take (length text - 1) text ++ codes "/" ≡ text
 slash_back text e =
     let last : codes "/" ≡ drop (length text - 1) text =
-        (bytes_eq-Decides (codes "/") (drop (length text - 1) text)).0 e in
+    (bytes_eq-Decides (codes "/") (drop (length text - 1) text)).0 e in
     ap (λ end. take (length text - 1) text ++ end) last ∙ take-append-drop (length text - 1) text
 
 by_test : (text : List ℕ) (ends : Bool) → ends_with nat_eq text (codes "/") ≡ ends

@@ -143,9 +143,10 @@ module _ (m e : List ℕ) where
 
 key_unique : (k : SeenRsaKey) → HasUniqueKeys (written_key k)
 unfolding written_key
-key_unique k =
-    (differ_apart (keys (members_of (key_members k))) (names k.modulus k.exponent k.purpose k.operations k.algorithm k.id),
-    values_unique k.modulus k.exponent k.purpose k.operations k.algorithm k.id)
+key_unique k = (
+  differ_apart (keys (members_of (key_members k))) (names k.modulus k.exponent k.purpose k.operations k.algorithm k.id),
+  values_unique k.modulus k.exponent k.purpose k.operations k.algorithm k.id,
+)
 
 keys_unique : (ks : List SeenRsaKey) → ItemsHaveUniqueKeys (items_of (map written_key ks))
 keys_unique [] = tt
