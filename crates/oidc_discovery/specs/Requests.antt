@@ -1,5 +1,5 @@
 -- The requests for a provider's document and for its set of keys (OpenID Connect Discovery 1.0 section 4.1).
-use Rattle.std.specs.Prelude.{◌≡◌, ℕ, ◌-◌, List, [], ◌∷◌, ◌++◌, length, take, not, nat_eq, codes, Option, Result, Ok, Err, None, if◌then◌else◌}
+use Rattle.std.specs.Prelude.{◌≡◌, ℕ, ◌-◌, List, [], ◌∷◌, ◌++◌, length, take, not, nat_eq, codes, Option, Result, Ok, Err, None, Some, if◌then◌else◌}
 use Rattle.std.specs.List.{ends_with}
 use Rattle.std.specs.Result.{result_ok}
 use Rattle.http_header.specs.HeaderMap.{Entries}
@@ -29,6 +29,13 @@ document_url issuer = result_ok (parse_url None (document_text issuer.text))
 -- what is asked for
 abbrev pub headers : Entries FieldValue
 headers = header (codes "accept") (codes "application/json") ∷ []
+
+-- the result is that URL, or there is none, or there was no memory
+abbrev pub IsUrlOf : Option Parts → Result Parts FetchError → Type 0
+IsUrlOf meant (Ok url) = meant ≡ Some url
+IsUrlOf meant (Err Address) = meant ≡ None
+IsUrlOf meant (Err Memory) = Unit {0}
+IsUrlOf meant (Err (Url fault)) = ⊥
 
 -- the GET of an address, for JSON
 abbrev pub get_of : List ℕ → SeenRequest

@@ -75,6 +75,18 @@ fn get_url(alloc: Global, url: &Url) -> Result<HttpRequest, FetchError>
     Ok(request)
 }
 
+// The URL of the document of an issuer.
+#[tactic(auto, using(crate::proofs::Addresses::joined))]
+fn document_url(alloc: Global, issuer: &IssuerUrl) -> Result<Url, FetchError>
+    ensures { spec.IsUrlOf (spec.document_url issuer.now) result }
+{
+    match issuer.join(alloc, ".well-known/openid-configuration") {
+        Ok(url) => Ok(url),
+        Err(UrlTextError::Refused(_)) => Err(FetchError::Address),
+        Err(UrlTextError::Memory) => Err(FetchError::Memory),
+    }
+}
+
 impl<'a> DocumentRequest<'a> {
     /// The request for the document of the provider of that issuer.
     pub fn new(issuer: &'a IssuerUrl) -> Self
@@ -87,17 +99,16 @@ impl<'a> DocumentRequest<'a> {
     /// `/.well-known/openid-configuration`. `Url` where the issuer isn't one that is taken; else
     /// `Address` where that address is no URL, has more than 65,534 bytes, or one that isn't from 0x21 to
     /// 0x7E.
-    #[tactic(auto, unfolding(crate::specs::Requests::document_request), using(crate::proofs::Addresses::joined))]
+    #[tactic(auto, unfolding(crate::specs::Requests::document_request))]
     pub fn prepare(&self, alloc: Global) -> Result<HttpRequest, FetchError>
         ensures prepared { spec.IsPrepared result (spec.document_request self.now) }
     {
         if let Some(fault) = issuer_fault(self.issuer) {
             return Err(FetchError::Url(fault));
         }
-        match self.issuer.join(alloc, ".well-known/openid-configuration") {
+        match document_url(alloc, self.issuer) {
             Ok(url) => get_url(alloc, &url),
-            Err(UrlTextError::Refused(_)) => Err(FetchError::Address),
-            Err(UrlTextError::Memory) => Err(FetchError::Memory),
+            Err(error) => Err(error),
         }
     }
 }
