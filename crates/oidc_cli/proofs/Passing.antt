@@ -5,7 +5,7 @@ use Rattle.std.proofs.lemmas.List.{take-append-le}
 use Rattle.std.proofs.lemmas.Grind.{common_steps}
 use Rattle.oidc_cli.specs.Calls.{HasRisen}
 use Rattle.oidc_cli.specs.Sources.{Takes}
-use Rattle.oidc_cli.specs.Sinks.{Puts, PutsPrefix}
+use Rattle.oidc_cli.specs.Sinks.{Puts, PutsPrefix, PutsSoFar}
 
 pub Takes-append : (a b c : Option (List ℕ)) (xs ys : List ℕ) → Takes a b xs → Takes b c ys → Takes a c (xs ++ ys)
 Takes-append a b None xs ys p q = p ∙ ap (option_map (λ left. xs ++ left)) q
@@ -41,20 +41,29 @@ prefix_behind a b c xs ys p q =
 
 -- ---- a text that is put part by part
 
--- what was put so far, and what is left of the whole
-pub record PutsSoFar (before now : Option (List ℕ)) (left whole : List ℕ) : Type 0 where
-  pub done : List ℕ
-  pub done_put : Puts before now done
-  pub done_and_left : done ++ left ≡ whole
-
 pub begun : (known : Option (List ℕ)) (whole : List ℕ) → PutsSoFar known known whole whole
 begun known whole = record { done = []; done_put = Puts-nil known; done_and_left = refl }
 
-pub put_more : (a b c : Option (List ℕ)) (part left whole : List ℕ) → PutsSoFar a b (part ++ left) whole → Puts b c part → PutsSoFar a c left whole
-put_more a b c part left whole so_far more = record {
-  done = so_far.done ++ part;
-  done_put = Puts-append a b c so_far.done part so_far.done_put more;
-  done_and_left = append_assoc so_far.done part left ∙ so_far.done_and_left;
+pub all_put : (a b : Option (List ℕ)) (whole : List ℕ) → Puts a b whole → PutsSoFar a b [] whole
+all_put a b whole p = record { done = whole; done_put = p; done_and_left = append-nil whole }
+
+-- what is left first goes behind what is held
+pub pushed : (a b : Option (List ℕ)) (held part held' later left whole : List ℕ) → held' ≡ held ++ part → left ≡ part ++ later → PutsSoFar a b (held ++ left) whole
+    → PutsSoFar a b (held' ++ later) whole
+pushed a b held part held' later left whole grown first so_far = record {
+  done = so_far.done;
+  done_put = so_far.done_put;
+  done_and_left = ap (λ l. so_far.done ++ l) (ap (λ t. t ++ later) grown ∙ append_assoc held part later ∙ ap (λ t. held ++ t) (sym first)) ∙ so_far.done_and_left;
+}
+
+-- some of what was held is put, and the rest stays before what is left
+pub put_part : (a b c : Option (List ℕ)) (held held' left whole : List ℕ) → PutsSoFar a b (held ++ left) whole → PutsSoFar b c held' held → PutsSoFar a c (held' ++ left) whole
+put_part a b c held held' left whole so_far more = record {
+  done = so_far.done ++ more.done;
+  done_put = Puts-append a b c so_far.done more.done so_far.done_put more.done_put;
+  done_and_left = append_assoc so_far.done more.done (held' ++ left)
+      ∙ ap (λ l. so_far.done ++ l) (sym (append_assoc more.done held' left) ∙ ap (λ l. l ++ left) more.done_and_left)
+      ∙ so_far.done_and_left;
 }
 
 pub put_all : (a b c : Option (List ℕ)) (part whole : List ℕ) → PutsSoFar a b part whole → Puts b c part → Puts a c whole
