@@ -96,10 +96,7 @@ fn push_line(text: &mut String, words: &str, word: &str) -> Result<(), AllocErro
 
 /// Adds the line of what a begin answered. For want of memory there is none.
 #[tactic(auto, unfolding(crate::specs::Report::begin_line))]
-pub fn push_begin(
-    text: &mut String,
-    reply: &Result<Url, BeginError>,
-) -> Result<(), AllocError>
+pub fn push_begin(text: &mut String, reply: &Result<Url, BeginError>) -> Result<(), AllocError>
     ensures line { OnOk result (string_bytes text.new
         ≡ string_bytes text.old ++ begin_line reply.now) }
     ensures memory { reply.now ≡ Err BeginError.Memory → IsErr result }
@@ -235,7 +232,11 @@ fn push_signed(text: &mut String, alloc: Global, signed: &User) -> Result<(), Al
 {
     let claims = claims_text(alloc, signed.claims())?;
     text.push_str("callback ok ")?;
-    push_first(text, "access_token", signed.access_token().secret().as_bytes())?;
+    push_first(
+        text,
+        "access_token",
+        signed.access_token().secret().as_bytes(),
+    )?;
     push_refresh(text, signed.refresh_token())?;
     push_behind(text, "claims", claims.as_slice())?;
     push_user_info(text, alloc, signed.user_info())?;
