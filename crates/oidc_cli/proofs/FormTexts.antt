@@ -24,6 +24,13 @@ behind_parts a x1 x2 x3 x4 =
     behind-append ((a ∷ x1 ++ x2) ++ x3) x4
     ∙ ap (λ t. t ++ behind x4) (behind-append (a ∷ x1 ++ x2) x3 ∙ ap (λ t. t ++ behind x3) (behind-append (a ∷ x1) x2))
 
+-- a text behind which two were put, and a line of two parts
+pub both_pushed : (o a b t1 t2 : List ℕ) → t1 ≡ o ++ a → t2 ≡ t1 ++ b → t2 ≡ o ++ (a ++ b)
+both_pushed o a b t1 t2 e1 e2 = rw (e2, e1) (append_assoc o a b)
+
+pub line_pushed : (o a b t1 t2 t3 : List ℕ) → t1 ≡ o ++ a → t2 ≡ t1 ++ b → t3 ≡ t2 ++ 10 ∷ [] → t3 ≡ o ++ ((a ++ b) ++ 10 ∷ [])
+line_pushed o a b t1 t2 t3 e1 e2 e3 = rw (e3, e2, e1) (simp append_assoc)
+
 nested : (o r m p x y z w l : List ℕ)
     → ((((((((o ++ r) ++ m) ++ (p ++ [])) ++ x) ++ y) ++ z) ++ w) ++ l) ≡ o ++ ((r ++ (m ++ ((((p ++ x) ++ y) ++ z) ++ w))) ++ l)
 nested o r m p x y z w l = simp (append_assoc, append-nil)

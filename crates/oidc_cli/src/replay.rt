@@ -126,7 +126,7 @@ fn push_requests(requests: &[HttpRequest], text: &mut String) -> Result<(), Allo
 fn push_replied(alloc: Global, replied: &Replied, text: &mut String) -> Result<(), AllocError>
     ensures { let reply = seen_reply replied.now.reply in
         HasNoFloats reply → OnOk result (string_bytes text.new ≡ string_bytes text.old
-        ++ request_lines replied.now.http.requests ++ line_of_verdict reply) }
+        ++ (request_lines replied.now.http.requests ++ line_of_verdict reply)) }
 {
     push_requests(replied.http.requests(), text)?;
     push_verdict(text, alloc, &replied.reply)
