@@ -143,17 +143,13 @@ pub fn push_verdict(
 {
     match reply {
         Ok(signed) => push_signed(text, alloc, signed),
-        Err(LoginError::TooLong(place)) => {
-            push_line(text, "callback refused too_long ", place_word(*place))
-        }
+        Err(LoginError::TooLong(place)) => push_too_long(text, *place),
         Err(LoginError::State) => text.push_str("callback refused state\n"),
         Err(LoginError::Provider(code)) => push_provider(text, code),
         Err(LoginError::Callback) => text.push_str("callback refused callback\n"),
         Err(LoginError::Token(error)) => push_token(text, error),
         Err(LoginError::NoIdToken) => text.push_str("callback refused no_id_token\n"),
-        Err(LoginError::Claims(kind)) => {
-            push_line(text, "callback refused claims ", claims_word(*kind))
-        }
+        Err(LoginError::Claims(kind)) => push_refused_claims(text, *kind),
         Err(LoginError::Signing(_)) => text.push_str("callback refused signing unsupported_alg\n"),
         Err(LoginError::TokenHash) => text.push_str("callback refused token_hash\n"),
         Err(LoginError::UserInfo(error)) => push_info(text, error),
@@ -254,6 +250,25 @@ fn place_word(place: TooLong) -> &'static str
         TooLong::TokenAnswer => "token_answer",
         TooLong::UserInfoAnswer => "user_info_answer",
     }
+}
+
+#[tactic(auto, unfolding(crate::specs::Report::verdict_line))]
+fn push_too_long(text: &mut String, place: TooLong) -> Result<(), AllocError>
+    ensures { OnOk result (string_bytes text.new
+        ≡ string_bytes text.old ++ line_of_verdict (Err (LoginError.TooLong place))) }
+{
+    push_line(text, "callback refused too_long ", place_word(place))
+}
+
+#[tactic(auto, unfolding(crate::specs::Report::verdict_line))]
+fn push_refused_claims(
+    text: &mut String,
+    kind: ClaimsVerificationError,
+) -> Result<(), AllocError>
+    ensures { OnOk result (string_bytes text.new
+        ≡ string_bytes text.old ++ line_of_verdict (Err (LoginError.Claims kind))) }
+{
+    push_line(text, "callback refused claims ", claims_word(kind))
 }
 
 #[tactic(auto, unfolding(crate::specs::Report::verdict_line))]
