@@ -261,10 +261,7 @@ fn push_too_long(text: &mut String, place: TooLong) -> Result<(), AllocError>
 }
 
 #[tactic(auto, unfolding(crate::specs::Report::verdict_line))]
-fn push_refused_claims(
-    text: &mut String,
-    kind: ClaimsVerificationError,
-) -> Result<(), AllocError>
+fn push_refused_claims(text: &mut String, kind: ClaimsVerificationError) -> Result<(), AllocError>
     ensures { OnOk result (string_bytes text.new
         ≡ string_bytes text.old ++ line_of_verdict (Err (LoginError.Claims kind))) }
 {
