@@ -1,6 +1,5 @@
 -- Form texts, pair by pair.
-use Rattle.std.proofs.Common.{◌≡◌, ℕ, List, [], ◌∷◌, ◌++◌, codes, Result, Ok, Err, OnOk, refl, sym, ap, ◌∙◌, append_assoc, append-nil}
-use Rattle.std.specs.Prelude.{if◌then◌else◌, is_ok}
+use Rattle.std.proofs.Common.{◌≡◌, ℕ, List, [], ◌∷◌, ◌++◌, codes, Ok, refl, sym, ap, ◌∙◌, append_assoc, append-nil}
 use Rattle.form_urlencoded.specs.Form.{serialize_pair}
 use Rattle.http_header.specs.HeaderMap.{get}
 use Rattle.oidc_pairs.specs.Form.{form}
@@ -28,10 +27,6 @@ behind_parts a x1 x2 x3 x4 =
 -- a text behind which two were put, and a line of two parts
 pub both_pushed : (o a b t1 t2 : List ℕ) → t1 ≡ o ++ a → t2 ≡ t1 ++ b → t2 ≡ o ++ (a ++ b)
 both_pushed o a b t1 t2 e1 e2 = rw (e2, e1) (append_assoc o a b)
-
-pub text_pushed : {T E : Type 0} (r : Result T E) (o a t : List ℕ) → t ≡ (if is_ok r then o ++ a else o) → OnOk r (t ≡ o ++ a)
-text_pushed (Ok x) o a t e = e
-text_pushed (Err refused) o a t e = tt
 
 pub line_pushed : (o a b t1 t2 t3 : List ℕ) → t1 ≡ o ++ a → t2 ≡ t1 ++ b → t3 ≡ t2 ++ 10 ∷ [] → t3 ≡ o ++ ((a ++ b) ++ 10 ∷ [])
 line_pushed o a b t1 t2 t3 e1 e2 e3 = rw (e3, e2, e1) (simp append_assoc)

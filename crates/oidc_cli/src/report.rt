@@ -83,6 +83,14 @@ fn push_body(text: &mut String, request: &HttpRequest) -> Result<(), AllocError>
 
 // ---- lines
 
+// Adds words.
+fn push_words(text: &mut String, words: &str) -> Result<(), AllocError>
+    ensures { OnOk result (string_bytes text.new ≡ string_bytes text.old ++ words.now) }
+{
+    text.push_str(words)?;
+    Ok(())
+}
+
 // Adds a line of two parts.
 fn push_line(text: &mut String, words: &str, word: &str) -> Result<(), AllocError>
     ensures { OnOk result (string_bytes text.new
@@ -144,14 +152,17 @@ pub fn push_verdict(
     match reply {
         Ok(signed) => push_signed(text, alloc, signed),
         Err(LoginError::TooLong(place)) => push_too_long(text, *place),
-        Err(LoginError::State) => text.push_str("callback refused state\n"),
+        Err(LoginError::State) => push_words(text, "callback refused state\n"),
         Err(LoginError::Provider(code)) => push_provider(text, code),
-        Err(LoginError::Callback) => text.push_str("callback refused callback\n"),
+        Err(LoginError::Callback) => push_words(text, "callback refused callback\n"),
         Err(LoginError::Token(error)) => push_token(text, error),
-        Err(LoginError::NoIdToken) => text.push_str("callback refused no_id_token\n"),
+        Err(LoginError::NoIdToken) => push_words(text, "callback refused no_id_token\n"),
         Err(LoginError::Claims(kind)) => push_refused_claims(text, *kind),
-        Err(LoginError::Signing(_)) => text.push_str("callback refused signing unsupported_alg\n"),
-        Err(LoginError::TokenHash) => text.push_str("callback refused token_hash\n"),
+        Err(LoginError::Signing(_)) => push_words(
+            text,
+            "callback refused signing unsupported_alg\n",
+        ),
+        Err(LoginError::TokenHash) => push_words(text, "callback refused token_hash\n"),
         Err(LoginError::UserInfo(error)) => push_info(text, error),
         Err(LoginError::Memory { .. }) => Err(AllocError),
     }
