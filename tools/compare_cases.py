@@ -1,8 +1,9 @@
 #!/usr/bin/env python3
 """Has the second readers answer the cases of the programs of cases, and compares their answers with the expected lines.
 
-    tools/compare_cases.py           the tables of all five: `stdin` and `stdout` of crates/vectors, crates/vectors_keys,
-                                     crates/vectors_requests, crates/vectors_tokens and crates/vectors_logins
+    tools/compare_cases.py           the tables of all six: `stdin` and `stdout` of crates/vectors, crates/vectors_keys,
+                                     crates/vectors_requests, crates/vectors_tokens, crates/vectors_logins and
+                                     crates/vectors_provider
     tools/compare_cases.py NAME ..   the tables of these crates
 
 It writes how many cases of each operation were compared, and each line that a reader answers otherwise, and ends with
@@ -24,6 +25,7 @@ import plain_claims
 import plain_front
 import plain_info
 import plain_keys
+import plain_provider
 import plain_requests
 import plain_rsa
 import plain_sessions
@@ -46,6 +48,7 @@ READERS = {
     "vectors_requests": plain_requests.OPERATIONS,
     "vectors_tokens": {**plain_tokens.OPERATIONS, **plain_info.OPERATIONS, **plain_urls.OPERATIONS},
     "vectors_logins": {**plain_callback.OPERATIONS, **plain_front.OPERATIONS, **plain_sessions.OPERATIONS},
+    "vectors_provider": plain_provider.OPERATIONS,
 }
 
 # Pieces of cases with a URL that the URL Standard writes otherwise, or refuses (sections 3.5, 4.4 and 4.5). The readers
@@ -77,6 +80,7 @@ ASIDE = {
         "op=logout&endpoint=HTTPS://EXAMPLE:443/end&",
     ],
     "vectors_logins": [],
+    "vectors_provider": [],
 }
 
 
@@ -90,6 +94,7 @@ GENERATED = {
                        lambda: list(plain_tokens.readings()), lambda: list(plain_info.readings())],
     "vectors_logins": [plain_callback.short_cases, plain_callback.long_cases, plain_front.cases,
                        plain_sessions.session_cases, plain_sessions.apart_cases],
+    "vectors_provider": [],
 }
 
 
