@@ -61,6 +61,10 @@ module _ (p : SeenProvider) (a : Asked) where
       (λ unseen. record { allowed = allowed; new_token = token; no_text = hidden (is_visible_text a.token) unseen }) (λ seen.
       record { new_token = token; token_text = shown (is_visible_text a.token) seen })))))))
 
+  -- what is granted rests on this
+  pub allowed_forth : (allowed : Allowed) → authorization p a ≡ Ok allowed → IsAllowed p a allowed
+  allowed_forth allowed is = subst (Walk (IsAllowed p a) (Cause p a)) is walk
+
   -- ---- and back
 
   pub no_client : NamesNoClient p a → authorization p a ≡ Err Client

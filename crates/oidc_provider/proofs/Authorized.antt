@@ -154,6 +154,7 @@ module _ (p : SeenProvider) (here asked : Asked) (same : here ≡ asked) where
       grant = k.keeps.grant;
       granted = k.keeps.granted;
       kept = is ∙ ap (λ (made : SeenGrants). record p { grants = made }) k.keeps.kept;
+      own_query = k.keeps.own_query;
       named = k.keeps.named;
     }
 

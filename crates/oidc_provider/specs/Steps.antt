@@ -71,6 +71,7 @@ pub record KeepsGrant {AC GC : Type 0} (additional : List SeenMember → Result 
   pub grant : SeenGrant
   pub granted : IsGranted additional gender additional_out gender_data settings allowed code token claims user_info grant
   pub kept : new ≡ with_grant old grant
+  pub own_query : query ≡ callback_query code allowed.login.state
   pub named : pairs query ≡ callback_pairs code allowed.login.state
 
 -- the same, where this client asks

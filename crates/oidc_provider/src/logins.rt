@@ -1,8 +1,8 @@
 //! A whole login over a provider double.
 
 ghost use Rattle.std.specs.Prelude.{◌≡◌, Err};
-ghost use Rattle.oidc_provider.specs.AuthorizationCauses.{HasCause};
-ghost use Rattle.oidc_provider.specs.SignIn.{asked_with, by_callback, consent_of, IsHonestLogin, SignsIn};
+ghost use Rattle.oidc_provider.specs.AuthorizationCauses.{HasCause, Cause};
+ghost use Rattle.oidc_provider.specs.SignIn.{asked_with, by_callback, to_issue, allowed_for, IsHonestLogin, IsGrantable, IsComposed, SignsIn, OfCallback, Refuses, Grants};
 ghost use Rattle.oidc_provider.specs.declared.errors.AuthorizeError.{AuthorizeError};
 
 use crate::errors::SignInError;
@@ -32,10 +32,12 @@ fn as_sign_in<AC: AdditionalClaims, GC: GenderClaim>(
 /// Signs a user in, as a site and a browser do between them: the provider answers the URL of a begin by
 /// `Provider::authorize`, and the store of the begin answers the query by `Logins::callback`, over the provider.
 ///
-/// Where the login is honest, it signs in with the claims that were issued, or a text is too long, or there was no
-/// memory. Honest is a login whose begin was accepted and is pending, with a URL that has each of the begin's own
-/// names once; over a provider that grants what is asked, is the client's own, and knows its secret; where the claims
-/// are in the range of the round trip and expire later than `now`.
+/// Where the login is honest and the provider grants it, it signs in with the claims that were to be issued, or a text is
+/// too long, or there was no memory. Honest is a login whose begin was accepted and is pending, with a URL that has each of
+/// the begin's own names once; over a provider that is the client's own and knows its ID and its secret; where the claims
+/// are in the range of the round trip and expire later than `now`. Such a login is granted where the URL asks for a code by
+/// one `response_type`, one challenge and one method, its redirect is the registered one, the claims are about one subject,
+/// and code and access token are new.
 ///
 /// Where the provider grants nothing, both are as they were; else the login is spent as `Logins::callback` says, and the
 /// provider has the grant.
@@ -49,13 +51,28 @@ pub fn sign_in<AC: AdditionalClaims, GC: GenderClaim>(
     token: AccessToken,
     now: Timestamp,
 ) -> Result<SignedIn<AC, GC>, SignInError>
-    ensures signs_in { let c = consent_of claims user_info code token in
+    // An honest login.
+    ensures signs_in { let t = to_issue claims user_info code token in
         (h : IsHonestLogin AC.read_of GC.read_of AC.write_of
-        provider.old logins.old url.now c now.nanosecond)
-        → SignsIn AC.write_of GC.write_of provider.old.settings h.allowed h.begin.user_info c result }
-    ensures refused { let c = consent_of claims user_info code token in
+        provider.old logins.old url.now t now.nanosecond)
+        → let allowed = allowed_for h.registration h.begin in
+        let demand = h.begin.user_info in
+        OfCallback (SignsIn AC.write_of GC.write_of provider.old.settings allowed demand t)
+        result }
+    ensures grants { let t = to_issue claims user_info code token in
+        (h : IsHonestLogin AC.read_of GC.read_of AC.write_of
+        provider.old logins.old url.now t now.nanosecond)
+        → IsGrantable provider.old h.registration h.begin url.now t → Grants result }
+
+    // Every login: the two calls, one behind the other; and where the provider grants nothing, why.
+    ensures composed { let t = to_issue claims user_info code token in
+        OfCallback (IsComposed AC.read_of GC.read_of AC.write_of GC.write_of url.now t
+        now.nanosecond provider.old provider.new logins.old logins.new.pending) result }
+    ensures cause { let t = to_issue claims user_info code token in
         (e : AuthorizeError) → result ≡ Err (SignInError.Authorize e)
-        → HasCause provider.old (asked_with url.now c) e }
+        → HasCause provider.old (asked_with url.now t) e }
+    ensures refused { let t = to_issue claims user_info code token in
+        (e : AuthorizeError) → Cause provider.old (asked_with url.now t) e → Refuses result e }
     ensures unchanged { (e : AuthorizeError) → result ≡ Err (SignInError.Authorize e)
         → (provider.new ≡ provider.old) × (logins.new ≡ logins.old) }
     ensures client { logins.new.client ≡ logins.old.client }
