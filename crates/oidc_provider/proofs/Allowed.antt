@@ -11,8 +11,9 @@ use Rattle.oidc_provider.specs.Grants.{has_code, has_token}
 use Rattle.oidc_provider.specs.Provider.{SeenProvider}
 use Rattle.oidc_provider.specs.Values.{says}
 use Rattle.oidc_provider.specs.Rows.{provider_of}
-use Rattle.oidc_provider.specs.Authorization.{Asked, AskedLogin, Allowed, client_of, login_of, authorization, callback_query, reply_to, Replies}
+use Rattle.oidc_provider.specs.Authorization.{Asked, AskedLogin, Allowed, client_of, login_of, authorization, callback_query, authorization_reply, Replies}
 use Rattle.oidc_provider.specs.AuthorizationCauses.{Names, Asks, IsAbout, IsNewCode, IsNewToken, IsAllowed, NamesNoClient, NamesAnotherRedirect, AsksForNoCode, IsAboutTwo, HasUsedCode, HasUsedToken, HasNoTokenText, Cause, HasCause}
+use Rattle.oidc_provider.proofs.LoginOf.{asks_for_code, login_found, lacks_one, no_login}
 use Rattle.oidc_provider.specs.declared.settings.Registration.{Registration}
 use Rattle.oidc_provider.specs.declared.errors.AuthorizeError.{AuthorizeError}
 use Rattle.oidc_provider.specs.declared.errors.AuthorizeError.TheVariants.{Client, Redirect, Request, Subject, CodeUsed, TokenUsed, TokenText, Memory}
@@ -47,9 +48,9 @@ module _ (p : SeenProvider) (a : Asked) where
       at_when (IsAllowed p a) (Cause p a) (not (says a.query (codes "redirect_uri") client.redirect.text)) _ _
       (λ other. record { client = client; registered = registered; another = hidden (says a.query (codes "redirect_uri") client.redirect.text) other }) (λ own.
       let names : Names p a client = record { registered = registered; own_redirect = shown (says a.query (codes "redirect_uri") client.redirect.text) own } in
-      at_or (IsAllowed p a) (Cause p a) (login_of a.query) _ _ (λ none. record { client = client; names = names; no_login = none }) (λ login own_login.
+      at_or (IsAllowed p a) (Cause p a) (login_of a.query) _ _ (λ none. record { client = client; names = names; lacks = lacks_one a.query none }) (λ login own_login.
       let allowed : Allowed = record { client = client; login = login } in
-      let asks : Asks p a allowed = record { names = names; own_login = own_login } in
+      let asks : Asks p a allowed = record { names = names; own_login = asks_for_code a.query login own_login } in
       at_when (IsAllowed p a) (Cause p a) (not (bytes_eq a.subject a.info_subject)) _ _
       (λ other. record { allowed = allowed; asks = asks; another = other_text a.subject a.info_subject (bytes_eq a.subject a.info_subject) refl (hidden (bytes_eq a.subject a.info_subject) other) }) (λ same.
       let about : IsAbout p a allowed = record { asks = asks; one_subject = (bytes_decides a.subject a.info_subject).0 (shown (bytes_eq a.subject a.info_subject) same) } in
@@ -77,13 +78,13 @@ module _ (p : SeenProvider) (a : Asked) where
 
   no_code : AsksForNoCode p a → authorization p a ≡ Err Request
   unfolding authorization
-  no_code x = rw (x.names.registered, x.names.own_redirect, x.no_login) refl
+  no_code x = rw (x.names.registered, x.names.own_redirect, no_login a.query x.lacks) refl
 
   two_subjects : IsAboutTwo p a → authorization p a ≡ Err Subject
   unfolding authorization
   two_subjects x =
       let other : bytes_eq a.subject a.info_subject ≡ false = other_by a.subject a.info_subject x.another (bytes_eq a.subject a.info_subject) refl in
-      rw (x.asks.names.registered, x.asks.names.own_redirect, x.asks.own_login, other) refl
+      rw (x.asks.names.registered, x.asks.names.own_redirect, login_found a.query x.allowed.login x.asks.own_login, other) refl
 
   module _ (allowed : Allowed) (about : IsAbout p a allowed) where
     one_subject : bytes_eq a.subject a.info_subject ≡ true
@@ -98,7 +99,7 @@ module _ (p : SeenProvider) (a : Asked) where
 
     rest_is : authorization p a ≡ rest
     unfolding authorization
-    rest_is = rw (about.asks.names.registered, about.asks.names.own_redirect, about.asks.own_login, one_subject) refl
+    rest_is = rw (about.asks.names.registered, about.asks.names.own_redirect, login_found a.query allowed.login about.asks.own_login, one_subject) refl
 
   used_code : HasUsedCode p a → authorization p a ≡ Err CodeUsed
   used_code x = rest_is x.allowed x.about ∙ rw x.used refl
@@ -124,7 +125,7 @@ module _ (p : SeenProvider) (a : Asked) where
 
   -- ---- what a reply rests on
 
-  module _ (result : Result (List ℕ) AuthorizeError) (replies : Replies result (reply_to p a)) where
+  module _ (result : Result (List ℕ) AuthorizeError) (replies : Replies result (authorization_reply p a)) where
     pub refused : (e : AuthorizeError) → Cause p a e → Replies result (Err e)
     refused e cause =
         subst (λ (meant : Result Allowed AuthorizeError). Replies result (meant >>= λ allowed. Ok (callback_query a.code allowed.login.state))) (cause_back e cause) replies
@@ -142,13 +143,13 @@ module _ (p : SeenProvider) (a : Asked) where
   refusal_of (Err other) e rests is = subst (Cause p a) (same_error e other is) rests
 
   abbrev Refuses : AuthorizeError → Type 0
-  Refuses e = Err e ≡ reply_to p a
+  Refuses e = Err e ≡ authorization_reply p a
 
   pub why : (e : AuthorizeError) → Refuses e → Cause p a e
   why e is = refusal_of (authorization p a) e walk is
 
   -- the cause of a refusal that isn't want of memory
-  pub cause_of : (e : AuthorizeError) → Replies {A = List ℕ} (Err e) (reply_to p a) → HasCause p a e
+  pub cause_of : (e : AuthorizeError) → Replies {A = List ℕ} (Err e) (authorization_reply p a) → HasCause p a e
   cause_of Client is = why Client is
   cause_of Redirect is = why Redirect is
   cause_of Request is = why Request is

@@ -14,7 +14,7 @@ use Rattle.oidc_provider.specs.Grants.{SeenGrant, SeenGrants, has_code, has_toke
 use Rattle.oidc_provider.specs.Provider.{SeenProvider}
 use Rattle.oidc_provider.specs.Values.{says}
 use Rattle.oidc_provider.specs.Rows.{provider_of}
-use Rattle.oidc_provider.specs.Authorization.{Asked, AskedLogin, Allowed, client_of, login_of, authorization, callback_pairs, callback_query, reply_to, seen_reply, Replies}
+use Rattle.oidc_provider.specs.Authorization.{Asked, AskedLogin, Allowed, client_of, login_of, authorization, callback_pairs, callback_query, authorization_reply, seen_query, Replies}
 use Rattle.oidc_provider.specs.Issuing.{IsGranted}
 use Rattle.oidc_provider.specs.Keeping.{Keeps}
 use Rattle.oidc_provider.specs.Steps.{login_or_refusal, new_or_refusal, granted_login, client_reply, or_memory, allowed_to, KeepsGrant, KeepsGrants, KeepsOfClient}
@@ -45,7 +45,7 @@ after_client client code (Err e) = refl
 
 module _ (p : SeenProvider) (a : Asked) where
   -- nothing is granted where no client is named
-  pub none_replied : client_of p a.query ≡ None → ◌≡◌ {A = Result (List ℕ) AuthorizeError} (Err Client) (reply_to p a)
+  pub none_replied : client_of p a.query ≡ None → ◌≡◌ {A = Result (List ℕ) AuthorizeError} (Err Client) (authorization_reply p a)
   none_replied none = sym (ap (λ (meant : Result Allowed AuthorizeError). meant >>= λ allowed. Ok (callback_query a.code allowed.login.state)) (no_client p a none))
 
   module _ (client : Registration) (found : client_of p a.query ≡ Some client) where
@@ -55,12 +55,12 @@ module _ (p : SeenProvider) (a : Asked) where
         rw found (same_rows client (not (says a.query (codes "redirect_uri") client.redirect.text)) (login_or_refusal a.query)
         (not (bytes_eq a.subject a.info_subject)) (has_code p.grants a.code) (has_token p.grants a.token) (not (is_visible_text a.token)))
 
-    same_reply : reply_to p a ≡ client_reply p.grants client a
+    same_reply : authorization_reply p a ≡ client_reply p.grants client a
     same_reply =
         ap (λ (meant : Result Allowed AuthorizeError). meant >>= λ allowed. Ok (callback_query a.code allowed.login.state)) by_client
         ∙ after_client client a.code (granted_login p.grants client a)
 
-    pub client_replied : (result : Result (List ℕ) AuthorizeError) → Replies result (client_reply p.grants client a) → Replies result (reply_to p a)
+    pub client_replied : (result : Result (List ℕ) AuthorizeError) → Replies result (client_reply p.grants client a) → Replies result (authorization_reply p a)
     client_replied result replies = subst (Replies result) (sym same_reply) replies
 
     module _ {AC GC : Type 0} (additional : List SeenMember → Result AC Refusal) (gender : SeenMember → Result GC Refusal) (additional_out : AC → List OutSeen) (gender_data : GC → Data)
@@ -111,15 +111,15 @@ module _ (grants : SeenGrants) (client : Registration) (a : Asked) where
 
   module _ (login : AskedLogin) (was_granted : Replies {A = AskedLogin} (Ok login) (granted_login grants client a)) {Y E : Type 0} (made : Result (String Y) E) where
     replied_by : (r : Result (String Y) E) → IfOk r (λ query. string_bytes query ≡ callback_query a.code login.state)
-        → Replies (seen_reply (or_memory r)) (client_reply grants client a)
+        → Replies (seen_query (or_memory r)) (client_reply grants client a)
     replied_by (Ok query) is = ap Ok is ∙ ap (λ (r : Result AskedLogin AuthorizeError). r >>= λ l. Ok (callback_query a.code l.state)) was_granted
     replied_by (Err e) is = tt
 
     -- a query that was made is its reply
     pub login_replied : (result : Result (String Y) AuthorizeError) → result ≡ or_memory made → IfOk made (λ query. string_bytes query ≡ callback_query a.code login.state)
-        → Replies (seen_reply result) (client_reply grants client a)
+        → Replies (seen_query result) (client_reply grants client a)
     login_replied result is query =
-        subst (λ (r : Result (String Y) AuthorizeError). Replies (seen_reply r) (client_reply grants client a)) (sym is) (replied_by made query)
+        subst (λ (r : Result (String Y) AuthorizeError). Replies (seen_query r) (client_reply grants client a)) (sym is) (replied_by made query)
 
     module _ {AC GC : Type 0} (additional : List SeenMember → Result AC Refusal) (gender : SeenMember → Result GC Refusal) (additional_out : AC → List OutSeen) (gender_data : GC → Data)
         (settings : ProviderSettings) (claims : SeenIdTokenClaims AC GC) (user_info : SeenUserInfoClaims AC GC) (new : SeenGrants) where
@@ -139,9 +139,9 @@ module _ (grants : SeenGrants) (client : Registration) (a : Asked) where
 -- ---- the whole provider, of which the parts were seen
 
 module _ (p : SeenProvider) (here asked : Asked) (same : here ≡ asked) where
-  pub replied : (result : Result (List ℕ) AuthorizeError) → Replies result (reply_to (provider_of p.settings p.registrations p.grants) here) → Replies result (reply_to p asked)
+  pub replied : (result : Result (List ℕ) AuthorizeError) → Replies result (authorization_reply (provider_of p.settings p.registrations p.grants) here) → Replies result (authorization_reply p asked)
   replied result replies =
-      subst (λ a. Replies result (reply_to p a)) same
+      subst (λ a. Replies result (authorization_reply p a)) same
       (subst (λ (meant : Result Allowed AuthorizeError). Replies result (meant >>= λ allowed. Ok (callback_query here.code allowed.login.state))) (authorization_of_parts p here) replies)
 
   module _ {AC GC : Type 0} (additional : List SeenMember → Result AC Refusal) (gender : SeenMember → Result GC Refusal) (additional_out : AC → List OutSeen) (gender_data : GC → Data)
@@ -165,6 +165,6 @@ module _ (p : SeenProvider) (here asked : Asked) (same : here ≡ asked) where
     keeps (Err e) k = tt
 
 -- each refusal has its cause
-module _ {Y : Type 0} (p : SeenProvider) (a : Asked) (result : Result (String Y) AuthorizeError) (replies : Replies (seen_reply result) (reply_to p a)) where
+module _ {Y : Type 0} (p : SeenProvider) (a : Asked) (result : Result (String Y) AuthorizeError) (replies : Replies (seen_query result) (authorization_reply p a)) where
   pub caused : (e : AuthorizeError) → result ≡ Err e → HasCause p a e
-  caused e is = cause_of p a e (subst (λ (r : Result (String Y) AuthorizeError). Replies (seen_reply r) (reply_to p a)) is replies)
+  caused e is = cause_of p a e (subst (λ (r : Result (String Y) AuthorizeError). Replies (seen_query r) (authorization_reply p a)) is replies)

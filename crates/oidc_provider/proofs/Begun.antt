@@ -1,5 +1,5 @@
 -- What the URL of a begin says, where a provider allows it.
-use Rattle.std.proofs.Common.{◌≡◌, ℕ, List, [], ◌∷◌, ◌++◌, Bool, true, false, cond, Option, None, Some, Result, Ok, Err, refl, ap, sym, ◌∙◌}
+use Rattle.std.proofs.Common.{◌≡◌, ℕ, List, [], ◌∷◌, ◌++◌, true, Option, None, Some, refl, ap, sym, ◌∙◌}
 use Rattle.std.specs.Prelude.{option_map, unwrap_or}
 use Rattle.std.specs.Cmp.Lexicographic.{bytes_decides}
 use Rattle.std.proofs.lemmas.Bool.{false≢true}
@@ -8,7 +8,6 @@ use Rattle.oidc_pairs.specs.Pairs.{pairs, only_of}
 use Rattle.oidc_types.specs.{TextAndUrl}
 use Rattle.oidc_client.specs.Authorization.{query_values, at_most_one}
 use Rattle.oidc_provider.specs.Values.{only, is_it}
-use Rattle.oidc_provider.specs.Authorization.{AskedLogin, login_with}
 
 pub same_Some : {A : Type 0} (x y : A) → ◌≡◌ {A = Option A} (Some x) (Some y) → x ≡ y
 same_Some x y e = cc
@@ -24,19 +23,12 @@ one_of_pair [] (z ∷ after) x y is = absurd cc
 one_of_pair (z ∷ []) after x y is = absurd cc
 one_of_pair (z ∷ w ∷ before) after x y is = absurd cc
 
--- what a login that is asked for was made of
-pub login_parts : (asks : Bool) (state nonce challenge : Option (List ℕ)) (l : AskedLogin) → cond asks (login_with state nonce challenge) None ≡ Some l
-    → (state ≡ Some l.state) × (nonce ≡ Some l.nonce) × (challenge ≡ Some l.challenge)
-login_parts false state nonce challenge l is = absurd cc
-login_parts true None nonce challenge l is = absurd cc
-login_parts true (Some s) None challenge l is = absurd cc
-login_parts true (Some s) (Some n) None l is = absurd cc
-login_parts true (Some s) (Some n) (Some c) l is =
-    let same : record { state = s; nonce = n; challenge = c } ≡ l = same_Some (record { state = s; nonce = n; challenge = c }) l is in
-    (ap (λ (x : AskedLogin). Some x.state) same, ap (λ (x : AskedLogin). Some x.nonce) same, ap (λ (x : AskedLogin). Some x.challenge) same)
-
 -- the redirect of a request whose URL names this text
 pub redirect_of : (own : Option TextAndUrl) (found : Option (List ℕ)) (text : List ℕ) → found ≡ only_of (at_most_one (option_map (λ u. u.text) own)) → is_it found text ≡ true
     → (u : TextAndUrl) × (own ≡ Some u) × (u.text ≡ text)
 redirect_of None found text is says = absurd (false≢true (ap (λ (f : Option (List ℕ)). is_it f text) (sym is) ∙ says))
 redirect_of (Some u) found text is says = (u, refl, (bytes_decides u.text text).0 (ap (λ (f : Option (List ℕ)). is_it f text) (sym is) ∙ says))
+
+-- the one value of a redirect that a request has
+pub at_most_of : (own : Option TextAndUrl) (u : TextAndUrl) → own ≡ Some u → at_most_one (option_map (λ x. x.text) own) ≡ u.text ∷ []
+at_most_of own u is = ap (λ (o : Option TextAndUrl). at_most_one (option_map (λ x. x.text) o)) is

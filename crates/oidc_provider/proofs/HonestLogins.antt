@@ -42,7 +42,7 @@ use Rattle.oidc_provider.specs.Grants.{SeenGrant, of_code}
 use Rattle.oidc_provider.specs.Provider.{SeenProvider}
 use Rattle.oidc_provider.specs.Issuing.{tokens}
 use Rattle.oidc_provider.specs.Answers.{json, tokens_of, user_info_of, provider_answer, after, served}
-use Rattle.oidc_provider.specs.Honest.{AreTexts, Names, Knows, Granted, HoldsToken, HoldsInfo, IsHonest, user_by, honest_reply, HonestSignsIn}
+use Rattle.oidc_provider.specs.Honest.{AreFormTexts, NamesLogin, Knows, StandsUnredeemed, HoldsToken, HoldsInfo, IsHonest, user_by, honest_reply, HonestSignsIn}
 use Rattle.oidc_provider.proofs.Served as serves
 use Rattle.oidc_provider.proofs.Registered.{own_id, equal_texts}
 

@@ -8,6 +8,7 @@ mod Made
 mod Table
 mod Serving
 mod RowOf
+mod LoginOf
 mod Registered
 mod Allowed
 mod Authorized
@@ -15,4 +16,6 @@ mod Served
 mod HonestLogins
 mod Begun
 mod IssuedHash
+mod GrantSigns
+mod KeptGrants
 mod SignsIn

@@ -18,7 +18,7 @@ use Rattle.oidc_provider.specs.Authorization.{AskedLogin}
 use Rattle.oidc_provider.specs.Issuing.{IsIssued, IsUsable, IsGranted, token_body, claims_for}
 use Rattle.oidc_provider.specs.Making.{IsIssuedBody, IsGrantOf, parts_of, claims_of}
 use Rattle.oidc_provider.specs.Steps.{allowed_to}
-use Rattle.oidc_provider.specs.declared.issuing.Own.{Own}
+use Rattle.oidc_provider.specs.declared.issuing.GrantSource.{GrantSource}
 use Rattle.oidc_provider.specs.declared.settings.ProviderSettings.{ProviderSettings}
 use Rattle.oidc_provider.specs.declared.settings.Registration.{Registration}
 
@@ -36,7 +36,7 @@ module _ {AC GC : Type 0} (additional : List SeenMember → Result AC Refusal) (
   }
   issued_of items secret token copy claims id_token (Err e) issued usable same token_text is = tt
 
-  module _ (settings : ProviderSettings) (client : Registration) (own : Own) (login : AskedLogin) (audiences : List (List ℕ)) (code token : List ℕ)
+  module _ (settings : ProviderSettings) (client : Registration) (own : GrantSource) (login : AskedLogin) (audiences : List (List ℕ)) (code token : List ℕ)
       (claims : SeenIdTokenClaims AC GC) (user_info : SeenUserInfoClaims AC GC) (info_body : List ℕ)
       (issuer : own.issuer ≡ settings.issuer) (audience : audiences ≡ client.client_id ∷ []) (key : own.key ≡ client.secret)
       (name : string_bytes own.client ≡ client.client_id) (redirect : string_bytes own.redirect ≡ client.redirect.text)

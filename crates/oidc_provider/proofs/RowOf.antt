@@ -11,16 +11,16 @@ use Rattle.oidc_provider.proofs.Table.{tokens_answered, info_answered, nothing_a
 module _ (p : SeenProvider) (r : SeenRequest) where
   -- by what was found of a request
   pub posted : {R E : Type 0} (answer_of : R → Answer) (credentials : Option (List ℕ)) (result : Result R E) → credentials ≡ credentials_in r → asks_for_tokens p r ≡ true
-      → IfOk result (λ row. answer_of row ≡ rows.token_answer credentials (pairs r.body) p.registrations p.grants)
+      → IfOk result (λ row. answer_of row ≡ rows.token_row_answer credentials (pairs r.body) p.registrations p.grants)
       → IfOk result (λ row. answer_of row ≡ provider_answer p r)
   posted answer_of credentials (Ok row) own asks is =
-      is ∙ ap (λ o. rows.token_answer o (pairs r.body) p.registrations p.grants) own ∙ sym (tokens_answered p r asks)
+      is ∙ ap (λ o. rows.token_row_answer o (pairs r.body) p.registrations p.grants) own ∙ sym (tokens_answered p r asks)
   posted answer_of credentials (Err e) own asks is = tt
 
   pub got : (answer : Answer) (credentials : Option (List ℕ)) → credentials ≡ credentials_in r → asks_for_tokens p r ≡ false → asks_for_info p r ≡ true
-      → answer ≡ rows.info_answer (rows.borne_by p.grants credentials) → answer ≡ provider_answer p r
+      → answer ≡ rows.info_row_answer (rows.borne_by p.grants credentials) → answer ≡ provider_answer p r
   got answer credentials own others asks is =
-      is ∙ ap (λ o. rows.info_answer (rows.borne_by p.grants o)) own ∙ sym (info_answered p r others asks)
+      is ∙ ap (λ o. rows.info_row_answer (rows.borne_by p.grants o)) own ∙ sym (info_answered p r others asks)
 
   pub neither : asks_for_tokens p r ≡ false → asks_for_info p r ≡ false → empty 404 ≡ provider_answer p r
   neither others none = sym (nothing_answered p r others none)

@@ -55,12 +55,12 @@ use Rattle.oidc_provider.specs.Settings.{registered}
 use Rattle.oidc_provider.specs.Grants.{SeenGrant, of_code, with_grant}
 use Rattle.oidc_provider.specs.Provider.{SeenProvider}
 use Rattle.oidc_provider.specs.Values.{Pairs, only}
-use Rattle.oidc_provider.specs.Authorization.{Asked, Allowed, authorization, reply_to, asks_for_code, callback_pairs, callback_query, Replies}
+use Rattle.oidc_provider.specs.Authorization.{Asked, Allowed, authorization, authorization_reply, asks_for_code, callback_pairs, callback_query, Replies}
 use Rattle.oidc_provider.specs.AuthorizationCauses as causes
 use Rattle.oidc_provider.specs.Issuing.{core_types, key_of_secret, claims_for, hashed, tokens, token_body, IsIssued, IsGranted}
 use Rattle.oidc_provider.specs.Keeping.{Keeps}
 use Rattle.oidc_provider.specs.Answers.{served, after}
-use Rattle.oidc_provider.specs.Honest.{AreTexts, Names, Knows, Granted, HoldsToken, HoldsInfo, IsHonest, user_by, honest_reply}
+use Rattle.oidc_provider.specs.Honest.{AreFormTexts, Names, Knows, Granted, HoldsToken, HoldsInfo, IsHonest, user_by, honest_reply}
 use Rattle.oidc_provider.specs.SignIn.{Consent, asked_with, login_of_begin, MayBeDemanded, IsHonestLogin, HasGranted, IsTooLong, MayRefuse, SignsIn, by_callback}
 use Rattle.oidc_provider.proofs.Allowed.{allowed_back, cause_of}
 use Rattle.oidc_provider.proofs.Begun as begun
@@ -201,7 +201,7 @@ module _ {AC GC : Type 0} (additional : List SeenMember → Result AC Refusal) (
     header_text = ap is_visible_text granted.token ∙ h.is_allowed.token_text;
   }
 
-  texts : AreTexts client login redirect.0.text g.code
+  texts : AreFormTexts client login redirect.0.text g.code
   texts = record {
     code_text = subst IsUtf8 (sym granted.code) granted.texts.code;
     verifier_text = h.begun.verifier_text;
@@ -386,7 +386,7 @@ module _ {AC GC : Type 0} (additional : List SeenMember → Result AC Refusal) (
 
 -- why it refused
 pub caused_by : {A : Type 0} (p : SeenProvider) (a : Asked) (found e : AuthorizeError) → ◌≡◌ {A = Result A SignInError} (Err (Authorize found)) (Err (Authorize e))
-    → Replies {A = List ℕ} (Err found) (reply_to p a) → causes.HasCause p a e
+    → Replies {A = List ℕ} (Err found) (authorization_reply p a) → causes.HasCause p a e
 caused_by p a found e is replies =
     let same : found ≡ e = cc in subst (causes.HasCause p a) same (cause_of p a found replies)
 

@@ -43,7 +43,7 @@ tokens_row true true None info borne = refl
 tokens_row true true (Some grant) info borne = refl
 
 pub info_row : (authenticated by_code : Bool) (asked borne : Option SeenGrant)
-    → by_rows false authenticated by_code asked true borne ≡ rows.info_answer borne
+    → by_rows false authenticated by_code asked true borne ≡ rows.info_row_answer borne
 info_row authenticated by_code asked None = refl
 info_row authenticated by_code asked (Some grant) = refl
 
@@ -55,14 +55,14 @@ other_row authenticated by_code asked borne = refl
 
 module _ (p : SeenProvider) (r : SeenRequest) where
   pub tokens_answered : asks_for_tokens p r ≡ true
-      → provider_answer p r ≡ rows.token_answer (credentials_in r) (pairs r.body) p.registrations p.grants
+      → provider_answer p r ≡ rows.token_row_answer (credentials_in r) (pairs r.body) p.registrations p.grants
   tokens_answered asks =
       answer_by_rows p r
       ∙ ap (λ b. by_rows b (is_authenticated p.registrations r) (says (pairs r.body) (codes "grant_type") (codes "authorization_code")) (asked_grant p r) (asks_for_info p r) (borne_grant p r)) asks
       ∙ tokens_row (is_authenticated p.registrations r) (says (pairs r.body) (codes "grant_type") (codes "authorization_code")) (asked_grant p r) (asks_for_info p r) (borne_grant p r)
 
   pub info_answered : asks_for_tokens p r ≡ false → asks_for_info p r ≡ true
-      → provider_answer p r ≡ rows.info_answer (borne_grant p r)
+      → provider_answer p r ≡ rows.info_row_answer (borne_grant p r)
   info_answered others asks =
       answer_by_rows p r
       ∙ ap (λ b. by_rows b (is_authenticated p.registrations r) (says (pairs r.body) (codes "grant_type") (codes "authorization_code")) (asked_grant p r) (asks_for_info p r) (borne_grant p r)) others

@@ -92,15 +92,15 @@ callback_pairs code state = (codes "code", code) ∷ (codes "state", state) ∷ 
 abbrev pub callback_query : List ℕ → List ℕ → List ℕ
 callback_query code state = form (callback_pairs code state)
 
-abbrev pub reply_to : SeenProvider → Asked → Result (List ℕ) AuthorizeError
-reply_to p a = do
+abbrev pub authorization_reply : SeenProvider → Asked → Result (List ℕ) AuthorizeError
+authorization_reply p a = do
   allowed ← authorization p a
   Ok (callback_query a.code allowed.login.state)
 
 -- what is seen of a reply
-abbrev pub seen_reply : {Y : Type 0} → Result (String Y) AuthorizeError → Result (List ℕ) AuthorizeError
-seen_reply (Ok query) = Ok (string_bytes query)
-seen_reply (Err refusal) = Err refusal
+abbrev pub seen_query : {Y : Type 0} → Result (String Y) AuthorizeError → Result (List ℕ) AuthorizeError
+seen_query (Ok query) = Ok (string_bytes query)
+seen_query (Err refusal) = Err refusal
 
 -- the result is the reply that is meant, or want of memory
 abbrev pub Replies : {A : Type 0} → Result A AuthorizeError → Result A AuthorizeError → Type 0

@@ -1,13 +1,30 @@
 -- Why the authorization endpoint of a provider double refuses, said without its table.
-use Rattle.std.specs.Prelude.{◌≡◌, ◌≢◌, true, false, None, Some, codes}
+use Rattle.std.specs.Prelude.{◌≡◌, ◌≢◌, ◌⊎◌, true, false, None, Some, codes}
 use Rattle.http_header.specs.FieldValue.{is_visible_text}
 use Rattle.oidc_provider.specs.Grants.{has_code, has_token}
 use Rattle.oidc_provider.specs.Provider.{SeenProvider}
-use Rattle.oidc_provider.specs.Values.{says}
-use Rattle.oidc_provider.specs.Authorization.{Asked, AskedLogin, Allowed, client_of, login_of}
+use Rattle.oidc_provider.specs.Values.{Pairs, only, says}
+use Rattle.oidc_provider.specs.Authorization.{Asked, AskedLogin, Allowed, client_of}
 use Rattle.oidc_provider.specs.declared.settings.Registration.{Registration}
 use Rattle.oidc_provider.specs.declared.errors.AuthorizeError.{AuthorizeError}
 use Rattle.oidc_provider.specs.declared.errors.AuthorizeError.TheVariants.{Client, Redirect, Request, Subject, CodeUsed, TokenUsed, TokenText, Memory}
+
+-- It asks for a code, proves by S256, and has one state, one nonce and one challenge: these of the login.
+pub record AsksForCode (query : Pairs) (login : AskedLogin) : Type 0 where
+  pub response_type : says query (codes "response_type") (codes "code") ≡ true
+  pub method : says query (codes "code_challenge_method") (codes "S256") ≡ true
+  pub state : only query (codes "state") ≡ Some login.state
+  pub nonce : only query (codes "nonce") ≡ Some login.nonce
+  pub challenge : only query (codes "code_challenge") ≡ Some login.challenge
+
+-- It lacks one of the five, or has it twice, or with another word.
+abbrev pub LacksOne : Pairs → Type 0
+LacksOne query =
+    (says query (codes "response_type") (codes "code") ≡ false)
+    ⊎ ((says query (codes "code_challenge_method") (codes "S256") ≡ false)
+    ⊎ ((only query (codes "state") ≡ None)
+    ⊎ ((only query (codes "nonce") ≡ None)
+    ⊎ (only query (codes "code_challenge") ≡ None))))
 
 module _ (p : SeenProvider) (a : Asked) where
   -- ---- how far a request came: each record rests on the one before
@@ -20,7 +37,7 @@ module _ (p : SeenProvider) (a : Asked) where
   -- it asks for a code with all that a login has to have
   pub record Asks (allowed : Allowed) : Type 0 where
     pub names : Names allowed.client
-    pub own_login : login_of a.query ≡ Some allowed.login
+    pub own_login : AsksForCode a.query allowed.login
 
   -- the two claims are about one subject
   pub record IsAbout (allowed : Allowed) : Type 0 where
@@ -51,7 +68,7 @@ module _ (p : SeenProvider) (a : Asked) where
   pub record AsksForNoCode : Type 0 where
     pub client : Registration
     pub names : Names client
-    pub no_login : login_of a.query ≡ None
+    pub lacks : LacksOne a.query
 
   pub record IsAboutTwo : Type 0 where
     pub allowed : Allowed

@@ -28,7 +28,7 @@ use Rattle.oidc_provider.specs.Answers.{served}
 use Rattle.oidc_provider.specs.declared.settings.Registration.{Registration}
 
 -- The texts that go through a form text are UTF-8, as those of a program are.
-pub record AreTexts (client : Registration) (login : SeenLogin) (redirect code : List ℕ) : Type 0 where
+pub record AreFormTexts (client : Registration) (login : SeenLogin) (redirect code : List ℕ) : Type 0 where
   pub code_text : IsUtf8 code
   pub verifier_text : IsUtf8 login.verifier
   pub redirect_text : IsUtf8 redirect
@@ -37,7 +37,7 @@ pub record AreTexts (client : Registration) (login : SeenLogin) (redirect code :
 
 module _ {AC GC Key Use : Type 0} (types : SiteTypes AC GC Key Use) (p : SeenProvider) (a : Attempt Key) where
   -- the login that the query of a callback names, beside the code of this grant
-  pub record Names (g : SeenGrant) (login : SeenLogin) : Type 0 where
+  pub record NamesLogin (g : SeenGrant) (login : SeenLogin) : Type 0 where
     pub state : List ℕ
     pub query : pairs a.query ≡ (codes "code", g.code) ∷ (codes "state", state) ∷ []
     pub pending : finite.get a.pending state ≡ Some login
@@ -53,7 +53,7 @@ module _ {AC GC Key Use : Type 0} (types : SiteTypes AC GC Key Use) (p : SeenPro
     pub address : is_address (serialize endpoint.url) ≡ true
 
   -- it granted this, with the redirect and the challenge of the login, and it wasn't redeemed since
-  pub record Granted (g : SeenGrant) (login : SeenLogin) : Type 0 where
+  pub record StandsUnredeemed (g : SeenGrant) (login : SeenLogin) : Type 0 where
     pub of_own_code : of_code p.grants g.code ≡ Some g
     pub of_own_token : finite.get p.grants.codes g.token ≡ Some g.code
     pub unredeemed : g.redeemed ≡ false
@@ -84,11 +84,11 @@ module _ {AC GC Key Use : Type 0} (types : SiteTypes AC GC Key Use) (p : SeenPro
   -- a login over a provider that behaves
   pub record IsHonest (g : SeenGrant) (login : SeenLogin) (id_token : SeenIdToken AC GC)
       (found : SeenUserInfoClaims AC GC) : Type 0 where
-    pub names : Names g login
+    pub names : NamesLogin g login
     pub client : Registration
     pub knows : Knows g client
-    pub granted : Granted g login
-    pub texts : AreTexts client login granted.redirect.text g.code
+    pub granted : StandsUnredeemed g login
+    pub texts : AreFormTexts client login granted.redirect.text g.code
     pub holds : HoldsToken g login id_token
     pub info : (login.user_info ≡ None)
         ⊎ ((demand : UserInfoDemand) × (login.user_info ≡ Some demand) × HoldsInfo g id_token demand found)

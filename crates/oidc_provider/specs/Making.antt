@@ -10,7 +10,7 @@ use Rattle.oidc_login.specs.Token.{SeenIdToken}
 use Rattle.oidc_provider.specs.Grants.{SeenGrant}
 use Rattle.oidc_provider.specs.Authorization.{AskedLogin}
 use Rattle.oidc_provider.specs.Issuing.{IsIssued, IsUsable, token_body}
-use Rattle.oidc_provider.specs.declared.issuing.Own.{Own}
+use Rattle.oidc_provider.specs.declared.issuing.GrantSource.{GrantSource}
 
 -- the texts of a grant
 pub record GrantTexts : Type 0 where
@@ -20,7 +20,7 @@ pub record GrantTexts : Type 0 where
   pub code : List ℕ
   pub token : List ℕ
 
-abbrev pub parts_of : Own → AskedLogin → List ℕ → List ℕ → GrantTexts
+abbrev pub parts_of : GrantSource → AskedLogin → List ℕ → List ℕ → GrantTexts
 parts_of own login code token = record {
   client = string_bytes own.client;
   redirect = string_bytes own.redirect;

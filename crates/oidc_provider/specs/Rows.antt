@@ -54,8 +54,8 @@ may_redeem_by credentials body registrations grant =
     not grant.redeemed && is_of_client_by credentials body registrations grant.client
     && says body (codes "redirect_uri") grant.redirect && proves_by body grant.challenge
 
-abbrev pub asked_by : Option (List ℕ) → Pairs → List Registration → SeenGrants → Option SeenGrant
-asked_by credentials body registrations grants =
+abbrev pub grant_asked_by : Option (List ℕ) → Pairs → List Registration → SeenGrants → Option SeenGrant
+grant_asked_by credentials body registrations grants =
     option_and_then (λ grant. then_some (may_redeem_by credentials body registrations grant) grant)
     (option_and_then (of_code grants) (only body (codes "code")))
 
@@ -70,17 +70,17 @@ abbrev pub redeeming : Option SeenGrant → Answer
 redeeming None = refused 400 (codes "invalid_grant")
 redeeming (Some grant) = tokens_of grant
 
-abbrev pub token_answer : Option (List ℕ) → Pairs → List Registration → SeenGrants → Answer
-token_answer credentials body registrations grants =
+abbrev pub token_row_answer : Option (List ℕ) → Pairs → List Registration → SeenGrants → Answer
+token_row_answer credentials body registrations grants =
     if is_authenticated_by credentials body registrations
     then (if says body (codes "grant_type") (codes "authorization_code")
-    then redeeming (asked_by credentials body registrations grants)
+    then redeeming (grant_asked_by credentials body registrations grants)
     else refused 400 (codes "unsupported_grant_type"))
     else refused 401 (codes "invalid_client")
 
-abbrev pub info_answer : Option SeenGrant → Answer
-info_answer None = empty 401
-info_answer (Some grant) = user_info_of grant
+abbrev pub info_row_answer : Option SeenGrant → Answer
+info_row_answer None = empty 401
+info_row_answer (Some grant) = user_info_of grant
 
 abbrev pub answer_of : Row → Answer
 answer_of InvalidClient = refused 401 (codes "invalid_client")

@@ -208,7 +208,7 @@ fn redeeming_row<'g>(
     grants: &'g Grants,
 ) -> Result<Row<'g>, AllocError>
     ensures { IfOk result (λ row. rows.answer_of row ≡ rows.redeeming
-        (rows.asked_by (rows.bytes_of credentials.entry) body.now registrations.now grants.now)) }
+        (rows.grant_asked_by (rows.bytes_of credentials.entry) body.now registrations.now grants.now)) }
 {
     let Some(code) = body.only("code") else {
         return Ok(Row::InvalidGrant);
@@ -231,7 +231,7 @@ fn token_row<'g>(
     registrations: &[Registration],
     grants: &'g Grants,
 ) -> Result<Row<'g>, AllocError>
-    ensures { IfOk result (λ row. rows.answer_of row ≡ rows.token_answer
+    ensures { IfOk result (λ row. rows.answer_of row ≡ rows.token_row_answer
         (rows.bytes_of credentials.entry) body.now registrations.now grants.now) }
 {
     if !is_authenticated(alloc, credentials, body, registrations)? {
@@ -246,7 +246,7 @@ fn token_row<'g>(
 // The row of a request for user info.
 fn info_row<'g>(grants: &'g Grants, credentials: Option<&HeaderValue>) -> Row<'g>
     ensures { rows.answer_of result
-        ≡ rows.info_answer (rows.borne_by grants.now (rows.bytes_of credentials.entry)) }
+        ≡ rows.info_row_answer (rows.borne_by grants.now (rows.bytes_of credentials.entry)) }
 {
     match borne_grant(grants, credentials) {
         Some(grant) => Row::UserInfo(grant),
@@ -276,7 +276,7 @@ fn posted_row<'g>(
     grants: &'g Grants,
     request: &HttpRequest,
 ) -> Result<Row<'g>, AllocError>
-    ensures { IfOk result (λ row. rows.answer_of row ≡ rows.token_answer
+    ensures { IfOk result (λ row. rows.answer_of row ≡ rows.token_row_answer
         (rows.bytes_of credentials.entry) (pairs request.now.body) registrations.now grants.now) }
 {
     let body = BorrowedPairs::parse(alloc, request.body().as_slice())?;

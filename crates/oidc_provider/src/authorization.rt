@@ -132,7 +132,7 @@ fn login_of(alloc: Global, query: &BorrowedPairs<'_>) -> Result<Login, Authorize
 
 // What is handed in beside the request itself: the subjects of the two claims, the code and the access token.
 #[derive(Clone, Copy)]
-pub(crate) struct HandedIn<'a> {
+pub(crate) struct AskedGrant<'a> {
     pub(crate) subject: &'a SubjectIdentifier,
     pub(crate) info_subject: &'a SubjectIdentifier,
     pub(crate) code: &'a AuthorizationCode,
@@ -140,7 +140,7 @@ pub(crate) struct HandedIn<'a> {
 }
 
 // Whether what is handed in may be granted.
-fn check_new(grants: &Grants, given: HandedIn<'_>) -> Result<(), AuthorizeError>
+fn check_new(grants: &Grants, given: AskedGrant<'_>) -> Result<(), AuthorizeError>
     ensures { let asked = asked_by [] given.entry.subject.now given.entry.info_subject.now
         given.entry.code.now given.entry.token.now in
         result ≡ steps.new_or_refusal grants.now asked }
@@ -166,7 +166,7 @@ pub(crate) fn granted_login(
     client: &Registration,
     grants: &Grants,
     query: &BorrowedPairs<'_>,
-    given: HandedIn<'_>,
+    given: AskedGrant<'_>,
 ) -> Result<Login, AuthorizeError>
     ensures { let asked = asked_by query.now given.entry.subject.now given.entry.info_subject.now
         given.entry.code.now given.entry.token.now in

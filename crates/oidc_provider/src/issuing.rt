@@ -177,7 +177,7 @@ fn key_of(alloc: Global, client: &Registration) -> Result<CoreHmacKey, AllocErro
 
 // What a grant takes of its client and of the provider: copies, the key, and the two texts of the client.
 #[derive(Drop)]
-pub(crate) struct Own {
+pub(crate) struct GrantSource {
     pub(crate) issuer: IssuerUrl,
     pub(crate) audiences: Vec<Audience>,
     pub(crate) key: CoreHmacKey,
@@ -189,7 +189,7 @@ fn own_of(
     alloc: Global,
     settings: &ProviderSettings,
     client: &Registration,
-) -> Result<Own, AllocError>
+) -> Result<GrantSource, AllocError>
     ensures issuer { IfOk result (λ own. own.issuer ≡ settings.now.issuer) }
     ensures audiences { IfOk result (λ own. own.audiences.items ≡ client.now.client_id ∷ []) }
     ensures key { IfOk result (λ own. own.key ≡ client.now.secret) }
@@ -207,7 +207,7 @@ fn own_of(
     let name = String::from_str(alloc, client.client_id.as_str())?;
     let redirect = String::from_str(alloc, client.redirect.as_str())?;
     let issuer = settings.issuer.clone_in(alloc)?;
-    Ok(Own {
+    Ok(GrantSource {
         issuer,
         audiences,
         key,
@@ -219,7 +219,7 @@ fn own_of(
 // A grant, unredeemed, with the ID token of these claims.
 fn grant_of<AC: AdditionalClaims, GC: GenderClaim>(
     alloc: Global,
-    own: Own,
+    own: GrantSource,
     login: Login,
     given: (AuthorizationCode, AccessToken),
     claims: IdTokenClaims<AC, GC>,
@@ -229,7 +229,7 @@ fn grant_of<AC: AdditionalClaims, GC: GenderClaim>(
         IfOk result (λ grant. IsGrantOf AC.read_of GC.read_of AC.write_of GC.write_of parts own.key
         (claims_of own.issuer own.audiences.items login.nonce claims) info_body.items grant) }
 {
-    let Own {
+    let GrantSource {
         issuer,
         audiences,
         key,

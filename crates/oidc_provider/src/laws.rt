@@ -2,15 +2,20 @@
 
 ghost use Rattle.oidc_login.specs.Types.{site_types};
 ghost use Rattle.oidc_provider.specs.Honest.{HonestSignsIn};
-ghost use Rattle.oidc_provider.specs.SignIn.{GrantSignsIn};
+ghost use Rattle.oidc_provider.specs.SignIn.{GrantSignsIn, KeptGrantStands};
 
 use oidc_claims::{AdditionalClaims, GenderClaim};
 use oidc_keys::JsonWebKey;
 use oidc_types::CoreJwsSigningAlgorithm;
 
-/// A callback by the query that a provider gave for the URL of a begin signs in with the claims that were to be issued, as
-/// long as the provider has that grant unredeemed and the store the login of that begin: whatever else was granted,
-/// answered and begun before, between and behind. Only a text that is too long refuses it.
+/// What `Provider::authorize` kept for the URL of a begin is a grant for that begin, as long as the provider has it.
+pub fn kept_grant_stands<AC: AdditionalClaims, GC: GenderClaim>()
+    ensures { KeptGrantStands AC.read_of GC.read_of AC.write_of GC.write_of }
+{}
+
+/// A callback by the query of a grant signs in with the claims that were to be issued, as long as the provider has that grant
+/// unredeemed and the store has the login of its begin pending, whatever else was granted, answered and begun before, between
+/// and behind. Only a text that is too long refuses it.
 pub fn grant_signs_in<AC: AdditionalClaims, GC: GenderClaim>()
     ensures { GrantSignsIn AC.read_of GC.read_of AC.write_of GC.write_of }
 {}

@@ -30,6 +30,6 @@ mod texts;
 mod transport;
 
 pub use errors::{AuthorizeError, NewProviderError, SignInError};
-pub use logins::sign_in;
+pub use logins::{call_back, sign_in};
 pub use provider::Provider;
 pub use settings::{ProviderSettings, Registration};

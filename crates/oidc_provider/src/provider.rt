@@ -7,7 +7,7 @@ ghost use Rattle.oidc_provider.specs.Settings.{has_same_client as same_client_in
 ghost use Rattle.oidc_provider.specs.Provider.{new_provider};
 ghost use Rattle.oidc_provider.specs.Grants.{with_grant, has_code, has_token};
 ghost use Rattle.oidc_provider.specs.Authorization as spec;
-ghost use Rattle.oidc_provider.specs.Authorization.{Replies, asked, reply_to, seen_reply};
+ghost use Rattle.oidc_provider.specs.Authorization.{Replies, asked, authorization_reply, seen_query};
 ghost use Rattle.oidc_provider.specs.AuthorizationCauses as causes;
 ghost use Rattle.oidc_provider.specs.Keeping.{Keeps};
 ghost use Rattle.oidc_provider.specs.Steps as steps;
@@ -15,12 +15,12 @@ ghost use Rattle.oidc_provider.specs.Steps.{asked_by, allowed_to, client_reply, 
 ghost use Rattle.oidc_provider.specs.Rows.{provider_of};
 ghost use Rattle.oidc_provider.specs.declared.errors.AuthorizeError.{AuthorizeError};
 
-use crate::authorization::{HandedIn, Login, client_of, granted_login};
+use crate::authorization::{AskedGrant, Login, client_of, granted_login};
 use crate::errors::{AuthorizeError, NewProviderError};
 use crate::grants::{Grant, Grants};
 use crate::issuing::granted;
 use crate::settings::{ProviderSettings, Registration, has_same_client};
-use crate::transport::Given;
+use crate::transport::KeptResponse;
 use oidc_claims::{AdditionalClaims, GenderClaim};
 use oidc_oauth2::HttpRequest;
 use oidc_pairs::{BorrowedPairs, FormText};
@@ -40,7 +40,7 @@ pub struct Provider<AC, GC> {
     pub(crate) registrations: Vec<Registration>,
     pub(crate) grants: Grants,
     pub(crate) requests: Vec<HttpRequest>,
-    pub(crate) given: Vec<Given>,
+    pub(crate) given: Vec<KeptResponse>,
     additional: PhantomData<AC>,
     gender: PhantomData<GC>,
 }
@@ -154,7 +154,7 @@ fn login_granted<AC: AdditionalClaims, GC: GenderClaim>(
         claims.now.1.standard_claims.subject given.now.0 given.now.1 in
         Replies result (steps.granted_login grants.now client.now asked) }
 {
-    let handed_in = HandedIn {
+    let handed_in = AskedGrant {
         subject: claims.0.subject(),
         info_subject: claims.1.subject(),
         code: &given.0,
@@ -185,7 +185,7 @@ fn client_query<AC: AdditionalClaims, GC: GenderClaim>(
 ) -> Result<String, AuthorizeError>
     ensures reply { let a = asked_by query.now claims.0.standard_claims.subject
         claims.1.standard_claims.subject given.0 given.1 in
-        Replies (seen_reply result) (client_reply grants.old client.now a) }
+        Replies (seen_query result) (client_reply grants.old client.now a) }
     ensures kept { let a = asked_by query.now claims.0.standard_claims.subject
         claims.1.standard_claims.subject given.0 given.1 in
         IfOk result (λ query. KeepsOfClient AC.read_of GC.read_of AC.write_of GC.write_of
@@ -217,7 +217,7 @@ fn authorized_query<AC: AdditionalClaims, GC: GenderClaim>(
     ensures reply { let p = provider_of settings.now registrations.now grants.old in
         let a = asked_by query.now claims.0.standard_claims.subject
         claims.1.standard_claims.subject given.0 given.1 in
-        Replies (seen_reply result) (reply_to p a) }
+        Replies (seen_query result) (authorization_reply p a) }
     ensures kept { let p = provider_of settings.now registrations.now grants.old in
         let a = asked_by query.now claims.0.standard_claims.subject
         claims.1.standard_claims.subject given.0 given.1 in
@@ -285,7 +285,7 @@ impl<AC: AdditionalClaims, GC: GenderClaim> Provider<AC, GC> {
     ) -> Result<String, AuthorizeError>
         ensures reply { let subject = claims.standard_claims.subject in
             let a = asked url.now subject user_info.standard_claims.subject code token in
-            Replies (seen_reply result) (reply_to self.old a) }
+            Replies (seen_query result) (authorization_reply self.old a) }
         ensures kept { let subject = claims.standard_claims.subject in
             let a = asked url.now subject user_info.standard_claims.subject code token in
             IfOk result (λ query. Keeps AC.read_of GC.read_of AC.write_of GC.write_of
@@ -316,11 +316,11 @@ impl<AC: AdditionalClaims, GC: GenderClaim> Provider<AC, GC> {
             IsErrOf result AuthorizeError.TokenText → causes.HasNoTokenText self.old a }
         ensures refused { let subject = claims.standard_claims.subject in
             let a = asked url.now subject user_info.standard_claims.subject code token in
-            (e : AuthorizeError) → causes.Cause self.old a e → Replies (seen_reply result) (Err e) }
+            (e : AuthorizeError) → causes.Cause self.old a e → Replies (seen_query result) (Err e) }
         ensures granted { let subject = claims.standard_claims.subject in
             let a = asked url.now subject user_info.standard_claims.subject code token in
             (allowed : spec.Allowed) → causes.IsAllowed self.old a allowed
-            → Replies (seen_reply result) (Ok (spec.callback_query code allowed.login.state)) }
+            → Replies (seen_query result) (Ok (spec.callback_query code allowed.login.state)) }
     {
         let text = query_of(url);
         let Ok(query) = BorrowedPairs::parse(self.alloc, text) else {

@@ -17,13 +17,13 @@ use std::marker::Model;
 
 // What is kept of a response that was given.
 #[derive(Drop)]
-pub(crate) struct Given {
+pub(crate) struct KeptResponse {
     status: u16,
     content_type: Option<Body>,
     body: Body,
 }
 
-impl Model for Given {
+impl Model for KeptResponse {
     ghost use Rattle.oidc_oauth2.specs.Messages.{SeenResponse, seen_response_code};
 
     ghost Value = { SeenResponse };
@@ -48,11 +48,11 @@ fn content_type_of(alloc: Global, response: &HttpResponse) -> Result<Option<Body
     }
 }
 
-impl Given {
+impl KeptResponse {
     fn of(alloc: Global, response: &HttpResponse) -> Result<Self, AllocError>
         ensures { IfOk result (λ kept. kept ≡ seen_response response.now) }
     {
-        Ok(Given {
+        Ok(KeptResponse {
             status: response.status().as_u16(),
             content_type: content_type_of(alloc, response)?,
             body: body_of(alloc, response.body().as_slice())?,
@@ -64,7 +64,7 @@ impl Given {
 #[derive(Drop)]
 struct Reply {
     response: HttpResponse,
-    kept: Given,
+    kept: KeptResponse,
     redeems: Option<String>,
 }
 
@@ -79,7 +79,7 @@ fn reply_of(alloc: Global, row: Row<'_>) -> Result<Reply, AllocError>
 {
     let redeems = redeemed_of(alloc, row)?;
     let response = response_of(alloc, row)?;
-    let kept = Given::of(alloc, &response)?;
+    let kept = KeptResponse::of(alloc, &response)?;
     Ok(Reply {
         response,
         kept,
@@ -113,7 +113,7 @@ impl<AC, GC> Provider<AC, GC> {
     fn keep(
         &mut self,
         request: HttpRequest,
-        kept: Given,
+        kept: KeptResponse,
         redeems: Option<String>,
     ) -> Result<(), AllocError>
         ensures ok { OnOk result (self.new ≡ record self.old {
