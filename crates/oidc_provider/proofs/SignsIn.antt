@@ -1,390 +1,233 @@
--- A login of an accepted begin over a provider that grants it is honest, and signs in.
-use Rattle.std.proofs.Common.{◌≡◌, ◌⊎◌, inl, inr, ℕ, ℤ, zero, suc, List, [], ◌∷◌, ◌++◌, length, take, Bool, true, false, ◌&&◌, cond, Option, None, Some, Result, Ok, Err, refl, ap, sym, ◌∙◌, subst, ⊎_elim}
-use Rattle.std.specs.Prelude.{codes, is_some, option_map, option_and_then, IsUtf8}
-use Rattle.std.specs.Option.{ok_or}
-use Rattle.std.specs.FinMap as finite
+-- The two calls of a login: what comes of them over a provider, and why one is refused.
+use Rattle.std.proofs.Common.{◌≡◌, ℕ, ℤ, suc, List, [], ◌∷◌, length, take, Bool, true, false, Option, None, Some, Result, Ok, Err, refl, ap, sym, ◌∙◌, subst}
+use Rattle.std.specs.Prelude.{codes, option_and_then}
 use Rattle.std.proofs.Math.Seq.{take-length}
-use Rattle.std.proofs.lemmas.Cmp.{nat_list_cmp_total}
 use Rattle.serde_json.specs.Data.{Data}
-use Rattle.url.specs.Parts.{Parts, serialize}
-use Rattle.http_header.specs.FieldValue.{is_visible_text}
-use Rattle.oidc_pairs.specs.Pairs.{pairs, only_of}
+use Rattle.url.specs.Parts.{Parts}
 use Rattle.oidc_members.specs.Seen.{SeenMember, OutSeen}
 use Rattle.oidc_members.specs.declared.refusal.Refusal.{Refusal}
-use Rattle.oidc_types.specs.{TextAndUrl}
-use Rattle.oidc_types.specs.declared.core_algorithms.CoreJwsSigningAlgorithm.{CoreJwsSigningAlgorithm}
-use Rattle.oidc_types.specs.declared.core_algorithms.CoreJwsSigningAlgorithm.TheVariants.{HmacSha256}
-use Rattle.oidc_types.specs.declared.core_algorithms.CoreJweContentEncryptionAlgorithm.{CoreJweContentEncryptionAlgorithm}
-use Rattle.oidc_keys.specs.CoreJwk.{SymmetricKey, hash_function}
+use Rattle.oidc_keys.specs.CoreJwk.{SymmetricKey}
 use Rattle.oidc_keys.specs.declared.core_jwk.CoreJsonWebKeyUse.{CoreJsonWebKeyUse}
-use Rattle.oidc_keys.specs.declared.refusals.SignatureVerificationError.TheVariants.{DisallowedAlg}
-use Rattle.oidc_jwt.specs.declared.header.TokenHeader.{TokenHeader}
-use Rattle.oidc_jwt.specs.declared.header.JsonWebTokenAlgorithm.{JsonWebTokenAlgorithm}
-use Rattle.oidc_jwt.specs.declared.header.JsonWebTokenAlgorithm.TheVariants as algorithm
 use Rattle.oidc_oauth2.specs.Messages.{SeenRequest, SeenAnswer}
 use Rattle.oidc_oauth2.specs.Pkce.{s256}
-use Rattle.oidc_oauth2.specs.Replies.{◌>>=◌, ◌>>◌, ◌when◌, Unless, OrMemory, Gives}
-use Rattle.oidc_oauth2.specs.Transport.{Script, Leaves, Plays}
+use Rattle.oidc_oauth2.specs.Replies.{Unless, OrMemory, Gives}
+use Rattle.oidc_oauth2.specs.Transport.{Script, Plays}
 use Rattle.oidc_oauth2.specs.Exchanges.{Known, Follows}
-use Rattle.oidc_oauth2.specs.TokenAnswers.{is_over_long, record_in}
-use Rattle.oidc_oauth2.proofs.Runs.{unless_map}
 use Rattle.oidc_oauth2.proofs.Theorems.{gave}
-use Rattle.oidc_tokens.specs.Hashes.{hash_text}
-use Rattle.oidc_tokens.specs.Issuing.{Expects}
-use Rattle.oidc_user_info.specs.UserInfoClaims.{SeenUserInfoClaims}
+use Rattle.oidc_client.specs.Authorization.{query_values}
 use Rattle.oidc_login.specs.Types.{SiteTypes}
-use Rattle.oidc_login.specs.Logins.{SeenLogin, SeenLogins}
-use Rattle.oidc_login.specs.Begin.{Begin}
-use Rattle.oidc_login.specs.Token.{SeenIdToken, tokens_read, verifier_of, is_sent, claimed_hash, subject_of, IsAcceptedBy, FitsHash}
+use Rattle.oidc_login.specs.Logins.{Pending, SeenLogins}
 use Rattle.oidc_login.specs.SignedIn.{SeenSignedIn}
-use Rattle.oidc_login.specs.Callback.{Attempt, outcome}
-use Rattle.oidc_login.specs.Runs.{Ran, attempt}
+use Rattle.oidc_login.specs.Callback.{Attempt, Meant, outcome}
+use Rattle.oidc_login.specs.Runs.{Ran, Leaves, attempt}
 use Rattle.oidc_login.specs.Errors.{Error, seen, wants_memory, login_errors}
-use Rattle.oidc_login.specs.declared.types.UserInfoDemand.{UserInfoDemand}
 use Rattle.oidc_login.specs.declared.errors.LoginError.{LoginError}
-use Rattle.oidc_login.specs.declared.errors.LoginError.TheVariants as login_error
-use Rattle.oidc_login.specs.declared.errors.TooLong.TheVariants as place
-use Rattle.oidc_login.proofs.Walks.{Walk, at_when}
 use Rattle.std.specs.declared.convert.Infallible.{Infallible}
-use Rattle.oidc_provider.specs.declared.settings.Registration.{Registration}
+use Rattle.oidc_provider.specs.declared.settings.ProviderSettings.{ProviderSettings}
 use Rattle.oidc_provider.specs.declared.errors.AuthorizeError.{AuthorizeError}
 use Rattle.oidc_provider.specs.declared.errors.AuthorizeError.TheVariants as refusal
 use Rattle.oidc_provider.specs.declared.errors.SignInError.{SignInError}
 use Rattle.oidc_provider.specs.declared.errors.SignInError.TheVariants.{Authorize, Login}
 use Rattle.oidc_provider.specs.Settings.{registered}
-use Rattle.oidc_provider.specs.Grants.{SeenGrant, of_code, with_grant}
 use Rattle.oidc_provider.specs.Provider.{SeenProvider}
-use Rattle.oidc_provider.specs.Values.{Pairs, only}
-use Rattle.oidc_provider.specs.Authorization.{Asked, Allowed, authorization, authorization_reply, asks_for_code, callback_pairs, callback_query, Replies}
+use Rattle.oidc_provider.specs.Values.{Pairs, only, is_it, says}
+use Rattle.oidc_provider.specs.Authorization.{Asked, client_of, authorization_reply, callback_query, Replies}
 use Rattle.oidc_provider.specs.AuthorizationCauses as causes
-use Rattle.oidc_provider.specs.Issuing.{core_types, key_of_secret, claims_for, hashed, tokens, token_body, IsIssued, IsGranted}
+use Rattle.oidc_provider.specs.Issuing.{core_types}
 use Rattle.oidc_provider.specs.Keeping.{Keeps}
 use Rattle.oidc_provider.specs.Answers.{served, after}
-use Rattle.oidc_provider.specs.Honest.{AreFormTexts, Names, Knows, Granted, HoldsToken, HoldsInfo, IsHonest, user_by, honest_reply}
-use Rattle.oidc_provider.specs.SignIn.{Consent, asked_with, login_of_begin, MayBeDemanded, IsHonestLogin, HasGranted, IsTooLong, MayRefuse, SignsIn, by_callback}
-use Rattle.oidc_provider.proofs.Allowed.{allowed_back, cause_of}
+use Rattle.oidc_provider.specs.SignIn.{ToIssue, asked_with, allowed_for, IsHonestLogin, IsGrantedLogin, IsGrantable, IsIssuedReply, SignsIn}
+use Rattle.oidc_provider.specs.TwoCalls.{by_callback, known_of, IsComposed, OfCallback, RefusesWith, Grants}
+use Rattle.oidc_provider.proofs.Allowed.{cause_of, refused, granted}
 use Rattle.oidc_provider.proofs.Begun as begun
-use Rattle.oidc_provider.proofs.Begun.{same_Some}
-use Rattle.oidc_provider.proofs.HonestLogins.{honest}
-use Rattle.oidc_provider.proofs.IssuedHash.{hashed_as}
-use Rattle.oidc_provider.proofs.ReadAgain.{tokens_again, some_body}
-use Rattle.oidc_provider.proofs.Registered.{own_id as found_id, equal_texts}
-use Rattle.oidc_provider.proofs.Served.{ties_itself}
+use Rattle.oidc_provider.proofs.GrantSigns as grants
+use Rattle.oidc_provider.proofs.KeptGrants.{grant_made, query_is, login_over, made_settings}
+use Rattle.oidc_provider.proofs.Registered.{equal_texts, same_text}
 
-same_Ok : (x y : Allowed) → ◌≡◌ {A = Result Allowed AuthorizeError} (Ok x) (Ok y) → x ≡ y
-same_Ok x y e = cc
+-- ---- over a provider that has the grant
 
-same_alg : (x y : CoreJwsSigningAlgorithm)
-    → ◌≡◌ {A = JsonWebTokenAlgorithm CoreJweContentEncryptionAlgorithm CoreJwsSigningAlgorithm} (algorithm.Signature x) (algorithm.Signature y) → x ≡ y
-same_alg x y e = cc
+served_length : (q : SeenProvider) (requests : List SeenRequest) → length (served q requests) ≡ length requests
+served_length q [] = refl
+served_length q (request ∷ later) = ap suc (served_length (after q request) later)
 
-second_of : (a b : Bool) → (a && b) ≡ true → b ≡ true
-second_of true b h = h
-second_of false b h = absurd cc
+-- the answers that came are those of the provider
+came_by : (p : SeenProvider) (sent : List SeenRequest) (answers : List SeenAnswer) (left : Option Script)
+    → Plays (Some (served p)) (take (length answers) sent) answers left → length answers ≡ length sent → answers ≡ served p sent
+came_by p sent answers None plays all = absurd plays
+came_by p sent answers (Some left) plays all =
+    let whole : take (length answers) sent ≡ sent = ap (λ (n : ℕ). take n sent) all ∙ take-length sent in
+    sym (gave (served p) (take (length answers) sent) answers left plays
+    (served_length p (take (length answers) sent) ∙ ap length whole ∙ sym all))
+    ∙ ap (served p) whole
 
 module _ {AC GC : Type 0} (additional : List SeenMember → Result AC Refusal) (gender : SeenMember → Result GC Refusal) (additional_out : AC → List OutSeen) (gender_data : GC → Data)
-    (p p1 : SeenProvider) (logins : SeenLogins SymmetricKey) (url : Parts) (c : Consent AC GC) (now : ℤ) (query : List ℕ)
-    (h : IsHonestLogin additional gender additional_out p logins url c now)
-    (k : Keeps additional gender additional_out gender_data c.claims c.user_info (asked_with url c) p p1 query) where
+    (p : SeenProvider) (logins : SeenLogins SymmetricKey) (t : ToIssue AC GC) (now : ℤ)
+    (h : IsGrantedLogin additional gender additional_out gender_data p logins t now) where
   abbrev types : SiteTypes AC GC SymmetricKey CoreJsonWebKeyUse
   types = core_types additional gender
 
   abbrev a : Attempt SymmetricKey
-  a = attempt logins query now
+  a = attempt logins (callback_query t.code h.begin.request.state) now
 
-  abbrev g : SeenGrant
-  g = k.grant
+  abbrev Issued : Meant (SeenSignedIn AC GC) → Type 0
+  Issued = IsIssuedReply additional_out gender_data p.settings h.registration h.begin t
 
-  abbrev b : Begin
-  b = h.begin
+  module _ (later : Known) (reply : Result (SeenSignedIn AC GC) (LoginError Infallible)) (follows : Follows login_errors (outcome types a) (known_of p) later reply) where
+    abbrev answers : List SeenAnswer
+    answers = follows.answers
 
-  abbrev login : SeenLogin
-  login = login_of_begin h.begin
+    comes : length answers ≡ length (outcome types a answers).sent → Issued (outcome types a answers).reply
+    comes all =
+        grants.signs additional gender additional_out gender_data p logins t now h answers
+        (came_by p (outcome types a answers).sent answers later.script follows.plays all)
 
-  abbrev client : Registration
-  client = h.allowed.client
+    refused_so : (wants : Bool) (e : Error) → Unless wants (length answers ≡ length (outcome types a answers).sent)
+        → Unless wants ((outcome types a answers).reply ≡ Err e) → Unless wants (Issued (Err e))
+    refused_so true e all gives = tt
+    refused_so false e all gives = subst Issued gives (comes all)
 
-  abbrev asks : causes.Asks p (asked_with url c) h.allowed
-  asks = h.is_allowed.new_token.code.about.asks
+    ends : (r : Result (SeenSignedIn AC GC) (LoginError Infallible)) → OrMemory login_errors r (length answers ≡ length (outcome types a answers).sent)
+        → Gives login_errors r (outcome types a answers).reply → SignsIn additional_out gender_data p.settings h.registration h.begin t r
+    ends (Ok signed) all gives = subst Issued gives (comes all)
+    ends (Err e) all gives = refused_so (wants_memory e) (seen e) all gives
 
-  abbrev asked_pairs : Pairs
-  asked_pairs = (asked_with url c).query
+    pub reply_signs : SignsIn additional_out gender_data p.settings h.registration h.begin t reply
+    reply_signs = ends reply follows.all_sent follows.reply
 
-  -- ---- what was allowed is what was kept
+  -- by the bytes of the query
+  pub called_back : (bytes query : List ℕ) → bytes ≡ query → query ≡ callback_query t.code h.begin.request.state
+      → (later : Known) (reply : Result (SeenSignedIn AC GC) (LoginError Infallible)) → Ran types (attempt logins bytes now) (known_of p) later reply
+      → SignsIn additional_out gender_data p.settings h.registration h.begin t reply
+  called_back bytes query same is later reply ran =
+      reply_signs later reply (subst (λ (q : List ℕ). Ran types (attempt logins q now) (known_of p) later reply) (same ∙ is) ran).exchanged
 
-  same_allowed : k.allowed ≡ h.allowed
-  same_allowed = same_Ok k.allowed h.allowed (sym k.was_allowed ∙ allowed_back p (asked_with url c) h.allowed h.is_allowed)
-
-  granted : IsGranted additional gender additional_out gender_data p.settings h.allowed c.code c.token c.claims c.user_info g
-  granted = subst (λ (allowed : Allowed). IsGranted additional gender additional_out gender_data p.settings allowed c.code c.token c.claims c.user_info g) same_allowed k.granted
-
-  named : pairs query ≡ callback_pairs c.code h.allowed.login.state
-  named = subst (λ (allowed : Allowed). pairs query ≡ callback_pairs c.code allowed.login.state) same_allowed k.named
-
-  abbrev id_token : SeenIdToken AC GC
-  id_token = granted.id_token
-
-  -- ---- what the URL of the begin says
-
-  parts : (only asked_pairs (codes "state") ≡ Some h.allowed.login.state)
-      × (only asked_pairs (codes "nonce") ≡ Some h.allowed.login.nonce)
-      × (only asked_pairs (codes "code_challenge") ≡ Some h.allowed.login.challenge)
-  parts =
-      begun.login_parts (asks_for_code asked_pairs) (only asked_pairs (codes "state")) (only asked_pairs (codes "nonce")) (only asked_pairs (codes "code_challenge"))
-      h.allowed.login asks.own_login
-
-  state_is : h.allowed.login.state ≡ b.request.state
-  state_is = same_Some h.allowed.login.state b.request.state (sym parts.0 ∙ begun.one_value url (codes "state") b.request.state h.begun.once.state)
-
-  nonce_is : h.allowed.login.nonce ≡ b.request.nonce
-  nonce_is = same_Some h.allowed.login.nonce b.request.nonce (sym parts.1 ∙ begun.one_value url (codes "nonce") b.request.nonce h.begun.once.nonce)
-
-  challenge_is : s256 b.verifier ≡ h.allowed.login.challenge
-  challenge_is =
-      let has = h.begun.challenge.code_challenge in
-      begun.one_of_pair has.0 has.1 (s256 b.verifier) h.allowed.login.challenge (ap only_of (sym has.2) ∙ parts.2)
-
-  id_found : registered p.registrations b.request.client_id ≡ Some client
-  id_found =
-      ap (option_and_then (registered p.registrations)) (sym (begun.one_value url (codes "client_id") b.request.client_id h.begun.once.client_id))
-      ∙ asks.names.registered
-
-  id_is : client.client_id ≡ b.request.client_id
-  id_is = found_id p.registrations b.request.client_id client id_found
-
-  redirect : (u : TextAndUrl) × (b.request.redirect_uri ≡ Some u) × (u.text ≡ client.redirect.text)
-  redirect =
-      begun.redirect_of b.request.redirect_uri (only asked_pairs (codes "redirect_uri")) client.redirect.text
-      (ap only_of h.begun.once.redirect_uri) asks.names.own_redirect
-
-  -- ---- the login, the client and the grant
-
-  names : Names types p1 a g login
-  names = record {
-    state = b.request.state;
-    query = named ∙ (λ i. callback_pairs (sym granted.code i) (state_is i));
-    pending = h.begun.pending;
-  }
-
-  knows : Knows types p1 a g client
-  knows = record {
-    known = ap (λ (q : SeenProvider). registered q.registrations g.client) k.kept ∙ ap (registered p.registrations) (granted.client ∙ id_is) ∙ id_found;
-    own_id = sym h.begun.own_client ∙ sym id_is;
-    own_secret = h.provider.own_secret;
-    endpoint = h.provider.token.endpoint;
-    own_endpoint = h.provider.token.own_endpoint;
-    same_address = h.provider.token.same_address ∙ ap (λ (q : SeenProvider). serialize q.settings.token.url) (sym k.kept);
-    address = h.provider.token.address;
-  }
-
-  by_code : of_code p1.grants g.code ≡ Some g
-  by_code =
-      ap (λ (q : SeenProvider). of_code q.grants g.code) k.kept
-      ∙ finite.get-insert nat_list_cmp_total p.grants.by_code g.code g g.code
-      ∙ ap (λ (t : Bool). cond t (Some g) (finite.get p.grants.by_code g.code)) (ties_itself g.code)
-
-  by_token : finite.get p1.grants.codes g.token ≡ Some g.code
-  by_token =
-      ap (λ (q : SeenProvider). finite.get q.grants.codes g.token) k.kept
-      ∙ finite.get-insert nat_list_cmp_total p.grants.codes g.token g.code g.token
-      ∙ ap (λ (t : Bool). cond t (Some g.code) (finite.get p.grants.codes g.token)) (ties_itself g.token)
-
-  was_granted : Granted types p1 a g login
-  was_granted = record {
-    of_own_code = by_code;
-    of_own_token = by_token;
-    unredeemed = granted.unredeemed;
-    redirect = redirect.0;
-    own_redirect = redirect.1;
-    same_redirect = redirect.2 ∙ sym granted.redirect;
-    same_challenge = challenge_is ∙ sym granted.challenge;
-    header_text = ap is_visible_text granted.token ∙ h.is_allowed.token_text;
-  }
-
-  texts : AreFormTexts client login redirect.0.text g.code
-  texts = record {
-    code_text = subst IsUtf8 (sym granted.code) granted.texts.code;
-    verifier_text = h.begun.verifier_text;
-    redirect_text = subst IsUtf8 (sym redirect.2) granted.texts.redirect;
-    id_text = granted.texts.id;
-    secret_text = granted.texts.secret;
-  }
-
-  -- ---- the ID token
-
-  read : record_in (tokens_read types logins.client.reading) g.token_body ≡ Ok (tokens g.token id_token)
-  read =
-      tokens_again types logins.client.reading c.token id_token (granted.usable.reads_back logins.client.reading h.in_range)
-      g.token_body granted.token_text granted.texts.token granted.usable.text
-      ∙ ap (λ (token : List ℕ). Ok (tokens token id_token)) (sym granted.token)
-
-  expects : Expects types.keys (verifier_of types logins.client) (is_sent b.request.nonce) now HmacSha256 (key_of_secret client.secret) (claims_for p.settings h.allowed c.claims)
-  expects = record {
-    issuer = h.provider.issuer;
-    audience = ap (λ (id : List ℕ). id ∷ []) (id_is ∙ h.begun.own_client);
-    allowed = h.provider.allows_hs256;
-    chosen = ap (λ (o : Option (List ℕ)). ok_or (option_map key_of_secret o) DisallowedAlg) h.provider.own_secret;
-    unexpired = h.unexpired;
-    nonce = equal_texts h.allowed.login.nonce b.request.nonce nonce_is;
-  }
-
-  accepted : IsAcceptedBy types logins.client login.nonce now id_token
-  accepted = granted.usable.accepted (verifier_of types logins.client) (is_sent b.request.nonce) now expects
-
-  alg_is : accepted.alg ≡ HmacSha256
-  alg_is = same_alg accepted.alg HmacSha256 (sym accepted.signed ∙ ap (λ (header : TokenHeader CoreJweContentEncryptionAlgorithm CoreJwsSigningAlgorithm). header.alg) granted.issued.header)
-
-  fits_hash : FitsHash types id_token accepted.key accepted.alg g.token
-  fits_hash claim is =
-      ap (λ (alg : CoreJwsSigningAlgorithm). hash_text (hash_function alg) g.token) alg_is
-      ∙ ap (hash_text (hash_function HmacSha256)) granted.token
-      ∙ (hashed_as c.token (claims_for p.settings h.allowed c.claims) id_token.payload granted.issued.claimed).own_hash
-      ∙ is
-
-  holds : HoldsToken types p1 a g login id_token
-  holds = record {
-    some_body = some_body (tokens_read types logins.client.reading) (tokens g.token id_token) g.token_body read;
-    read = read;
-    accepted = accepted;
-    fits_hash = fits_hash;
-  }
-
-  -- ---- user info
-
-  about : c.user_info.standard_claims.subject ≡ subject_of id_token
-  about =
-      sym h.is_allowed.new_token.code.about.one_subject
-      ∙ sym (hashed_as c.token (claims_for p.settings h.allowed c.claims) id_token.payload granted.issued.claimed).subject
-
-  info_held : (demand : UserInfoDemand) → MayBeDemanded additional gender additional_out p.settings logins.client c.user_info demand
-      → HoldsInfo types p1 a g id_token demand c.user_info
-  info_held demand may = record {
-    unsigned_allowed = may.unsigned_allowed;
-    endpoint = may.endpoint.endpoint;
-    own_endpoint = may.endpoint.own_endpoint;
-    same_address = may.endpoint.same_address ∙ ap (λ (q : SeenProvider). q.settings.user_info.text) (sym k.kept);
-    address = may.endpoint.address;
-    read = granted.info_back logins.client.reading may.in_range;
-    about = about;
-  }
-
-  abbrev Demanded : Type 0
-  Demanded = (demand : UserInfoDemand) × (login.user_info ≡ Some demand) × HoldsInfo types p1 a g id_token demand c.user_info
-
-  demanded : (demand : UserInfoDemand) × (b.user_info ≡ Some demand) × MayBeDemanded additional gender additional_out p.settings logins.client c.user_info demand
-      → (login.user_info ≡ None) ⊎ Demanded
-  demanded (demand, is, may) = inr (demand, is, info_held demand may)
-
-  info : (login.user_info ≡ None) ⊎ Demanded
-  info = ⊎_elim (λ none. inl none) demanded h.info
-
-  -- ---- the whole
-
-  is_honest : IsHonest types p1 a g login id_token c.user_info
-  is_honest = record {
-    names = names;
-    client = client;
-    knows = knows;
-    granted = was_granted;
-    texts = texts;
-    holds = holds;
-    info = info;
-  }
-
-  abbrev Has : SeenSignedIn AC GC → Type 0
-  Has = HasGranted additional_out gender_data p.settings h.allowed b.user_info c
-
-  abbrev May : Error → Type 0
-  May = MayRefuse additional_out gender_data p.settings h.allowed b.user_info c
-
-  has_granted : (demand : Option UserInfoDemand) → HasGranted additional_out gender_data p.settings h.allowed demand c (user_by id_token g.token c.user_info demand)
-  has_granted None = record { claims = granted.issued.claimed; access_token = granted.token; user_info = refl }
-  has_granted (Some demand) = record { claims = granted.issued.claimed; access_token = granted.token; user_info = refl }
-
-  module _ (query_is : query ≡ callback_query c.code h.allowed.login.state) where
-    walk : Walk Has May (honest_reply a g login id_token c.user_info)
-    unfolding honest_reply
-    walk =
-        at_when Has May (is_over_long query) (login_error.TooLong place.Callback) _ (λ long. ap is_over_long (sym query_is) ∙ long) (λ short.
-        at_when Has May (is_over_long g.token_body) (login_error.TooLong place.TokenAnswer) _
-        (λ long. (id_token, granted.issued, ap is_over_long (sym granted.token_text) ∙ long)) (λ short_body.
-        at_when Has May (is_some b.user_info && is_over_long g.info_body) (login_error.TooLong place.UserInfoAnswer) _
-        (λ long. (g.info_body, granted.info_text, second_of (is_some b.user_info) (is_over_long g.info_body) long)) (λ short_info.
-        has_granted b.user_info)))
-
-    -- ---- over any log of the provider
-
-    served_length : (q : SeenProvider) (requests : List SeenRequest) → length (served q requests) ≡ length requests
-    served_length q [] = refl
-    served_length q (request ∷ later) = ap suc (served_length (after q request) later)
-
-    came_by : (sent : List SeenRequest) (answers : List SeenAnswer) (left : Option Script) → Plays (Some (served p1)) (take (length answers) sent) answers left
-        → length answers ≡ length sent → answers ≡ served p1 sent
-    came_by sent answers None plays all = absurd plays
-    came_by sent answers (Some left) plays all =
-        let whole : take (length answers) sent ≡ sent = ap (λ (n : ℕ). take n sent) all ∙ take-length sent in
-        sym (gave (served p1) (take (length answers) sent) answers left plays
-        (served_length p1 (take (length answers) sent) ∙ ap length whole ∙ sym all))
-        ∙ ap (served p1) whole
-
-    module _ (old new : Known) (result : Result (SeenSignedIn AC GC) (LoginError Infallible)) (follows : Follows login_errors (outcome types a) old new result)
-        (plays : old.script ≡ Some (served p1)) where
-      abbrev answers : List SeenAnswer
-      answers = follows.answers
-
-      reply_is : length answers ≡ length (outcome types a answers).sent → (outcome types a answers).reply ≡ honest_reply a g login id_token c.user_info
-      reply_is all =
-          honest types p1 a g login id_token c.user_info answers is_honest
-          (came_by (outcome types a answers).sent answers new.script
-          (subst (λ (script : Option Script). Plays script (take (length answers) (outcome types a answers).sent) answers new.script) plays follows.plays) all)
-
-      refused : (wants : Bool) (e : Error) → Unless wants (length answers ≡ length (outcome types a answers).sent)
-          → Unless wants ((outcome types a answers).reply ≡ Err e) → Unless wants (May e)
-      refused true e all gives = tt
-      refused false e all gives = subst (Walk Has May) (sym (reply_is all) ∙ gives) walk
-
-      ends : (r : Result (SeenSignedIn AC GC) (LoginError Infallible)) → OrMemory login_errors r (length answers ≡ length (outcome types a answers).sent)
-          → Gives login_errors r (outcome types a answers).reply → SignsIn additional_out gender_data p.settings h.allowed b.user_info c (by_callback r)
-      ends (Ok signed) all gives = subst (Walk Has May) (sym (reply_is all) ∙ gives) walk
-      ends (Err e) all gives = refused (wants_memory e) (seen e) all gives
-
-      pub signs : SignsIn additional_out gender_data p.settings h.allowed b.user_info c (by_callback result)
-      signs = ends result follows.all_sent follows.reply
-
--- ---- what the two calls say
-
-same_query : (x y : List ℕ) → Replies {A = List ℕ} (Ok x) (Ok y) → x ≡ y
-same_query x y is = let e : ◌≡◌ {A = Result (List ℕ) AuthorizeError} (Ok x) (Ok y) = is in cc
+-- ---- the two calls
 
 module _ {AC GC : Type 0} (additional : List SeenMember → Result AC Refusal) (gender : SeenMember → Result GC Refusal) (additional_out : AC → List OutSeen) (gender_data : GC → Data)
-    (p p1 : SeenProvider) (logins : SeenLogins SymmetricKey) (url : Parts) (c : Consent AC GC) (now : ℤ)
-    (h : IsHonestLogin additional gender additional_out p logins url c now) where
-  -- the provider granted, and the store answered over it
-  pub signed_in : (bytes query : List ℕ) → bytes ≡ query → Keeps additional gender additional_out gender_data c.claims c.user_info (asked_with url c) p p1 query
-      → Replies (Ok query) (Ok (callback_query c.code h.allowed.login.state))
-      → (old new : Known) (reply : Result (SeenSignedIn AC GC) (LoginError Infallible)) → Ran (core_types additional gender) (attempt logins bytes now) old new reply
-      → old.script ≡ Some (served p1) → (result : Result (SeenSignedIn AC GC) SignInError) → result ≡ by_callback reply
-      → SignsIn additional_out gender_data p.settings h.allowed h.begin.user_info c result
-  signed_in bytes query same kept answered old new reply ran plays result is =
-      subst (SignsIn additional_out gender_data p.settings h.allowed h.begin.user_info c) (sym is)
-      (signs additional gender additional_out gender_data p p1 logins url c now bytes h
-      (subst (λ q. Keeps additional gender additional_out gender_data c.claims c.user_info (asked_with url c) p p1 q) (sym same) kept)
-      (same ∙ same_query query (callback_query c.code h.allowed.login.state) answered)
-      old new reply ran.exchanged plays)
+    (old : SeenProvider) (logins : SeenLogins SymmetricKey) (url : Parts) (t : ToIssue AC GC) (now : ℤ) where
+  abbrev Honest : Type 0
+  Honest = IsHonestLogin additional gender additional_out old logins url t now
 
-  -- the provider can't have refused
-  pub not_refused : (e : AuthorizeError) → Replies {A = List ℕ} (Err e) (Ok (callback_query c.code h.allowed.login.state))
-      → SignsIn additional_out gender_data p.settings h.allowed h.begin.user_info c (Err (Authorize e))
-  not_refused refusal.Client is = absurd cc
-  not_refused refusal.Redirect is = absurd cc
-  not_refused refusal.Request is = absurd cc
-  not_refused refusal.Subject is = absurd cc
-  not_refused refusal.CodeUsed is = absurd cc
-  not_refused refusal.TokenUsed is = absurd cc
-  not_refused refusal.TokenText is = absurd cc
-  not_refused refusal.Memory is = tt
+  abbrev Kept : SeenProvider → List ℕ → Type 0
+  Kept made query = Keeps additional gender additional_out gender_data t.claims t.user_info (asked_with url t) old made query
 
--- why it refused
+  abbrev Signs : Honest → Result (SeenSignedIn AC GC) (LoginError Infallible) → Type 0
+  Signs h = SignsIn additional_out gender_data old.settings h.registration h.begin t
+
+  -- what holds of the reply of the callback holds of the whole
+  of_reply : (Holds : Result (SeenSignedIn AC GC) (LoginError Infallible) → Type 0) (reply : Result (SeenSignedIn AC GC) (LoginError Infallible))
+      → Holds reply → OfCallback Holds (by_callback reply)
+  of_reply Holds (Ok signed) holds = holds
+  of_reply Holds (Err e) holds = holds
+
+  module _ (made : SeenProvider) (bytes query : List ℕ) (same : bytes ≡ query) (own : Kept made query)
+      (reply : Result (SeenSignedIn AC GC) (LoginError Infallible)) (result : Result (SeenSignedIn AC GC) SignInError) (is : result ≡ by_callback reply) where
+    kept : Kept made bytes
+    kept = subst (Kept made) (sym same) own
+
+    known : (h : Honest) → registered old.registrations h.begin.request.client_id ≡ Some h.registration
+    known h = ap (registered old.registrations) h.login.pending.own_client ∙ h.login.provider.own_id
+
+    abbrev granted_login : Honest → IsGrantedLogin additional gender additional_out gender_data made logins t now
+    granted_login h = record {
+      begin = h.begin;
+      registration = h.registration;
+      login = login_over additional gender additional_out old logins t now h.begin h.registration h.login made _ kept.kept;
+      stands = grant_made additional gender additional_out gender_data old made url t bytes h.begin h.registration kept h.own_url (known h);
+    }
+
+    pub signed_in : ((u : ToIssue AC GC) (g : IsGrantedLogin additional gender additional_out gender_data made logins u now) → bytes ≡ callback_query u.code g.begin.request.state
+        → SignsIn additional_out gender_data made.settings g.registration g.begin u reply)
+        → (h : Honest) → OfCallback (Signs h) result
+    signed_in signs h =
+        subst (OfCallback (Signs h)) (sym is)
+        (of_reply (Signs h) reply
+        (subst (λ (s : ProviderSettings). SignsIn additional_out gender_data s h.registration h.begin t reply)
+        (made_settings additional gender additional_out gender_data old made url t bytes h.begin h.registration kept h.own_url (known h))
+        (signs t (granted_login h) (query_is additional gender additional_out gender_data old made url t bytes h.begin h.registration kept h.own_url (known h)))))
+
+    pub composed : (new : SeenProvider) (left : Pending) → Ran (core_types additional gender) (attempt logins bytes now) (known_of made) (known_of new) reply
+        → Leaves (attempt logins bytes now) left reply
+        → OfCallback (IsComposed additional gender additional_out gender_data url t now old new logins left) result
+    composed new left ran store =
+        let Composed : Result (SeenSignedIn AC GC) (LoginError Infallible) → Type 0 = IsComposed additional gender additional_out gender_data url t now old new logins left in
+        subst (OfCallback Composed) (sym is)
+        (of_reply Composed reply (record { made = made; query = bytes; kept = kept; ran = ran; store = store }))
+
+    -- the provider granted, and refuses nothing
+    whole_grants : (r : Result (SeenSignedIn AC GC) (LoginError Infallible)) → Grants (by_callback r)
+    whole_grants (Ok signed) = tt
+    whole_grants (Err e) = tt
+
+    pub grants_it : Grants result
+    grants_it = subst (Grants {A = SeenSignedIn AC GC}) (sym is) (whole_grants reply)
+
+  -- ---- what a provider can't refuse
+
+  module _ (h : Honest) (may : IsGrantable old h.registration h.begin url t) where
+    abbrev asked_pairs : Pairs
+    asked_pairs = (asked_with url t).query
+
+    found : client_of old asked_pairs ≡ Some h.registration
+    found =
+        ap (option_and_then (registered old.registrations)) (begun.one_value url (codes "client_id") h.begin.request.client_id h.own_url.once.client_id)
+        ∙ ap (registered old.registrations) h.login.pending.own_client
+        ∙ h.login.provider.own_id
+
+    one_redirect : only asked_pairs (codes "redirect_uri") ≡ Some may.redirect.text
+    one_redirect =
+        begun.one_value url (codes "redirect_uri") may.redirect.text
+        (h.own_url.once.redirect_uri ∙ begun.at_most_of h.begin.request.redirect_uri may.redirect may.own_redirect)
+
+    own_redirect : says asked_pairs (codes "redirect_uri") h.registration.redirect.text ≡ true
+    own_redirect =
+        ap (λ (o : Option (List ℕ)). is_it o h.registration.redirect.text) one_redirect
+        ∙ equal_texts may.redirect.text h.registration.redirect.text may.same_redirect
+
+    says_one : (name value : List ℕ) → query_values url name ≡ value ∷ [] → says asked_pairs name value ≡ true
+    says_one name value is = ap (λ (o : Option (List ℕ)). is_it o value) (begun.one_value url name value is) ∙ same_text value
+
+    own_login : causes.AsksForCode asked_pairs (allowed_for h.registration h.begin).login
+    own_login = record {
+      response_type = says_one (codes "response_type") (codes "code") may.response_type;
+      method = says_one (codes "code_challenge_method") (codes "S256") may.method;
+      state = begun.one_value url (codes "state") h.begin.request.state h.own_url.once.state;
+      nonce = begun.one_value url (codes "nonce") h.begin.request.nonce h.own_url.once.nonce;
+      challenge = begun.one_value url (codes "code_challenge") (s256 h.begin.verifier) may.challenge;
+    }
+
+    is_allowed : causes.IsAllowed old (asked_with url t) (allowed_for h.registration h.begin)
+    is_allowed = record {
+      new_token = record {
+        code = record {
+          about = record {
+            asks = record { names = record { registered = found; own_redirect = own_redirect }; own_login = own_login };
+            one_subject = may.one_subject;
+          };
+          new_code = may.new_code;
+        };
+        new_token = may.new_token;
+      };
+      token_text = may.token_text;
+    }
+
+    none_refused : (e : AuthorizeError) (query : List ℕ) → Replies {A = List ℕ} (Err e) (Ok query) → Grants {A = SeenSignedIn AC GC} (Err (Authorize e))
+    none_refused refusal.Client query is = absurd cc
+    none_refused refusal.Redirect query is = absurd cc
+    none_refused refusal.Request query is = absurd cc
+    none_refused refusal.Subject query is = absurd cc
+    none_refused refusal.CodeUsed query is = absurd cc
+    none_refused refusal.TokenUsed query is = absurd cc
+    none_refused refusal.TokenText query is = absurd cc
+    none_refused refusal.Memory query is = tt
+
+    pub not_refused : (e : AuthorizeError) → Replies {A = List ℕ} (Err e) (authorization_reply old (asked_with url t)) → Grants {A = SeenSignedIn AC GC} (Err (Authorize e))
+    not_refused e replies =
+        none_refused e (callback_query t.code h.begin.request.state)
+        (granted old (asked_with url t) (Err e) replies (allowed_for h.registration h.begin) is_allowed)
+
+-- ---- why it refused
+
 pub caused_by : {A : Type 0} (p : SeenProvider) (a : Asked) (found e : AuthorizeError) → ◌≡◌ {A = Result A SignInError} (Err (Authorize found)) (Err (Authorize e))
     → Replies {A = List ℕ} (Err found) (authorization_reply p a) → causes.HasCause p a e
 caused_by p a found e is replies =
@@ -394,3 +237,30 @@ caused_by p a found e is replies =
 pub no_refusal : {A : Type 0} (reply : Result A (LoginError Infallible)) (e : AuthorizeError) → by_callback reply ≡ Err (Authorize e) → ⊥
 no_refusal (Ok signed) e is = cc
 no_refusal (Err refused) e is = cc
+
+-- what is granted had no cause to be refused
+no_cause : {A : Type 0} (e : AuthorizeError) (query : List ℕ) (result : Result A SignInError) → Replies {A = List ℕ} (Ok query) (Err e) → RefusesWith e result
+no_cause e query result is = absurd cc
+
+pub never_caused : {A : Type 0} (p : SeenProvider) (a : Asked) (query : List ℕ) (result : Result A SignInError) → Replies (Ok query) (authorization_reply p a)
+    → (e : AuthorizeError) → causes.Cause p a e → RefusesWith e result
+never_caused p a query result replies e cause = no_cause e query result (refused p a (Ok query) replies e cause)
+
+-- a refusal of the provider, as that of a whole login
+abbrev refusal_in : {A : Type 0} → Result (List ℕ) AuthorizeError → Result A SignInError
+refusal_in (Ok query) = Err (Authorize refusal.Memory)
+refusal_in (Err e) = Err (Authorize e)
+
+refusal_is : {A : Type 0} (found e : AuthorizeError) → Replies {A = List ℕ} (Err found) (Err e) → RefusesWith {A = A} e (Err (Authorize found))
+refusal_is {A} refusal.Client e is = ap (λ (r : Result (List ℕ) AuthorizeError). refusal_in {A = A} r) is
+refusal_is {A} refusal.Redirect e is = ap (λ (r : Result (List ℕ) AuthorizeError). refusal_in {A = A} r) is
+refusal_is {A} refusal.Request e is = ap (λ (r : Result (List ℕ) AuthorizeError). refusal_in {A = A} r) is
+refusal_is {A} refusal.Subject e is = ap (λ (r : Result (List ℕ) AuthorizeError). refusal_in {A = A} r) is
+refusal_is {A} refusal.CodeUsed e is = ap (λ (r : Result (List ℕ) AuthorizeError). refusal_in {A = A} r) is
+refusal_is {A} refusal.TokenUsed e is = ap (λ (r : Result (List ℕ) AuthorizeError). refusal_in {A = A} r) is
+refusal_is {A} refusal.TokenText e is = ap (λ (r : Result (List ℕ) AuthorizeError). refusal_in {A = A} r) is
+refusal_is {A} refusal.Memory e is = tt
+
+pub refused_with : {A : Type 0} (p : SeenProvider) (a : Asked) (found : AuthorizeError) → Replies {A = List ℕ} (Err found) (authorization_reply p a)
+    → (e : AuthorizeError) → causes.Cause p a e → RefusesWith {A = A} e (Err (Authorize found))
+refused_with p a found replies e cause = refusal_is found e (refused p a (Err found) replies e cause)
