@@ -3,7 +3,8 @@
 ghost use Rattle.std.specs.Prelude.{◌≡◌, ◌∷◌, ◌++◌, [], Ok, Err, IfOk, IfErr, OnOk, OnErr, IsErrOf, ◌↔◌, true, false, unwrap_or};
 ghost use Rattle.std.specs.String.{string_bytes};
 ghost use Rattle.oidc_pairs.specs.Pairs.{pairs};
-ghost use Rattle.oidc_provider.specs.Settings.{has_same_client as same_client_in};
+ghost use Rattle.std.specs.Option.{option_copied};
+ghost use Rattle.oidc_provider.specs.Settings.{has_same_client as same_client_in, registered as registered_among};
 ghost use Rattle.oidc_provider.specs.Provider.{new_provider};
 ghost use Rattle.oidc_provider.specs.Grants.{with_grant, has_code, has_token};
 ghost use Rattle.oidc_provider.specs.Authorization as spec;
@@ -15,7 +16,7 @@ ghost use Rattle.oidc_provider.specs.Steps.{asked_by, allowed_to, client_reply, 
 ghost use Rattle.oidc_provider.specs.Rows.{provider_of};
 ghost use Rattle.oidc_provider.specs.declared.errors.AuthorizeError.{AuthorizeError};
 
-use crate::authorization::{AskedGrant, Login, client_of, granted_login};
+use crate::authorization::{AskedGrant, Login, client_of, granted_login, registered};
 use crate::errors::{AuthorizeError, NewProviderError};
 use crate::grants::{Grant, Grants};
 use crate::issuing::granted;
@@ -25,7 +26,7 @@ use oidc_claims::{AdditionalClaims, GenderClaim};
 use oidc_oauth2::HttpRequest;
 use oidc_pairs::{BorrowedPairs, FormText};
 use oidc_tokens::IdTokenClaims;
-use oidc_types::{AccessToken, AuthorizationCode};
+use oidc_types::{AccessToken, AuthorizationCode, ClientId};
 use oidc_user_info::UserInfoClaims;
 use std::alloc::{AllocError, Global};
 use std::marker::{Model, PhantomData};
@@ -339,6 +340,34 @@ impl<AC: AdditionalClaims, GC: GenderClaim> Provider<AC, GC> {
             (code, token),
             (claims, user_info),
         )
+    }
+
+    /// What it was made with.
+    pub fn settings(&self) -> &ProviderSettings
+        ensures settings { result.now ≡ self.now.settings }
+    {
+        &self.settings
+    }
+
+    /// The registration of a client, where it has one.
+    pub fn registration(&self, id: &ClientId) -> Option<&Registration>
+        ensures found { option_copied result ≡ registered_among self.now.registrations id.now }
+    {
+        registered(&self.registrations, id.as_str())
+    }
+
+    /// Whether it has a grant of this code, redeemed or not.
+    pub fn has_code(&self, code: &AuthorizationCode) -> bool
+        ensures found { result ≡ has_code self.now.grants code.now }
+    {
+        self.grants.has_code(code.secret())
+    }
+
+    /// Whether it has a grant of this access token.
+    pub fn has_token(&self, token: &AccessToken) -> bool
+        ensures found { result ≡ has_token self.now.grants token.now }
+    {
+        self.grants.has_token(token.secret())
     }
 
     /// The requests that it got, in their order.

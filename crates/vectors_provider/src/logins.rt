@@ -15,6 +15,7 @@ use oidc_keys::CoreJsonWebKey;
 use oidc_login::{
     BeginError, LoginClient, LoginError, LoginRequest, Logins, SignedIn, UserInfoDemand,
 };
+use oidc_members::Reading;
 use oidc_oauth2::{CoreRequestTokenError, Fault, RequestTokenError};
 use oidc_pairs::FormText;
 use oidc_provider::{NewProviderError, SignInError, sign_in};
@@ -74,15 +75,29 @@ fn redirect_in(alloc: Global, case: &Case) -> Result<Option<RedirectUrl>, CaseEr
     }
 }
 
+// A client line knows one reading by name.
+fn reading_on(case: &Case) -> Result<Reading, CaseError> {
+    match case.optional("reading") {
+        None => Ok(Reading::STRICT),
+        Some("lenient") => Ok(Reading {
+            string_booleans: true,
+            rfc3339_moments: true,
+        }),
+        Some(_) => Err(CaseError::NoCase),
+    }
+}
+
 fn client_in(alloc: Global, text: &str) -> Result<LoginClient, CaseError> {
     let case = call_in(alloc, text)?;
-    let optional = ["secret", "userinfo", "redirect"];
+    let optional = ["secret", "userinfo", "redirect", "reading"];
     case.check_with(&["id", "issuer", "auth", "token", "algs"], &optional)?;
     let id = ClientId::new(String::from_str(alloc, case.value("id"))?);
     let secret = secret_in(alloc, &case)?;
     let redirect = redirect_in(alloc, &case)?;
     let metadata = metadata_in(alloc, &case)?;
+    let reading = reading_on(&case)?;
     let client: LoginClient = Client::from_provider_metadata(metadata, id, secret);
+    let client = client.set_reading(reading);
     Ok(match redirect {
         Some(redirect) => client.set_redirect_uri(redirect),
         None => client,
