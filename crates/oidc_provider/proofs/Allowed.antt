@@ -12,7 +12,7 @@ use Rattle.oidc_provider.specs.Provider.{SeenProvider}
 use Rattle.oidc_provider.specs.Values.{says}
 use Rattle.oidc_provider.specs.Rows.{provider_of}
 use Rattle.oidc_provider.specs.Authorization.{Asked, AskedLogin, Allowed, client_of, login_of, authorization, callback_query, authorization_reply, Replies}
-use Rattle.oidc_provider.specs.AuthorizationCauses.{Names, Asks, IsAbout, IsNewCode, IsNewToken, IsAllowed, NamesNoClient, NamesAnotherRedirect, AsksForNoCode, IsAboutTwo, HasUsedCode, HasUsedToken, HasNoTokenText, Cause, HasCause}
+use Rattle.oidc_provider.specs.AuthorizationCauses.{NamesClient, AsksLogin, IsAbout, IsNewCode, IsNewToken, IsAllowed, NamesNoClient, NamesAnotherRedirect, AsksForNoCode, IsAboutTwo, HasUsedCode, HasUsedToken, HasNoTokenText, Cause, HasCause}
 use Rattle.oidc_provider.proofs.LoginOf.{asks_for_code, login_found, lacks_one, no_login}
 use Rattle.oidc_provider.specs.declared.settings.Registration.{Registration}
 use Rattle.oidc_provider.specs.declared.errors.AuthorizeError.{AuthorizeError}
@@ -47,10 +47,10 @@ module _ (p : SeenProvider) (a : Asked) where
       at_or (IsAllowed p a) (Cause p a) (client_of p a.query) _ _ (λ none. none) (λ client registered.
       at_when (IsAllowed p a) (Cause p a) (not (says a.query (codes "redirect_uri") client.redirect.text)) _ _
       (λ other. record { client = client; registered = registered; another = hidden (says a.query (codes "redirect_uri") client.redirect.text) other }) (λ own.
-      let names : Names p a client = record { registered = registered; own_redirect = shown (says a.query (codes "redirect_uri") client.redirect.text) own } in
+      let names : NamesClient p a client = record { registered = registered; own_redirect = shown (says a.query (codes "redirect_uri") client.redirect.text) own } in
       at_or (IsAllowed p a) (Cause p a) (login_of a.query) _ _ (λ none. record { client = client; names = names; lacks = lacks_one a.query none }) (λ login own_login.
       let allowed : Allowed = record { client = client; login = login } in
-      let asks : Asks p a allowed = record { names = names; own_login = asks_for_code a.query login own_login } in
+      let asks : AsksLogin p a allowed = record { names = names; own_login = asks_for_code a.query login own_login } in
       at_when (IsAllowed p a) (Cause p a) (not (bytes_eq a.subject a.info_subject)) _ _
       (λ other. record { allowed = allowed; asks = asks; another = other_text a.subject a.info_subject (bytes_eq a.subject a.info_subject) refl (hidden (bytes_eq a.subject a.info_subject) other) }) (λ same.
       let about : IsAbout p a allowed = record { asks = asks; one_subject = (bytes_decides a.subject a.info_subject).0 (shown (bytes_eq a.subject a.info_subject) same) } in

@@ -39,7 +39,7 @@ use Rattle.oidc_provider.specs.declared.settings.Registration.{Registration}
 use Rattle.oidc_provider.specs.declared.settings.ProviderSettings.{ProviderSettings}
 use Rattle.std.specs.FinMap as finite
 use Rattle.oidc_provider.specs.Settings.{registered}
-use Rattle.oidc_provider.specs.Grants.{SeenGrant, of_code}
+use Rattle.oidc_provider.specs.Grants.{SeenGrant, grant_of_code}
 use Rattle.oidc_provider.specs.Provider.{SeenProvider}
 use Rattle.oidc_provider.specs.Authorization.{Allowed, callback_pairs, callback_query}
 use Rattle.oidc_provider.specs.Issuing.{core_types, key_of_secret, claims_for, tokens, token_body, IsGranted}
@@ -120,7 +120,7 @@ module _ {AC GC : Type 0} (additional : List SeenMember → Result AC Refusal) (
 
   was_granted : StandsUnredeemed types p a g login
   was_granted = record {
-    of_own_code = ap (of_code p.grants) granted.code ∙ h.stands.by_code;
+    of_own_code = ap (grant_of_code p.grants) granted.code ∙ h.stands.by_code;
     of_own_token = ap (finite.get p.grants.codes) granted.token ∙ h.stands.by_token ∙ ap Some (sym granted.code);
     unredeemed = granted.unredeemed;
     redirect = h.stands.redirect;

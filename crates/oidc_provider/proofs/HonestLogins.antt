@@ -38,7 +38,7 @@ use Rattle.oidc_login.proofs.TokenHash.{beside, own_claim}
 use Rattle.oidc_login.proofs.Answers.{tokens_back}
 use Rattle.oidc_provider.specs.declared.settings.Registration.{Registration}
 use Rattle.oidc_provider.specs.Settings.{registered}
-use Rattle.oidc_provider.specs.Grants.{SeenGrant, of_code}
+use Rattle.oidc_provider.specs.Grants.{SeenGrant, grant_of_code}
 use Rattle.oidc_provider.specs.Provider.{SeenProvider}
 use Rattle.oidc_provider.specs.Issuing.{tokens}
 use Rattle.oidc_provider.specs.Answers.{json, tokens_of, user_info_of, provider_answer, after, served}

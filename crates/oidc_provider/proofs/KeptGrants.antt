@@ -17,7 +17,7 @@ use Rattle.oidc_login.specs.Logins.{SeenLogins}
 use Rattle.oidc_login.specs.Begin.{Begin}
 use Rattle.oidc_provider.specs.declared.settings.Registration.{Registration}
 use Rattle.oidc_provider.specs.Settings.{registered}
-use Rattle.oidc_provider.specs.Grants.{SeenGrant, SeenGrants, of_code}
+use Rattle.oidc_provider.specs.Grants.{SeenGrant, SeenGrants, grant_of_code}
 use Rattle.oidc_provider.specs.Provider.{SeenProvider}
 use Rattle.oidc_provider.specs.Values.{Pairs, only}
 use Rattle.oidc_provider.specs.Authorization.{Allowed, callback_pairs, callback_query}
@@ -46,7 +46,7 @@ module _ {AC GC : Type 0} (additional : List SeenMember → Result AC Refusal) (
   is_allowed : causes.IsAllowed before (asked_with url t) k.allowed
   is_allowed = allowed_forth before (asked_with url t) k.allowed k.was_allowed
 
-  abbrev asks : causes.Asks before (asked_with url t) k.allowed
+  abbrev asks : causes.AsksLogin before (asked_with url t) k.allowed
   asks = is_allowed.new_token.code.about.asks
 
   -- ---- what was allowed is what the begin asked for
@@ -90,7 +90,7 @@ module _ {AC GC : Type 0} (additional : List SeenMember → Result AC Refusal) (
   granted : IsGranted additional gender additional_out gender_data before.settings (allowed_for client b) t.code t.token t.claims t.user_info g
   granted = subst (λ (x : Allowed). IsGranted additional gender additional_out gender_data before.settings x t.code t.token t.claims t.user_info g) allowed_is k.granted
 
-  module _ (p : SeenProvider) (settings : p.settings ≡ before.settings) (by_code : of_code p.grants t.code ≡ Some g)
+  module _ (p : SeenProvider) (settings : p.settings ≡ before.settings) (by_code : grant_of_code p.grants t.code ≡ Some g)
       (by_token : finite.get p.grants.codes t.token ≡ Some t.code) where
     pub has_grant : HasGrantFor additional gender additional_out gender_data p t b client
     has_grant = record {
@@ -111,9 +111,9 @@ module _ {AC GC : Type 0} (additional : List SeenMember → Result AC Refusal) (
   pub made_settings : made.settings ≡ before.settings
   made_settings = ap (λ (q : SeenProvider). q.settings) k.kept
 
-  made_code : of_code made.grants t.code ≡ Some g
+  made_code : grant_of_code made.grants t.code ≡ Some g
   made_code =
-      ap (λ (q : SeenProvider). of_code q.grants t.code) k.kept
+      ap (λ (q : SeenProvider). grant_of_code q.grants t.code) k.kept
       ∙ finite.get-insert nat_list_cmp_total before.grants.by_code g.code g t.code
       ∙ ap (λ (code : List ℕ). cond (tied t.code code) (Some g) (finite.get before.grants.by_code t.code)) granted.code
       ∙ ap (λ (same : Bool). cond same (Some g) (finite.get before.grants.by_code t.code)) (ties_itself t.code)

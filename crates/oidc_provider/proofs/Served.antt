@@ -30,7 +30,7 @@ use Rattle.oidc_user_info.specs.declared.requests.UserInfoResponseType.{UserInfo
 use Rattle.oidc_user_info.specs.declared.requests.UserInfoResponseType.TheVariants.{Json, Jwt}
 use Rattle.oidc_provider.specs.declared.settings.Registration.{Registration}
 use Rattle.oidc_provider.specs.Settings.{registered}
-use Rattle.oidc_provider.specs.Grants.{SeenGrant, SeenGrants, of_code, of_token, redeemed_by, marked}
+use Rattle.oidc_provider.specs.Grants.{SeenGrant, SeenGrants, grant_of_code, grant_of_token, redeemed_by, marked}
 use Rattle.oidc_provider.specs.Provider.{SeenProvider}
 use Rattle.oidc_provider.specs.Values.{Pairs, only, is_it, says}
 use Rattle.oidc_provider.specs.Answers.{Answer, credentials_in, authenticates_by, asks_for_tokens, asks_for_info, is_authenticated, is_of_client, proves, may_redeem, asked_grant, bearer_in, borne_grant, tokens_of, user_info_of, provider_answer, after}
@@ -204,7 +204,7 @@ module _ (p : SeenProvider) (g : SeenGrant) (client : Registration) (kind : Auth
           any_of_found by_id (λ r. by_id r && by_credentials r) p.registrations client known
           (both (by_id client) (by_credentials client) (equal_texts client.client_id g.client (own_id p.registrations g.client client known)) own_authentication)
 
-      module _ (of_own_code : of_code p.grants g.code ≡ Some g) (unredeemed : g.redeemed ≡ false) (same_redirect : redirect ≡ g.redirect)
+      module _ (of_own_code : grant_of_code p.grants g.code ≡ Some g) (unredeemed : g.redeemed ≡ false) (same_redirect : redirect ≡ g.redirect)
           (same_challenge : s256 verifier ≡ g.challenge) where
         says_redirect : says (pairs token_request.body) (codes "redirect_uri") g.redirect ≡ true
         says_redirect =
@@ -225,8 +225,8 @@ module _ (p : SeenProvider) (g : SeenGrant) (client : Registration) (kind : Auth
 
         found : asked_grant p token_request ≡ Some g
         found =
-            ap (λ body. option_and_then (λ grant. then_some (may_redeem p token_request grant) grant) (option_and_then (of_code p.grants) (only body (codes "code")))) pairs_sent
-            ∙ ap (λ o. option_and_then (λ grant. then_some (may_redeem p token_request grant) grant) (option_and_then (of_code p.grants) o))
+            ap (λ body. option_and_then (λ grant. then_some (may_redeem p token_request grant) grant) (option_and_then (grant_of_code p.grants) (only body (codes "code")))) pairs_sent
+            ∙ ap (λ o. option_and_then (λ grant. then_some (may_redeem p token_request grant) grant) (option_and_then (grant_of_code p.grants) o))
             (code_of kind client.client_id client.secret g.code verifier redirect)
             ∙ ap (λ o. option_and_then (λ grant. then_some (may_redeem p token_request grant) grant) o) of_own_code
             ∙ ap (λ b. then_some b g) allowed
@@ -261,12 +261,12 @@ module _ (p : SeenProvider) (g : SeenGrant) (address : List ℕ) (kind : UserInf
   bears : credentials_in info_request ≡ Some (bearer_of token)
   bears = refl
 
-  module _ (of_own_token : finite.get p.grants.codes token ≡ Some code) (of_own_code : of_code p.grants code ≡ Some g) (redeemed : g.redeemed ≡ true)
+  module _ (of_own_token : finite.get p.grants.codes token ≡ Some code) (of_own_code : grant_of_code p.grants code ≡ Some g) (redeemed : g.redeemed ≡ true)
       (visible : is_visible_text token ≡ true) (same_address : address ≡ p.settings.user_info.text) where
     borne : borne_grant p info_request ≡ Some g
     borne =
-        ap (λ o. option_and_then (λ grant. then_some grant.redeemed grant) (option_and_then (of_token p.grants) o)) (bearer_back token visible)
-        ∙ ap (λ o. option_and_then (λ grant. then_some grant.redeemed grant) (option_and_then (of_code p.grants) o)) of_own_token
+        ap (λ o. option_and_then (λ grant. then_some grant.redeemed grant) (option_and_then (grant_of_token p.grants) o)) (bearer_back token visible)
+        ∙ ap (λ o. option_and_then (λ grant. then_some grant.redeemed grant) (option_and_then (grant_of_code p.grants) o)) of_own_token
         ∙ ap (λ o. option_and_then (λ grant. then_some grant.redeemed grant) o) of_own_code
         ∙ ap (λ b. then_some b g) redeemed
 
@@ -285,7 +285,7 @@ module _ (p : SeenProvider) (g : SeenGrant) (address : List ℕ) (kind : UserInf
 pub ties_itself : (x : List ℕ) → eq_by_cmp (slice_cmp nat_cmp) x x ≡ true
 ties_itself x = is_eq-slice_cmp x x ∙ same_text x
 
-module _ (p : SeenProvider) (g : SeenGrant) (request : SeenRequest) (of_own_code : of_code p.grants g.code ≡ Some g)
+module _ (p : SeenProvider) (g : SeenGrant) (request : SeenRequest) (of_own_code : grant_of_code p.grants g.code ≡ Some g)
     (served : provider_answer p request ≡ tokens_of g) where
   abbrev pub now_redeemed : SeenGrant
   now_redeemed = record g { redeemed = true }
@@ -295,9 +295,9 @@ module _ (p : SeenProvider) (g : SeenGrant) (request : SeenRequest) (of_own_code
       ap (λ answer. redeemed_by p.grants answer.redeems) served
       ∙ ap (λ o. record p.grants { by_code = marked p.grants.by_code g.code o }) of_own_code
 
-  pub code_after : of_code (after p request).grants g.code ≡ Some now_redeemed
+  pub code_after : grant_of_code (after p request).grants g.code ≡ Some now_redeemed
   code_after =
-      ap (λ grants. of_code grants g.code) grants_after
+      ap (λ grants. grant_of_code grants g.code) grants_after
       ∙ finite.get-insert nat_list_cmp_total p.grants.by_code g.code now_redeemed g.code
       ∙ ap (λ b. cond b (Some now_redeemed) (finite.get p.grants.by_code g.code)) (ties_itself g.code)
 

@@ -14,7 +14,7 @@ use Rattle.oidc_oauth2.specs.Transport.{Log}
 use Rattle.oidc_oauth2.specs.ClientAuth.{basic_credentials}
 use Rattle.oidc_oauth2.specs.Pkce.{s256}
 use Rattle.oidc_oauth2.specs.Replies.{◌>>=◌, ◌>>◌, ◌when◌, ◌for◌}
-use Rattle.oidc_provider.specs.Grants.{SeenGrant, of_code, of_token, redeemed_by}
+use Rattle.oidc_provider.specs.Grants.{SeenGrant, grant_of_code, grant_of_token, redeemed_by}
 use Rattle.oidc_provider.specs.Provider.{SeenProvider}
 use Rattle.oidc_provider.specs.Values.{Pairs, only, is_it, says}
 use Rattle.oidc_provider.specs.declared.settings.Registration.{Registration}
@@ -66,7 +66,7 @@ module _ (p : SeenProvider) (request : SeenRequest) where
   abbrev pub asked_grant : Option SeenGrant
   asked_grant =
       option_and_then (λ grant. then_some (may_redeem grant) grant)
-      (option_and_then (of_code p.grants) (only (pairs request.body) (codes "code")))
+      (option_and_then (grant_of_code p.grants) (only (pairs request.body) (codes "code")))
 
 -- the token of bearer credentials
 abbrev pub bearer_in : List ℕ → Option (List ℕ)
@@ -79,7 +79,7 @@ bearer_in credentials =
 abbrev pub borne_grant : SeenProvider → SeenRequest → Option SeenGrant
 borne_grant p request =
     option_and_then (λ grant. then_some grant.redeemed grant)
-    (option_and_then (of_token p.grants) (option_and_then bearer_in (credentials_in request)))
+    (option_and_then (grant_of_token p.grants) (option_and_then bearer_in (credentials_in request)))
 
 -- ---- the answers
 

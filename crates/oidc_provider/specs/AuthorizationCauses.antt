@@ -30,18 +30,18 @@ module _ (p : SeenProvider) (a : Asked) where
   -- ---- how far a request came: each record rests on the one before
 
   -- it names a registered client, and that one's redirect
-  pub record Names (client : Registration) : Type 0 where
+  pub record NamesClient (client : Registration) : Type 0 where
     pub registered : client_of p a.query ≡ Some client
     pub own_redirect : says a.query (codes "redirect_uri") client.redirect.text ≡ true
 
   -- it asks for a code with all that a login has to have
-  pub record Asks (allowed : Allowed) : Type 0 where
-    pub names : Names allowed.client
+  pub record AsksLogin (allowed : Allowed) : Type 0 where
+    pub names : NamesClient allowed.client
     pub own_login : AsksForCode a.query allowed.login
 
   -- the two claims are about one subject
   pub record IsAbout (allowed : Allowed) : Type 0 where
-    pub asks : Asks allowed
+    pub asks : AsksLogin allowed
     pub one_subject : a.subject ≡ a.info_subject
 
   -- no grant has the code
@@ -67,12 +67,12 @@ module _ (p : SeenProvider) (a : Asked) where
 
   pub record AsksForNoCode : Type 0 where
     pub client : Registration
-    pub names : Names client
+    pub names : NamesClient client
     pub lacks : LacksOne a.query
 
   pub record IsAboutTwo : Type 0 where
     pub allowed : Allowed
-    pub asks : Asks allowed
+    pub asks : AsksLogin allowed
     pub another : a.subject ≢ a.info_subject
 
   pub record HasUsedCode : Type 0 where

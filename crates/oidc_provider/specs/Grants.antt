@@ -26,11 +26,11 @@ abbrev pub no_grants : SeenGrants
 no_grants = record { by_code = finite.empty; codes = finite.empty }
 
 -- the grant of a code, and that of an access token
-abbrev pub of_code : SeenGrants → List ℕ → Option SeenGrant
-of_code grants code = finite.get grants.by_code code
+abbrev pub grant_of_code : SeenGrants → List ℕ → Option SeenGrant
+grant_of_code grants code = finite.get grants.by_code code
 
-abbrev pub of_token : SeenGrants → List ℕ → Option SeenGrant
-of_token grants token = option_and_then (of_code grants) (finite.get grants.codes token)
+abbrev pub grant_of_token : SeenGrants → List ℕ → Option SeenGrant
+grant_of_token grants token = option_and_then (grant_of_code grants) (finite.get grants.codes token)
 
 -- a grant has this code, or this access token
 abbrev pub has_code : SeenGrants → List ℕ → Bool
@@ -56,7 +56,7 @@ marked by_code code (Some grant) = finite.insert by_code code (record grant { re
 abbrev pub redeemed_by : SeenGrants → Option (List ℕ) → SeenGrants
 redeemed_by grants None = grants
 redeemed_by grants (Some code) =
-    record grants { by_code = marked grants.by_code code (of_code grants code) }
+    record grants { by_code = marked grants.by_code code (grant_of_code grants code) }
 
 -- ---- how the logic stores them
 

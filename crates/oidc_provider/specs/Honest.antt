@@ -21,7 +21,7 @@ use Rattle.oidc_login.specs.declared.types.UserInfoDemand.{UserInfoDemand}
 use Rattle.oidc_login.specs.declared.errors.TooLong.TheVariants as place
 use Rattle.oidc_login.specs.declared.errors.LoginError.TheVariants.{TooLong}
 use Rattle.oidc_provider.specs.Settings.{registered}
-use Rattle.oidc_provider.specs.Grants.{SeenGrant, of_code}
+use Rattle.oidc_provider.specs.Grants.{SeenGrant, grant_of_code}
 use Rattle.oidc_provider.specs.Provider.{SeenProvider}
 use Rattle.oidc_provider.specs.Issuing.{tokens}
 use Rattle.oidc_provider.specs.Answers.{served}
@@ -54,7 +54,7 @@ module _ {AC GC Key Use : Type 0} (types : SiteTypes AC GC Key Use) (p : SeenPro
 
   -- it granted this, with the redirect and the challenge of the login, and it wasn't redeemed since
   pub record StandsUnredeemed (g : SeenGrant) (login : SeenLogin) : Type 0 where
-    pub of_own_code : of_code p.grants g.code ≡ Some g
+    pub of_own_code : grant_of_code p.grants g.code ≡ Some g
     pub of_own_token : finite.get p.grants.codes g.token ≡ Some g.code
     pub unredeemed : g.redeemed ≡ false
     pub redirect : TextAndUrl

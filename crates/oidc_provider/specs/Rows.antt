@@ -11,7 +11,7 @@ use Rattle.http_header.specs.HeaderMap.{Entries, get}
 use Rattle.http_header.specs.FieldValue.{FieldValue}
 use Rattle.oidc_oauth2.specs.Messages.{SeenRequest, SeenResponse}
 use Rattle.oidc_oauth2.specs.Pkce.{s256}
-use Rattle.oidc_provider.specs.Grants.{SeenGrant, SeenGrants, of_code, of_token}
+use Rattle.oidc_provider.specs.Grants.{SeenGrant, SeenGrants, grant_of_code, grant_of_token}
 use Rattle.oidc_provider.specs.Provider.{SeenProvider}
 use Rattle.oidc_provider.specs.Values.{Pairs, only, says}
 use Rattle.oidc_provider.specs.Answers.{Answer, authenticates_by, bearer_in, refused, empty, tokens_of, user_info_of}
@@ -57,12 +57,12 @@ may_redeem_by credentials body registrations grant =
 abbrev pub grant_asked_by : Option (List ℕ) → Pairs → List Registration → SeenGrants → Option SeenGrant
 grant_asked_by credentials body registrations grants =
     option_and_then (λ grant. then_some (may_redeem_by credentials body registrations grant) grant)
-    (option_and_then (of_code grants) (only body (codes "code")))
+    (option_and_then (grant_of_code grants) (only body (codes "code")))
 
 abbrev pub borne_by : SeenGrants → Option (List ℕ) → Option SeenGrant
 borne_by grants credentials =
     option_and_then (λ grant. then_some grant.redeemed grant)
-    (option_and_then (of_token grants) (option_and_then bearer_in credentials))
+    (option_and_then (grant_of_token grants) (option_and_then bearer_in credentials))
 
 -- ---- answers by what was found
 
@@ -82,14 +82,14 @@ abbrev pub info_row_answer : Option SeenGrant → Answer
 info_row_answer None = empty 401
 info_row_answer (Some grant) = user_info_of grant
 
-abbrev pub answer_of : Row → Answer
-answer_of InvalidClient = refused 401 (codes "invalid_client")
-answer_of UnsupportedGrantType = refused 400 (codes "unsupported_grant_type")
-answer_of InvalidGrant = refused 400 (codes "invalid_grant")
-answer_of (Tokens grant) = tokens_of grant.now
-answer_of (UserInfo grant) = user_info_of grant.now
-answer_of Unauthorized = empty 401
-answer_of NotFound = empty 404
+abbrev pub row_answer : Row → Answer
+row_answer InvalidClient = refused 401 (codes "invalid_client")
+row_answer UnsupportedGrantType = refused 400 (codes "unsupported_grant_type")
+row_answer InvalidGrant = refused 400 (codes "invalid_grant")
+row_answer (Tokens grant) = tokens_of grant.now
+row_answer (UserInfo grant) = user_info_of grant.now
+row_answer Unauthorized = empty 401
+row_answer NotFound = empty 404
 
 abbrev pub seen_with : ℕ → Entries FieldValue → List ℕ → SeenResponse
 seen_with status headers body =

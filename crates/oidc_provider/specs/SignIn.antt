@@ -38,7 +38,7 @@ use Rattle.oidc_login.specs.declared.errors.LoginError.{LoginError}
 use Rattle.oidc_login.specs.declared.errors.LoginError.TheVariants as login_error
 use Rattle.std.specs.declared.convert.Infallible.{Infallible}
 use Rattle.oidc_provider.specs.Settings.{registered}
-use Rattle.oidc_provider.specs.Grants.{SeenGrant, of_code, has_code, has_token}
+use Rattle.oidc_provider.specs.Grants.{SeenGrant, grant_of_code, has_code, has_token}
 use Rattle.oidc_provider.specs.Provider.{SeenProvider}
 use Rattle.oidc_provider.specs.Authorization.{Asked, Allowed, asked, callback_pairs, callback_query}
 use Rattle.oidc_provider.specs.Issuing.{core_types, claims_for, hashed, token_body, IsIssued, IsGranted}
@@ -144,7 +144,7 @@ module _ {AC GC : Type 0} (additional : List SeenMember → Result AC Refusal) (
     pub record HasGrantFor (p : SeenProvider) (t : ToIssue AC GC) (b : Begin) (registration : Registration) : Type 0 where
       pub grant : SeenGrant
       pub granted : IsGranted additional gender additional_out gender_data p.settings (allowed_for registration b) t.code t.token t.claims t.user_info grant
-      pub by_code : of_code p.grants t.code ≡ Some grant
+      pub by_code : grant_of_code p.grants t.code ≡ Some grant
       pub by_token : finite.get p.grants.codes t.token ≡ Some t.code
       pub redirect : TextAndUrl
       pub own_redirect : b.request.redirect_uri ≡ Some redirect
@@ -231,6 +231,6 @@ KeptGrantStands {AC} {GC} additional gender additional_out gender_data =
     (before made p : SeenProvider) (url : Parts) (t : ToIssue AC GC) (query : List ℕ) (b : Begin) (registration : Registration)
     (k : Keeps additional gender additional_out gender_data t.claims t.user_info (asked_with url t) before made query)
     → IsUrlOf b url → registered before.registrations b.request.client_id ≡ Some registration
-    → p.settings ≡ before.settings → of_code p.grants t.code ≡ Some k.grant → finite.get p.grants.codes t.token ≡ Some t.code
+    → p.settings ≡ before.settings → grant_of_code p.grants t.code ≡ Some k.grant → finite.get p.grants.codes t.token ≡ Some t.code
     → HasGrantFor additional gender additional_out gender_data p t b registration
     × (query ≡ callback_query t.code b.request.state)

@@ -207,7 +207,7 @@ fn redeeming_row<'g>(
     registrations: &[Registration],
     grants: &'g Grants,
 ) -> Result<Row<'g>, AllocError>
-    ensures { IfOk result (λ row. rows.answer_of row ≡ rows.redeeming
+    ensures { IfOk result (λ row. rows.row_answer row ≡ rows.redeeming
         (rows.grant_asked_by (rows.bytes_of credentials.entry) body.now registrations.now grants.now)) }
 {
     let Some(code) = body.only("code") else {
@@ -231,7 +231,7 @@ fn token_row<'g>(
     registrations: &[Registration],
     grants: &'g Grants,
 ) -> Result<Row<'g>, AllocError>
-    ensures { IfOk result (λ row. rows.answer_of row ≡ rows.token_row_answer
+    ensures { IfOk result (λ row. rows.row_answer row ≡ rows.token_row_answer
         (rows.bytes_of credentials.entry) body.now registrations.now grants.now) }
 {
     if !is_authenticated(alloc, credentials, body, registrations)? {
@@ -245,7 +245,7 @@ fn token_row<'g>(
 
 // The row of a request for user info.
 fn info_row<'g>(grants: &'g Grants, credentials: Option<&HeaderValue>) -> Row<'g>
-    ensures { rows.answer_of result
+    ensures { rows.row_answer result
         ≡ rows.info_row_answer (rows.borne_by grants.now (rows.bytes_of credentials.entry)) }
 {
     match borne_grant(grants, credentials) {
@@ -276,7 +276,7 @@ fn posted_row<'g>(
     grants: &'g Grants,
     request: &HttpRequest,
 ) -> Result<Row<'g>, AllocError>
-    ensures { IfOk result (λ row. rows.answer_of row ≡ rows.token_row_answer
+    ensures { IfOk result (λ row. rows.row_answer row ≡ rows.token_row_answer
         (rows.bytes_of credentials.entry) (pairs request.now.body) registrations.now grants.now) }
 {
     let body = BorrowedPairs::parse(alloc, request.body().as_slice())?;
@@ -292,7 +292,7 @@ pub(crate) fn row_of<'g>(
     request: &HttpRequest,
 ) -> Result<Row<'g>, AllocError>
     ensures { let p = rows.provider_of settings.now registrations.now grants.now in
-        IfOk result (λ row. rows.answer_of row ≡ spec.provider_answer p request.now) }
+        IfOk result (λ row. rows.row_answer row ≡ spec.provider_answer p request.now) }
 {
     let credentials = credentials_in(request);
     if asks_for_tokens(settings, request) {
@@ -339,7 +339,7 @@ fn empty_response(alloc: Global, status: StatusCode) -> HttpResponse
 
 // The response of a row.
 pub(crate) fn response_of(alloc: Global, row: Row<'_>) -> Result<HttpResponse, AllocError>
-    ensures { IfOk result (λ response. seen_response response ≡ (rows.answer_of row.entry).response) }
+    ensures { IfOk result (λ response. seen_response response ≡ (rows.row_answer row.entry).response) }
 {
     match row {
         Row::InvalidClient => {
@@ -364,7 +364,7 @@ pub(crate) fn response_of(alloc: Global, row: Row<'_>) -> Result<HttpResponse, A
 // The code that a row redeems.
 pub(crate) fn redeemed_of(alloc: Global, row: Row<'_>) -> Result<Option<String>, AllocError>
     ensures { IfOk result
-        (λ code. option_map string_bytes code ≡ (rows.answer_of row.entry).redeems) }
+        (λ code. option_map string_bytes code ≡ (rows.row_answer row.entry).redeems) }
 {
     match row {
         Row::Tokens(grant) => Ok(Some(String::from_str(alloc, grant.code.as_str())?)),

@@ -43,7 +43,10 @@ pub(crate) fn is_visible(bytes: &[u8]) -> bool
 }
 
 // The registration of a client, where it has one.
-pub(crate) fn registered<'r>(registrations: &'r [Registration], id: &str) -> Option<&'r Registration>
+pub(crate) fn registered<'r>(
+    registrations: &'r [Registration],
+    id: &str,
+) -> Option<&'r Registration>
     ensures { option_copied result ≡ registered_among registrations.now id.now }
 {
     match registrations {

@@ -128,7 +128,7 @@ impl Grants {
     // The grant of a code.
     #[tactic(auto, using(crate::proofs::Entries::get_kept))]
     pub(crate) fn of_code(&self, code: &str) -> Option<&Grant>
-        ensures found { option_copied result ≡ spec.of_code self.now code.now }
+        ensures found { option_copied result ≡ spec.grant_of_code self.now code.now }
     {
         self.by_code.get(code)
     }
@@ -136,7 +136,7 @@ impl Grants {
     // The grant of an access token.
     #[tactic(auto, using(crate::proofs::Entries::get_kept, crate::proofs::Entries::get_kept_text))]
     pub(crate) fn of_token(&self, token: &str) -> Option<&Grant>
-        ensures found { option_copied result ≡ spec.of_token self.now token.now }
+        ensures found { option_copied result ≡ spec.grant_of_token self.now token.now }
     {
         match self.codes.get(token) {
             Some(code) => self.of_code(code.as_str()),

@@ -5,7 +5,7 @@ ghost use Rattle.std.specs.String.{string_bytes};
 ghost use Rattle.oidc_oauth2.specs.Messages.{seen_response};
 ghost use Rattle.oidc_provider.specs.Grants.{redeemed_by};
 ghost use Rattle.oidc_provider.specs.Answers.{provider_answer};
-ghost use Rattle.oidc_provider.specs.Rows.{answer_of};
+ghost use Rattle.oidc_provider.specs.Rows.{row_answer};
 
 use crate::answers::{Row, redeemed_of, response_of, row_of};
 use crate::provider::Provider;
@@ -70,11 +70,11 @@ struct Reply {
 
 // The reply of a row of the table.
 fn reply_of(alloc: Global, row: Row<'_>) -> Result<Reply, AllocError>
-    ensures response { let answer = answer_of row.entry in
+    ensures response { let answer = row_answer row.entry in
         IfOk result (λ reply. seen_response reply.response ≡ answer.response) }
-    ensures kept { let answer = answer_of row.entry in
+    ensures kept { let answer = row_answer row.entry in
         IfOk result (λ reply. reply.kept ≡ answer.response) }
-    ensures redeems { let answer = answer_of row.entry in
+    ensures redeems { let answer = row_answer row.entry in
         IfOk result (λ reply. option_map string_bytes reply.redeems ≡ answer.redeems) }
 {
     let redeems = redeemed_of(alloc, row)?;

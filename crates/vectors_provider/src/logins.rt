@@ -333,7 +333,16 @@ fn sign_in_line(
         code,
         token,
     } = asked;
-    match sign_in(provider, logins, url.url(), claims, user_info, code, token, now) {
+    match sign_in(
+        provider,
+        logins,
+        url.url(),
+        claims,
+        user_info,
+        code,
+        token,
+        now,
+    ) {
         Ok(user) => reported(alloc, Ok(user)),
         Err(SignInError::Login(refusal)) => reported(alloc, Err(refusal)),
         Err(SignInError::Authorize(refusal)) => {
