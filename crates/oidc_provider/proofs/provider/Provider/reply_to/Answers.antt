@@ -6,7 +6,7 @@ use Rattle.oidc_provider.specs.Provider.{SeenProvider}
 use Rattle.oidc_provider.specs.Answers.{Answer, provider_answer}
 use Rattle.oidc_provider.specs.Rows as rows
 use Rattle.oidc_provider.proofs.RowOf.{by_row}
-use Rattle.oidc_provider.proofs.transport.Provider.reply_to.Goals as goal
+use Rattle.oidc_provider.proofs.provider.Provider.reply_to.Goals as goal
 
 pub returns-in-Ok-clause-response : goal.returns-in-Ok-clause-response
 returns-in-Ok-clause-response g c =
