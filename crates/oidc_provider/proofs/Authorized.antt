@@ -69,7 +69,7 @@ module _ (p : SeenProvider) (a : Asked) where
           → KeepsGrants additional gender additional_out gender_data claims user_info a p new query
       kept query k = record {
         allowed = allowed_to client k.login;
-        was_allowed = by_client ∙ ap (λ (meant : Result Allowed AuthorizeError). meant >>= λ l. Ok (allowed_to client l)) k.was_granted;
+        was_allowed = by_client ∙ ap (λ (r : Result AskedLogin AuthorizeError). r >>= λ l. Ok (allowed_to client l)) k.was_granted;
         keeps = k.keeps;
       }
 
@@ -163,6 +163,21 @@ module _ (p : SeenProvider) (here asked : Asked) (same : here ≡ asked) where
         → IfOk result (λ query. Keeps additional gender additional_out gender_data claims user_info asked p new (string_bytes query))
     keeps (Ok query) k = subst (λ a. Keeps additional gender additional_out gender_data claims user_info a p new (string_bytes query)) same (keeps_here (string_bytes query) k)
     keeps (Err e) k = tt
+
+-- the same, of what was seen of it by its parts
+module _ (seen p : SeenProvider) (parts : seen ≡ provider_of p.settings p.registrations p.grants) (here asked : Asked) (same : here ≡ asked) where
+  pub replied_by_parts : (result : Result (List ℕ) AuthorizeError) → Replies result (authorization_reply seen here) → Replies result (authorization_reply p asked)
+  replied_by_parts result replies = replied p here asked same result (subst (λ (q : SeenProvider). Replies result (authorization_reply q here)) parts replies)
+
+  module _ {AC GC : Type 0} (additional : List SeenMember → Result AC Refusal) (gender : SeenMember → Result GC Refusal) (additional_out : AC → List OutSeen) (gender_data : GC → Data)
+      (claims : SeenIdTokenClaims AC GC) (user_info : SeenUserInfoClaims AC GC) (grants : SeenGrants) (new : SeenProvider) (is : new ≡ record p { grants = grants }) where
+    pub keeps_by_parts : {Y E : Type 0} (result : Result (String Y) E)
+        → IfOk result (λ query. KeepsGrants additional gender additional_out gender_data claims user_info here seen grants (string_bytes query))
+        → IfOk result (λ query. Keeps additional gender additional_out gender_data claims user_info asked p new (string_bytes query))
+    keeps_by_parts {Y = Y} {E = E} (Ok query) k =
+        keeps p here asked same additional gender additional_out gender_data claims user_info grants new is {E = E} (Ok query)
+        (subst (λ (q : SeenProvider). KeepsGrants additional gender additional_out gender_data claims user_info here q grants (string_bytes query)) parts k)
+    keeps_by_parts (Err e) k = tt
 
 -- each refusal has its cause
 module _ {Y : Type 0} (p : SeenProvider) (a : Asked) (result : Result (String Y) AuthorizeError) (replies : Replies (seen_query result) (authorization_reply p a)) where

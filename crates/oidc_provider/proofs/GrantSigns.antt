@@ -222,6 +222,7 @@ module _ {AC GC : Type 0} (additional : List SeenMember → Result AC Refusal) (
   -- ---- the whole
 
   is_honest : IsHonest types p a g login id_token t.user_info
+  unfolding was_granted
   is_honest = record {
     names = names;
     client = client;

@@ -154,14 +154,6 @@ module _ {AC GC : Type 0} (additional : List SeenMember → Result AC Refusal) (
         subst (OfCallback Composed) (sym is)
         (of_reply Composed reply (record { made = made; query = bytes; kept = kept; ran = ran; store = store }))
 
-    -- the provider granted, and refuses nothing
-    whole_grants : (r : Result (SeenSignedIn AC GC) (LoginError Infallible)) → Grants (by_callback r)
-    whole_grants (Ok signed) = tt
-    whole_grants (Err e) = tt
-
-    pub grants_it : Grants result
-    grants_it = subst (Grants {A = SeenSignedIn AC GC}) (sym is) (whole_grants reply)
-
   -- ---- what a provider can't refuse
 
   module _ (h : Honest) (may : IsGrantable old h.registration h.begin url t) where
@@ -226,6 +218,16 @@ module _ {AC GC : Type 0} (additional : List SeenMember → Result AC Refusal) (
         none_refused e (callback_query t.code h.begin.request.state)
         (granted old (asked_with url t) (Err e) replies (allowed_for h.registration h.begin) is_allowed)
 
+-- ---- where it granted
+
+whole_grants : {A : Type 0} (reply : Result A (LoginError Infallible)) → Grants (by_callback reply)
+whole_grants (Ok signed) = tt
+whole_grants (Err e) = tt
+
+-- a callback's reply is no refusal of the provider
+pub grants_it : {A : Type 0} (reply : Result A (LoginError Infallible)) (result : Result A SignInError) → result ≡ by_callback reply → Grants result
+grants_it {A = A} reply result is = subst (Grants {A = A}) (sym is) (whole_grants reply)
+
 -- ---- why it refused
 
 pub caused_by : {A : Type 0} (p : SeenProvider) (a : Asked) (found e : AuthorizeError) → ◌≡◌ {A = Result A SignInError} (Err (Authorize found)) (Err (Authorize e))
@@ -233,7 +235,6 @@ pub caused_by : {A : Type 0} (p : SeenProvider) (a : Asked) (found e : Authorize
 caused_by p a found e is replies =
     let same : found ≡ e = cc in subst (causes.HasCause p a) same (cause_of p a found replies)
 
--- a callback's reply is no refusal of the provider
 pub no_refusal : {A : Type 0} (reply : Result A (LoginError Infallible)) (e : AuthorizeError) → by_callback reply ≡ Err (Authorize e) → ⊥
 no_refusal (Ok signed) e is = cc
 no_refusal (Err refused) e is = cc
@@ -247,20 +248,21 @@ pub never_caused : {A : Type 0} (p : SeenProvider) (a : Asked) (query : List ℕ
 never_caused p a query result replies e cause = no_cause e query result (refused p a (Ok query) replies e cause)
 
 -- a refusal of the provider, as that of a whole login
-abbrev refusal_in : {A : Type 0} → Result (List ℕ) AuthorizeError → Result A SignInError
-refusal_in (Ok query) = Err (Authorize refusal.Memory)
-refusal_in (Err e) = Err (Authorize e)
+module _ (A : Type 0) where
+  abbrev refusal_in : Result (List ℕ) AuthorizeError → Result A SignInError
+  refusal_in (Ok query) = Err (Authorize refusal.Memory)
+  refusal_in (Err e) = Err (Authorize e)
 
-refusal_is : {A : Type 0} (found e : AuthorizeError) → Replies {A = List ℕ} (Err found) (Err e) → RefusesWith {A = A} e (Err (Authorize found))
-refusal_is {A} refusal.Client e is = ap (λ (r : Result (List ℕ) AuthorizeError). refusal_in {A = A} r) is
-refusal_is {A} refusal.Redirect e is = ap (λ (r : Result (List ℕ) AuthorizeError). refusal_in {A = A} r) is
-refusal_is {A} refusal.Request e is = ap (λ (r : Result (List ℕ) AuthorizeError). refusal_in {A = A} r) is
-refusal_is {A} refusal.Subject e is = ap (λ (r : Result (List ℕ) AuthorizeError). refusal_in {A = A} r) is
-refusal_is {A} refusal.CodeUsed e is = ap (λ (r : Result (List ℕ) AuthorizeError). refusal_in {A = A} r) is
-refusal_is {A} refusal.TokenUsed e is = ap (λ (r : Result (List ℕ) AuthorizeError). refusal_in {A = A} r) is
-refusal_is {A} refusal.TokenText e is = ap (λ (r : Result (List ℕ) AuthorizeError). refusal_in {A = A} r) is
-refusal_is {A} refusal.Memory e is = tt
+  refusal_is : (found e : AuthorizeError) → Replies {A = List ℕ} (Err found) (Err e) → RefusesWith {A = A} e (Err (Authorize found))
+  refusal_is refusal.Client e is = ap refusal_in is
+  refusal_is refusal.Redirect e is = ap refusal_in is
+  refusal_is refusal.Request e is = ap refusal_in is
+  refusal_is refusal.Subject e is = ap refusal_in is
+  refusal_is refusal.CodeUsed e is = ap refusal_in is
+  refusal_is refusal.TokenUsed e is = ap refusal_in is
+  refusal_is refusal.TokenText e is = ap refusal_in is
+  refusal_is refusal.Memory e is = tt
 
-pub refused_with : {A : Type 0} (p : SeenProvider) (a : Asked) (found : AuthorizeError) → Replies {A = List ℕ} (Err found) (authorization_reply p a)
-    → (e : AuthorizeError) → causes.Cause p a e → RefusesWith {A = A} e (Err (Authorize found))
-refused_with p a found replies e cause = refusal_is found e (refused p a (Err found) replies e cause)
+  pub refused_with : (p : SeenProvider) (asked : Asked) (refused_by : AuthorizeError) → Replies {A = List ℕ} (Err refused_by) (authorization_reply p asked)
+      → (e : AuthorizeError) → causes.Cause p asked e → RefusesWith {A = A} e (Err (Authorize refused_by))
+  refused_with p asked refused_by replies e cause = refusal_is refused_by e (refused p asked (Err refused_by) replies e cause)

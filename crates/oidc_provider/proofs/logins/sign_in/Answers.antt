@@ -9,8 +9,7 @@ returns-in-Ok-clause-signs_in g c =
 
 pub returns-in-Ok-clause-grants : goal.returns-in-Ok-clause-grants
 returns-in-Ok-clause-grants g c = λ h may.
-    grants_it g.AC.AdditionalClaims.read_of g.GC.GenderClaim.read_of g.AC.AdditionalClaims.write_of g.GC.GenderClaim.write_of _ _ _ _ _ _ _ _ c.as_str.ensures.value
-    c.in-Ok.ensures.kept _ _ c.as_sign_in.ensures
+    grants_it c.call_back.result _ c.as_sign_in.ensures
 
 pub returns-in-Ok-clause-composed : goal.returns-in-Ok-clause-composed
 returns-in-Ok-clause-composed g c =
@@ -35,4 +34,4 @@ pub returns-in-Err-clause-cause : goal.returns-in-Err-clause-cause
 returns-in-Err-clause-cause g c = λ e is. caused_by _ _ c.in-Err.refusal e is c.in-Err.ensures.reply
 
 pub returns-in-Err-clause-refused : goal.returns-in-Err-clause-refused
-returns-in-Err-clause-refused g c = refused_with _ _ c.in-Err.refusal c.in-Err.ensures.reply
+returns-in-Err-clause-refused g c = refused_with _ _ _ c.in-Err.refusal c.in-Err.ensures.reply

@@ -1,25 +1,35 @@
-use Rattle.std.proofs.Common.{refl, ap, ◌∙◌}
+use Rattle.std.proofs.Common.{List, ap, ◌∙◌}
 use Rattle.oidc_pairs.specs.Pairs.{pairs}
 use Rattle.oidc_provider.specs.Values.{Pairs}
+use Rattle.oidc_provider.specs.Provider.{SeenProvider}
+use Rattle.oidc_provider.specs.Rows.{provider_of}
 use Rattle.oidc_provider.specs.Steps.{asked_by}
+use Rattle.oidc_provider.specs.declared.settings.Registration.{Registration}
 use Rattle.oidc_provider.specs.declared.errors.AuthorizeError.TheVariants.{Client, Redirect, Request, Subject, CodeUsed, TokenUsed, TokenText}
 use Rattle.oidc_provider.proofs.Allowed.{refused, granted}
-use Rattle.oidc_provider.proofs.Authorized.{replied, keeps, caused}
+use Rattle.oidc_provider.proofs.Authorized.{replied_by_parts, keeps_by_parts, caused}
 use Rattle.oidc_provider.proofs.provider.Provider.authorize.Goals as goal
 
 pub returns-clause-reply : goal.returns-clause-reply
 returns-clause-reply g c =
-    rw (← c.self.view_is) (replied _ _ _
+    replied_by_parts (provider_of c.self.inside.settings c.deref.result.now c.self.inside.grants) c.args.self.now
+    (ap (λ (list : List Registration). provider_of c.self.inside.settings list c.self.inside.grants) c.deref.ensures.value
+    ∙ ap (λ (p : SeenProvider). provider_of p.settings p.registrations p.grants) c.self.view_is)
+    _ _
     (ap (λ (q : Pairs). asked_by q c.args.claims.standard_claims.subject c.args.user_info.standard_claims.subject c.args.code c.args.token)
     (c.in-Ok.ensures ∙ ap pairs c.query_of-text.ensures))
-    _ c.authorized_query.ensures.reply)
+    _ c.authorized_query.ensures.reply
 
 pub returns-clause-kept : goal.returns-clause-kept
 returns-clause-kept g c =
-    rw (← c.self.view_is) (keeps _ _ _
+    keeps_by_parts (provider_of c.self.inside.settings c.deref.result.now c.self.inside.grants) c.args.self.now
+    (ap (λ (list : List Registration). provider_of c.self.inside.settings list c.self.inside.grants) c.deref.ensures.value
+    ∙ ap (λ (p : SeenProvider). provider_of p.settings p.registrations p.grants) c.self.view_is)
+    _ _
     (ap (λ (q : Pairs). asked_by q c.args.claims.standard_claims.subject c.args.user_info.standard_claims.subject c.args.code c.args.token)
     (c.in-Ok.ensures ∙ ap pairs c.query_of-text.ensures))
-    g.AC.AdditionalClaims.read_of g.GC.GenderClaim.read_of g.AC.AdditionalClaims.write_of g.GC.GenderClaim.write_of _ _ _ _ refl _ c.authorized_query.ensures.kept)
+    g.AC.AdditionalClaims.read_of g.GC.GenderClaim.read_of g.AC.AdditionalClaims.write_of g.GC.GenderClaim.write_of _ _ _ _
+    (ap (λ (p : SeenProvider). record p { grants = c.authorized_query.new.grants }) c.self.view_is) _ c.authorized_query.ensures.kept
 
 pub returns-clause-client : goal.returns-clause-client
 returns-clause-client g c = λ is. caused _ _ c.authorized_query.result (returns-clause-reply g c) Client is
