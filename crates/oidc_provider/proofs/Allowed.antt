@@ -1,20 +1,19 @@
 -- What an authorization rests on, by its table, and back.
-use Rattle.std.proofs.Common.{◌≡◌, ◌≢◌, ℕ, List, Bool, true, false, Option, None, Some, Result, Ok, Err, refl, sym, ap, subst, ◌∙◌}
-use Rattle.std.specs.Prelude.{not, codes, IfOk, IfErr, OnOk, OnErr, IsErrOf}
+use Rattle.std.proofs.Common.{◌≡◌, ◌≢◌, ℕ, List, Bool, true, false, Result, Ok, Err, refl, sym, subst, ◌∙◌}
+use Rattle.std.specs.Prelude.{not, codes}
 use Rattle.std.specs.Str.{bytes_eq}
 use Rattle.std.specs.Cmp.Lexicographic.{bytes_decides}
 use Rattle.std.proofs.lemmas.Bool.{false≢true}
 use Rattle.http_header.specs.FieldValue.{is_visible_text}
-use Rattle.oidc_oauth2.specs.Replies.{◌>>=◌, ◌>>◌, ◌when◌, ◌or◌}
+use Rattle.oidc_oauth2.specs.Replies.{◌>>=◌, ◌>>◌, ◌when◌}
 use Rattle.oidc_login.proofs.Walks.{Walk, at_or, at_when}
 use Rattle.oidc_provider.specs.Grants.{has_code, has_token}
 use Rattle.oidc_provider.specs.Provider.{SeenProvider}
 use Rattle.oidc_provider.specs.Values.{says}
 use Rattle.oidc_provider.specs.Rows.{provider_of}
-use Rattle.oidc_provider.specs.Authorization.{Asked, AskedLogin, Allowed, client_of, login_of, authorization, callback_query, authorization_reply, Replies}
+use Rattle.oidc_provider.specs.Authorization.{Asked, Allowed, client_of, login_of, authorization, callback_query, authorization_reply, Replies}
 use Rattle.oidc_provider.specs.AuthorizationCauses.{NamesClient, AsksLogin, IsAbout, IsNewCode, IsNewToken, IsAllowed, NamesNoClient, NamesAnotherRedirect, AsksForNoCode, IsAboutTwo, HasUsedCode, HasUsedToken, HasNoTokenText, Cause, HasCause}
 use Rattle.oidc_provider.proofs.LoginOf.{asks_for_code, login_found, lacks_one, no_login}
-use Rattle.oidc_provider.specs.declared.settings.Registration.{Registration}
 use Rattle.oidc_provider.specs.declared.errors.AuthorizeError.{AuthorizeError}
 use Rattle.oidc_provider.specs.declared.errors.AuthorizeError.TheVariants.{Client, Redirect, Request, Subject, CodeUsed, TokenUsed, TokenText, Memory}
 

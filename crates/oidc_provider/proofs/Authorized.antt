@@ -1,23 +1,21 @@
 -- What an authorization answers and keeps, client by client.
-use Rattle.std.proofs.Common.{◌≡◌, ℕ, List, Bool, true, false, Option, None, Some, Result, Ok, Err, refl, sym, ap, subst, ◌∙◌, String, string_bytes}
+use Rattle.std.proofs.Common.{◌≡◌, ℕ, List, Bool, true, false, None, Some, Result, Ok, Err, refl, sym, ap, subst, ◌∙◌, String, string_bytes}
 use Rattle.std.specs.Prelude.{not, codes, IfOk}
 use Rattle.std.specs.Str.{bytes_eq}
 use Rattle.serde_json.specs.Data.{Data}
 use Rattle.http_header.specs.FieldValue.{is_visible_text}
 use Rattle.oidc_members.specs.Seen.{SeenMember, OutSeen}
 use Rattle.oidc_members.specs.declared.refusal.Refusal.{Refusal}
-use Rattle.oidc_pairs.specs.Pairs.{pairs}
-use Rattle.oidc_oauth2.specs.Replies.{◌>>=◌, ◌>>◌, ◌when◌, ◌or◌}
+use Rattle.oidc_oauth2.specs.Replies.{◌>>=◌, ◌>>◌, ◌when◌}
 use Rattle.oidc_id_token_claims.specs.IdTokenClaims.{SeenIdTokenClaims}
 use Rattle.oidc_user_info.specs.UserInfoClaims.{SeenUserInfoClaims}
-use Rattle.oidc_provider.specs.Grants.{SeenGrant, SeenGrants, has_code, has_token, with_grant}
+use Rattle.oidc_provider.specs.Grants.{SeenGrants, has_code, has_token}
 use Rattle.oidc_provider.specs.Provider.{SeenProvider}
 use Rattle.oidc_provider.specs.Values.{says}
 use Rattle.oidc_provider.specs.Rows.{provider_of}
-use Rattle.oidc_provider.specs.Authorization.{Asked, AskedLogin, Allowed, client_of, login_of, authorization, callback_pairs, callback_query, authorization_reply, seen_query, Replies}
-use Rattle.oidc_provider.specs.Issuing.{IsGranted}
+use Rattle.oidc_provider.specs.Authorization.{Asked, AskedLogin, Allowed, client_of, authorization, callback_query, authorization_reply, seen_query, Replies}
 use Rattle.oidc_provider.specs.Keeping.{Keeps}
-use Rattle.oidc_provider.specs.Steps.{login_or_refusal, new_or_refusal, granted_login, client_reply, or_memory, allowed_to, KeepsGrant, KeepsGrants, KeepsOfClient}
+use Rattle.oidc_provider.specs.Steps.{login_or_refusal, granted_login, client_reply, or_memory, allowed_to, KeepsGrant, KeepsGrants, KeepsOfClient}
 use Rattle.oidc_provider.specs.declared.settings.ProviderSettings.{ProviderSettings}
 use Rattle.oidc_provider.specs.declared.settings.Registration.{Registration}
 use Rattle.oidc_provider.specs.declared.errors.AuthorizeError.{AuthorizeError}

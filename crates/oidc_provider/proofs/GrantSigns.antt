@@ -1,15 +1,12 @@
 -- A login over a provider that has a grant for its begin is honest, and signs in.
-use Rattle.std.proofs.Common.{◌≡◌, ◌⊎◌, inl, inr, ℕ, ℤ, List, [], ◌∷◌, Bool, true, false, ◌&&◌, Option, None, Some, Result, Ok, Err, refl, ap, sym, ◌∙◌, subst, ⊎_elim}
+use Rattle.std.proofs.Common.{◌≡◌, ◌⊎◌, inl, inr, ℕ, ℤ, List, [], ◌∷◌, Bool, ◌&&◌, Option, None, Some, Result, Ok, refl, ap, sym, ◌∙◌, subst, ⊎_elim}
 use Rattle.std.specs.Prelude.{is_some, option_map, IsUtf8}
 use Rattle.std.specs.Option.{ok_or}
 use Rattle.serde_json.specs.Data.{Data}
-use Rattle.url.specs.Parts.{serialize}
 use Rattle.http_header.specs.FieldValue.{is_visible_text}
 use Rattle.oidc_members.specs.Seen.{SeenMember, OutSeen}
-use Rattle.oidc_members.specs.Write.{object_text}
 use Rattle.oidc_readers.proofs.Theorems.{standing_free}
 use Rattle.oidc_members.specs.declared.refusal.Refusal.{Refusal}
-use Rattle.oidc_types.specs.{TextAndUrl}
 use Rattle.oidc_types.specs.declared.core_algorithms.CoreJwsSigningAlgorithm.{CoreJwsSigningAlgorithm}
 use Rattle.oidc_types.specs.declared.core_algorithms.CoreJwsSigningAlgorithm.TheVariants.{HmacSha256}
 use Rattle.oidc_types.specs.declared.core_algorithms.CoreJweContentEncryptionAlgorithm.{CoreJweContentEncryptionAlgorithm}
@@ -24,7 +21,6 @@ use Rattle.oidc_oauth2.specs.Replies.{◌>>◌, ◌when◌}
 use Rattle.oidc_oauth2.specs.TokenAnswers.{is_over_long, record_in}
 use Rattle.oidc_tokens.specs.Hashes.{hash_text}
 use Rattle.oidc_tokens.specs.Issuing.{Expects}
-use Rattle.oidc_user_info.specs.UserInfoClaims.{SeenUserInfoClaims, user_info_members}
 use Rattle.oidc_login.specs.Types.{SiteTypes}
 use Rattle.oidc_login.specs.Logins.{SeenLogin, SeenLogins}
 use Rattle.oidc_login.specs.Begin.{Begin}
@@ -36,7 +32,6 @@ use Rattle.oidc_login.specs.declared.types.UserInfoDemand.{UserInfoDemand}
 use Rattle.oidc_login.specs.declared.errors.LoginError.TheVariants as login_error
 use Rattle.oidc_login.specs.declared.errors.TooLong.TheVariants as place
 use Rattle.oidc_provider.specs.declared.settings.Registration.{Registration}
-use Rattle.oidc_provider.specs.declared.settings.ProviderSettings.{ProviderSettings}
 use Rattle.std.specs.FinMap as finite
 use Rattle.oidc_provider.specs.Settings.{registered}
 use Rattle.oidc_provider.specs.Grants.{SeenGrant, grant_of_code}

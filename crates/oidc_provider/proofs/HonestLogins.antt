@@ -1,23 +1,19 @@
 -- A login over a provider that behaves signs in with what was granted.
-use Rattle.std.proofs.Common.{◌≡◌, ℕ, List, [], ◌∷◌, drop, Bool, true, false, ◌&&◌, not, cond, Option, None, Some, Result, Ok, Err, refl, ap, sym, ◌∙◌, subst, ⊎_elim}
-use Rattle.std.specs.Prelude.{codes, is_some, option_map, option_and_then, IsUtf8}
+use Rattle.std.proofs.Common.{◌≡◌, ℕ, List, [], ◌∷◌, drop, Bool, true, false, ◌&&◌, cond, Option, None, Some, Ok, Err, refl, ap, sym, ◌∙◌, ⊎_elim}
+use Rattle.std.specs.Prelude.{codes, is_some, option_map, option_and_then}
 use Rattle.std.specs.Option.{ok_or}
 use Rattle.std.specs.FinMap as finite
 use Rattle.std.specs.Str.{bytes_eq}
 use Rattle.url.specs.Parts.{serialize}
-use Rattle.http_header.specs.FieldValue.{plain_value, is_visible_text}
-use Rattle.oidc_pairs.specs.Pairs.{pairs}
 use Rattle.oidc_types.specs.{TextAndUrl, signing_text}
-use Rattle.oidc_types.specs.declared.signing_error.SigningError.{SigningError}
 use Rattle.oidc_types.specs.declared.signing_error.SigningError.TheVariants.{UnsupportedAlg}
 use Rattle.oidc_oauth2.specs.Messages.{SeenRequest, SeenResponse, SeenAnswer}
-use Rattle.oidc_oauth2.specs.HttpUtils.{essence, bearer_of}
+use Rattle.oidc_oauth2.specs.HttpUtils.{essence}
 use Rattle.oidc_oauth2.specs.Transport.{first_answer}
-use Rattle.oidc_oauth2.specs.Requests.{SeenCodeRequest, is_address, code_pairs, post_of, code_request}
-use Rattle.oidc_oauth2.specs.TokenAnswers.{is_over_long, is_empty, may_be_json, record_in}
-use Rattle.oidc_oauth2.specs.AnswerCauses.{HoldsTokens}
+use Rattle.oidc_oauth2.specs.Requests.{code_request}
+use Rattle.oidc_oauth2.specs.TokenAnswers.{is_over_long, may_be_json}
 use Rattle.oidc_oauth2.specs.declared.client_auth.AuthType.{AuthType}
-use Rattle.oidc_oauth2.specs.Replies.{◌>>=◌, ◌>>◌, ◌when◌, ◌for◌, ◌or◌, ◌or_as◌}
+use Rattle.oidc_oauth2.specs.Replies.{◌>>◌, ◌when◌}
 use Rattle.oidc_tokens.proofs.Theorems.{none_fails}
 use Rattle.oidc_user_info.specs.UserInfoClaims.{SeenUserInfoClaims}
 use Rattle.oidc_user_info.specs.InfoAnswers.{info_answer, by_media_type, of_object, from_json}
@@ -27,24 +23,22 @@ use Rattle.oidc_client.specs.Client.{info_request_at}
 use Rattle.oidc_login.specs.Types.{SiteTypes}
 use Rattle.oidc_login.specs.Logins.{SeenLogin}
 use Rattle.oidc_login.specs.BeforeRequest.{token_request, request_to}
-use Rattle.oidc_login.specs.Token.{SeenIdToken, Tokens, error_read, tokens_read, tokens_or_refusal, subject_of, verifier_of, failure_for, is_sent, hash_under, claimed_hash, hash_beside, refusal_of_claim, claims_another, hash_refusal, has_another_hash}
+use Rattle.oidc_login.specs.Token.{SeenIdToken, Tokens, tokens_or_refusal, subject_of, verifier_of, failure_for, is_sent, claimed_hash, hash_beside, refusal_of_claim, claims_another}
 use Rattle.oidc_login.specs.UserInfo.{demanded, info_ask}
 use Rattle.oidc_login.specs.SignedIn.{SeenSignedIn, signed_by, with_user_info}
-use Rattle.oidc_login.specs.Callback.{Attempt, Meant, SeenTaken, SeenPreparedInfo, LoginRun, ByAnswers, taken_login, user_of_answer, prepared_info, user_with_info, demand_run, outcome, ◌passed_to◌, ◌answered_by◌, replied}
+use Rattle.oidc_login.specs.Callback.{Attempt, Meant, SeenTaken, SeenPreparedInfo, LoginRun, taken_login, user_of_answer, prepared_info, user_with_info, demand_run, outcome, ◌passed_to◌, ◌answered_by◌, replied}
 use Rattle.oidc_login.specs.declared.types.UserInfoDemand.{UserInfoDemand}
 use Rattle.oidc_login.specs.declared.errors.TooLong.TheVariants as place
 use Rattle.oidc_login.specs.declared.errors.LoginError.TheVariants as login_error
 use Rattle.oidc_login.proofs.TokenHash.{beside, own_claim}
 use Rattle.oidc_login.proofs.Answers.{tokens_back}
-use Rattle.oidc_provider.specs.declared.settings.Registration.{Registration}
-use Rattle.oidc_provider.specs.Settings.{registered}
-use Rattle.oidc_provider.specs.Grants.{SeenGrant, grant_of_code}
+use Rattle.oidc_provider.specs.Grants.{SeenGrant}
 use Rattle.oidc_provider.specs.Provider.{SeenProvider}
 use Rattle.oidc_provider.specs.Issuing.{tokens}
 use Rattle.oidc_provider.specs.Answers.{json, tokens_of, user_info_of, provider_answer, after, served}
-use Rattle.oidc_provider.specs.Honest.{AreFormTexts, NamesLogin, Knows, StandsUnredeemed, HoldsToken, HoldsInfo, IsHonest, user_by, honest_reply, HonestSignsIn}
+use Rattle.oidc_provider.specs.Honest.{HoldsInfo, IsHonest, user_by, honest_reply, HonestSignsIn}
 use Rattle.oidc_provider.proofs.Served as serves
-use Rattle.oidc_provider.proofs.Registered.{own_id, equal_texts}
+use Rattle.oidc_provider.proofs.Registered.{equal_texts}
 
 -- the media type of each response with a body
 json_type : (status : ℕ) (body : List ℕ) → may_be_json (json status body) ≡ true

@@ -1,5 +1,5 @@
 -- Claims that are issued hold the hash of their access token, and are else as they were.
-use Rattle.std.proofs.Common.{◌≡◌, ℕ, List, Option, None, Some, Result, Ok, Err, refl, sym, ap}
+use Rattle.std.proofs.Common.{◌≡◌, ℕ, List, Option, None, Some, Result, Ok, sym, ap}
 use Rattle.std.specs.Option.{ok_or}
 use Rattle.oidc_types.specs.{signing_text}
 use Rattle.oidc_types.specs.declared.signing_error.SigningError.{SigningError}

@@ -1,5 +1,5 @@
 -- A grant that is made of its parts.
-use Rattle.std.proofs.Common.{◌≡◌, ℕ, List, [], ◌∷◌, false, Some, Result, Ok, Err, subst, ap, ◌∙◌}
+use Rattle.std.proofs.Common.{◌≡◌, ℕ, List, [], ◌∷◌, false, Result, Ok, Err, subst, ap, ◌∙◌}
 use Rattle.std.specs.Prelude.{IfOk, IsUtf8}
 use Rattle.std.specs.String.{string_bytes}
 use Rattle.serde_json.specs.Data.{Data}
@@ -15,7 +15,7 @@ use Rattle.oidc_user_info.specs.UserInfoClaims.{SeenUserInfoClaims, user_info_me
 use Rattle.oidc_login.specs.Token.{SeenIdToken}
 use Rattle.oidc_provider.specs.Grants.{SeenGrant}
 use Rattle.oidc_provider.specs.Authorization.{AskedLogin}
-use Rattle.oidc_provider.specs.Issuing.{IsIssued, IsUsable, IsGranted, token_body, claims_for}
+use Rattle.oidc_provider.specs.Issuing.{IsIssued, IsUsable, IsGranted, token_body}
 use Rattle.oidc_provider.specs.Making.{IsIssuedBody, IsGrantOf, parts_of, claims_of}
 use Rattle.oidc_provider.specs.Steps.{allowed_to}
 use Rattle.oidc_provider.specs.declared.issuing.GrantSource.{GrantSource}

@@ -1,5 +1,5 @@
 -- What stands in a body that was written is read back from it.
-use Rattle.std.proofs.Common.{◌≡◌, ℕ, List, [], ◌∷◌, map, Option, None, Some, Result, Ok, Err, All, false, refl, ap, ◌∙◌, length, arith}
+use Rattle.std.proofs.Common.{◌≡◌, ℕ, List, [], ◌∷◌, map, Option, None, Some, Result, Ok, All, false, refl, ap, ◌∙◌, length, arith}
 use Rattle.std.proofs.lemmas.Bool.{ne_eqb}
 use Rattle.std.specs.Prelude.{codes, option_map, IsUtf8}
 use Rattle.std.proofs.lemmas.List.Elements.{All-cons, All-nil}
@@ -15,9 +15,9 @@ use Rattle.oidc_readers.specs.Fields.{judged}
 use Rattle.oidc_id_token_claims.proofs.Theorems.{text_stands}
 use Rattle.oidc_oauth2.specs.Replies.{◌>>=◌}
 use Rattle.oidc_oauth2.specs.TokenAnswers.{is_empty, record_in}
-use Rattle.oidc_oauth2.specs.TokenResponse.{tokens_among, written_tokens}
-use Rattle.oidc_oauth2.specs.Words.{token_type_of, token_type_text}
-use Rattle.oidc_tokens.specs.IdTokenFields.{response_fields_of, response_fields_out}
+use Rattle.oidc_oauth2.specs.TokenResponse.{tokens_among}
+use Rattle.oidc_oauth2.specs.Words.{token_type_of}
+use Rattle.oidc_tokens.specs.IdTokenFields.{response_fields_of}
 use Rattle.oidc_user_info.specs.UserInfoClaims.{SeenUserInfoClaims, user_info_claims_of}
 use Rattle.oidc_user_info.specs.InfoAnswers.{claims_in}
 use Rattle.oidc_user_info.specs.RoundTrip.{IsInfoInRange, GivesInfoClaims}

@@ -1,5 +1,5 @@
 -- What a provider answers to the two requests of a login.
-use Rattle.std.proofs.Common.{◌≡◌, ℕ, List, [], ◌∷◌, ◌++◌, drop, Bool, true, false, ◌&&◌, not, cond, Option, None, Some, All, refl, ap, sym, ◌∙◌, subst}
+use Rattle.std.proofs.Common.{◌≡◌, ℕ, List, [], ◌∷◌, Bool, true, false, ◌&&◌, not, cond, Option, None, Some, All, refl, ap, ◌∙◌}
 use Rattle.std.specs.Prelude.{codes, option_map, option_and_then, IsUtf8}
 use Rattle.std.specs.Bool.{then_some}
 use Rattle.std.specs.Option.{option_map_or}
@@ -11,8 +11,8 @@ use Rattle.std.proofs.lemmas.Cmp.{nat_list_cmp_total}
 use Rattle.std.proofs.lemmas.List.Elements.{All-cons, All-nil}
 use Rattle.std.proofs.lemmas.Map.Text.{is_eq-slice_cmp}
 use Rattle.url.specs.Parts.{serialize}
-use Rattle.http_header.specs.HeaderMap.{Entries, get}
-use Rattle.http_header.specs.FieldValue.{FieldValue, plain_value, is_visible_text}
+use Rattle.http_header.specs.HeaderMap.{get}
+use Rattle.http_header.specs.FieldValue.{plain_value, is_visible_text}
 use Rattle.oidc_pairs.specs.Pairs.{pairs, IsTextPair}
 use Rattle.oidc_pairs.specs.Form.{form}
 use Rattle.oidc_pairs.proofs.Theorems.{pairs-form}
@@ -20,20 +20,19 @@ use Rattle.oidc_members.specs.declared.reading.Reading.{Reading}
 use Rattle.oidc_members.specs.declared.reading.TheConstants.Reading.{STRICT}
 use Rattle.oidc_oauth2.specs.Messages.{SeenRequest}
 use Rattle.oidc_oauth2.specs.ClientAuth.{SeenClientAuth, basic_credentials, authorization_of}
-use Rattle.oidc_oauth2.specs.Requests.{SeenCodeRequest, request_headers, headers_with, code_pairs, post_of}
+use Rattle.oidc_oauth2.specs.Requests.{SeenCodeRequest, headers_with, code_pairs, post_of}
 use Rattle.oidc_oauth2.specs.HttpUtils.{bearer_of}
 use Rattle.oidc_oauth2.specs.Pkce.{s256}
 use Rattle.oidc_oauth2.specs.declared.client_auth.AuthType.{AuthType}
 use Rattle.oidc_oauth2.specs.declared.client_auth.AuthType.TheVariants.{BasicAuth, RequestBody}
 use Rattle.oidc_user_info.specs.InfoRequests.{get_with}
 use Rattle.oidc_user_info.specs.declared.requests.UserInfoResponseType.{UserInfoResponseType}
-use Rattle.oidc_user_info.specs.declared.requests.UserInfoResponseType.TheVariants.{Json, Jwt}
 use Rattle.oidc_provider.specs.declared.settings.Registration.{Registration}
 use Rattle.oidc_provider.specs.Settings.{registered}
-use Rattle.oidc_provider.specs.Grants.{SeenGrant, SeenGrants, grant_of_code, grant_of_token, redeemed_by, marked}
+use Rattle.oidc_provider.specs.Grants.{SeenGrant, grant_of_code, grant_of_token, redeemed_by, marked}
 use Rattle.oidc_provider.specs.Provider.{SeenProvider}
 use Rattle.oidc_provider.specs.Values.{Pairs, only, is_it, says}
-use Rattle.oidc_provider.specs.Answers.{Answer, credentials_in, authenticates_by, asks_for_tokens, asks_for_info, is_authenticated, is_of_client, proves, may_redeem, asked_grant, bearer_in, borne_grant, tokens_of, user_info_of, provider_answer, after}
+use Rattle.oidc_provider.specs.Answers.{credentials_in, authenticates_by, asks_for_tokens, asks_for_info, is_authenticated, is_of_client, proves, may_redeem, asked_grant, bearer_in, borne_grant, tokens_of, user_info_of, provider_answer, after}
 use Rattle.oidc_provider.proofs.Table.{by_rows, answer_by_rows, tokens_row, info_row}
 use Rattle.oidc_provider.proofs.AsciiNames.{ascii}
 use Rattle.oidc_provider.proofs.Registered.{any_of_found, own_id, same_text, equal_texts}

@@ -1,5 +1,5 @@
 -- What a call leaves of what a provider will answer.
-use Rattle.std.proofs.Common.{◌≡◌, List, [], ◌∷◌, Option, Some, sym, ap}
+use Rattle.std.proofs.Common.{◌≡◌, [], ◌∷◌, Some, sym, ap}
 use Rattle.oidc_oauth2.specs.Messages.{SeenRequest, SeenResponse}
 use Rattle.oidc_oauth2.specs.Transport.{Leaves}
 use Rattle.oidc_provider.specs.Provider.{SeenProvider}

@@ -1,5 +1,5 @@
 -- An ID token by HS256 is never refused, and its algorithm is read back.
-use Rattle.std.proofs.Common.{◌≡◌, ℕ, List, length, ap, arith, Option, None, Some, Result, Ok, Err, refl, subst, ⊎_elim}
+use Rattle.std.proofs.Common.{◌≡◌, ℕ, List, length, ap, arith, None, Some, Result, Err, refl, subst, ⊎_elim}
 use Rattle.oidc_members.specs.Seen.{OutSeen}
 use Rattle.oidc_types.specs.{signing_text}
 use Rattle.oidc_types.specs.declared.core_algorithms.CoreJwsSigningAlgorithm.TheVariants.{HmacSha256}

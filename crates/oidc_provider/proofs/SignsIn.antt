@@ -27,7 +27,7 @@ use Rattle.oidc_provider.specs.declared.settings.ProviderSettings.{ProviderSetti
 use Rattle.oidc_provider.specs.declared.errors.AuthorizeError.{AuthorizeError}
 use Rattle.oidc_provider.specs.declared.errors.AuthorizeError.TheVariants as refusal
 use Rattle.oidc_provider.specs.declared.errors.SignInError.{SignInError}
-use Rattle.oidc_provider.specs.declared.errors.SignInError.TheVariants.{Authorize, Login}
+use Rattle.oidc_provider.specs.declared.errors.SignInError.TheVariants.{Authorize}
 use Rattle.oidc_provider.specs.Settings.{registered}
 use Rattle.oidc_provider.specs.Provider.{SeenProvider}
 use Rattle.oidc_provider.specs.Values.{Pairs, only, is_it, says}

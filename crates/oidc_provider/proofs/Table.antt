@@ -1,10 +1,9 @@
 -- The table of answers, by what its rows look at.
-use Rattle.std.proofs.Common.{◌≡◌, ℕ, List, [], ◌∷◌, Bool, true, false, ◌&&◌, not, cond, Option, None, Some, Result, Ok, Err, refl, ap, sym, ◌∙◌, subst}
-use Rattle.std.specs.Prelude.{find, is_none, codes}
-use Rattle.std.specs.List.{list_any}
+use Rattle.std.proofs.Common.{◌≡◌, Bool, true, false, ◌&&◌, not, cond, Option, None, Some, Ok, refl, ap, ◌∙◌}
+use Rattle.std.specs.Prelude.{is_none, codes}
 use Rattle.oidc_pairs.specs.Pairs.{pairs}
 use Rattle.oidc_oauth2.specs.Messages.{SeenRequest}
-use Rattle.oidc_oauth2.specs.Replies.{◌>>=◌, ◌>>◌, ◌when◌, ◌for◌}
+use Rattle.oidc_oauth2.specs.Replies.{◌>>◌, ◌when◌, ◌for◌}
 use Rattle.oidc_provider.specs.Grants.{SeenGrant}
 use Rattle.oidc_provider.specs.Provider.{SeenProvider}
 use Rattle.oidc_provider.specs.Values.{says}

@@ -1,6 +1,6 @@
 -- What a provider double answers to a request, row by row, and what it is then (RFC 6749 sections 2.3.1, 4.1.3, 5.1 and 5.2,
 -- RFC 6750 sections 2.1 and 3.1, RFC 7636 section 4.6, OpenID Connect Core 1.0 section 5.3).
-use Rattle.std.specs.Prelude.{◌≡◌, ℕ, List, [], ◌∷◌, ◌++◌, drop, length, Bool, true, false, ◌&&◌, not, nat_eq, Option, None, Some, option_map, option_and_then, is_none, Result, Ok, Err, if◌then◌else◌, codes}
+use Rattle.std.specs.Prelude.{ℕ, List, [], ◌∷◌, ◌++◌, drop, Bool, false, ◌&&◌, not, nat_eq, Option, None, Some, option_map, option_and_then, is_none, Result, Ok, Err, if◌then◌else◌, codes}
 use Rattle.std.specs.Bool.{then_some}
 use Rattle.std.specs.List.{list_any, starts_with}
 use Rattle.std.specs.Option.{option_map_or}
@@ -13,10 +13,10 @@ use Rattle.oidc_oauth2.specs.Messages.{SeenRequest, SeenResponse, SeenAnswer}
 use Rattle.oidc_oauth2.specs.Transport.{Log}
 use Rattle.oidc_oauth2.specs.ClientAuth.{basic_credentials}
 use Rattle.oidc_oauth2.specs.Pkce.{s256}
-use Rattle.oidc_oauth2.specs.Replies.{◌>>=◌, ◌>>◌, ◌when◌, ◌for◌}
+use Rattle.oidc_oauth2.specs.Replies.{◌>>◌, ◌when◌, ◌for◌}
 use Rattle.oidc_provider.specs.Grants.{SeenGrant, grant_of_code, grant_of_token, redeemed_by}
 use Rattle.oidc_provider.specs.Provider.{SeenProvider}
-use Rattle.oidc_provider.specs.Values.{Pairs, only, is_it, says}
+use Rattle.oidc_provider.specs.Values.{Pairs, only, says}
 use Rattle.oidc_provider.specs.declared.settings.Registration.{Registration}
 
 -- ---- who asks

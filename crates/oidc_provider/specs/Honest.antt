@@ -1,11 +1,11 @@
 -- A login over a provider double, and what it comes to (OpenID Connect Core 1.0 section 3.1.3).
-use Rattle.std.specs.Prelude.{◌≡◌, ◌⊎◌, ℕ, List, [], ◌∷◌, Bool, true, false, ◌&&◌, Option, None, Some, is_some, Result, Ok, Err, codes, IsUtf8}
+use Rattle.std.specs.Prelude.{◌≡◌, ◌⊎◌, ℕ, List, [], ◌∷◌, true, false, ◌&&◌, Option, None, Some, is_some, Ok, codes, IsUtf8}
 use Rattle.std.specs.FinMap as finite
 use Rattle.url.specs.Parts.{serialize}
 use Rattle.http_header.specs.FieldValue.{is_visible_text}
 use Rattle.oidc_pairs.specs.Pairs.{pairs}
 use Rattle.oidc_types.specs.{TextAndUrl}
-use Rattle.oidc_oauth2.specs.Messages.{SeenRequest, SeenAnswer}
+use Rattle.oidc_oauth2.specs.Messages.{SeenAnswer}
 use Rattle.oidc_oauth2.specs.Pkce.{s256}
 use Rattle.oidc_oauth2.specs.Replies.{◌>>◌, ◌when◌}
 use Rattle.oidc_oauth2.specs.Requests.{is_address}

@@ -6,7 +6,7 @@ use Rattle.oidc_members.specs.Seen.{SeenMember, OutSeen}
 use Rattle.oidc_members.specs.Write.{any_float, object_text}
 use Rattle.oidc_members.specs.declared.reading.Reading.{Reading}
 use Rattle.oidc_members.specs.declared.refusal.Refusal.{Refusal}
-use Rattle.oidc_types.specs.{TextAndUrl, signing_text}
+use Rattle.oidc_types.specs.{signing_text}
 use Rattle.oidc_types.specs.declared.core_algorithms.CoreJwsSigningAlgorithm.TheVariants.{HmacSha256}
 use Rattle.oidc_types.specs.declared.signing_error.SigningError.{SigningError}
 use Rattle.oidc_keys.specs.CoreJwk.{SymmetricKey, hash_function, symmetric_signature}

@@ -1,5 +1,5 @@
 -- How a grant is made of its parts. No public clause cites this.
-use Rattle.std.specs.Prelude.{◌≡◌, ℕ, List, false, Some, Result, String, IsUtf8}
+use Rattle.std.specs.Prelude.{◌≡◌, ℕ, List, false, Some, Result, IsUtf8}
 use Rattle.std.specs.String.{string_bytes}
 use Rattle.serde_json.specs.Data.{Data}
 use Rattle.oidc_members.specs.Seen.{SeenMember, OutSeen}

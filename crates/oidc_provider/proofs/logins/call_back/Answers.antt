@@ -1,4 +1,3 @@
-use Rattle.std.proofs.Common.{subst, ap}
 use Rattle.oidc_provider.proofs.SignsIn.{called_back}
 use Rattle.oidc_provider.proofs.logins.call_back.Goals as goal
 

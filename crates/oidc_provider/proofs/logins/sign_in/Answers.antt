@@ -1,4 +1,4 @@
-use Rattle.std.proofs.Common.{refl, sym, ◌∙◌}
+use Rattle.std.proofs.Common.{sym, ◌∙◌}
 use Rattle.oidc_provider.proofs.SignsIn.{signed_in, composed, grants_it, not_refused, no_refusal, never_caused, caused_by, refused_with}
 use Rattle.oidc_provider.proofs.logins.sign_in.Goals as goal
 

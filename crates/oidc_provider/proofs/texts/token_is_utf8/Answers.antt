@@ -1,6 +1,5 @@
 use Rattle.std.proofs.Common.{subst, ap, ◌∙◌}
 use Rattle.std.specs.Prelude.{IsUtf8}
-use Rattle.oidc_login.specs.Token.{SeenIdToken}
 use Rattle.oidc_provider.proofs.texts.token_is_utf8.Goals as goal
 
 pub returns : goal.returns
