@@ -1,3 +1,4 @@
+pub mod Theorems
 mod AsciiNames
 mod Entries
 mod Bearers

@@ -2,8 +2,9 @@
 //! test's own, one in memory), begins with requests of other clients and flows, very many logins that pend at once;
 //! and very many sessions, with logouts among them.
 //!
-//! The transport is the crate's only item outside of its tests, since its trait has laws: its contract is that of the
-//! trait. No crate stands on this one.
+//! Outside of its tests the crate has a transport, since its trait has laws (its contract is that of the trait), and a
+//! caller of the provider double, `provider_double::first_login`, which is proved to meet all that the theorem on logins
+//! over it rests on. No crate stands on this one.
 #![tactic(auto)]
 
 #[cfg(test)]
@@ -12,4 +13,5 @@ mod login;
 mod many_logins;
 #[cfg(test)]
 mod many_sessions;
+pub mod provider_double;
 pub mod transports;
