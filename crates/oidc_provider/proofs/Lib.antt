@@ -1,4 +1,3 @@
-pub mod Theorems
 mod AsciiNames
 mod Entries
 mod Bearers

@@ -40,7 +40,7 @@ use Rattle.oidc_provider.specs.Provider.{SeenProvider}
 use Rattle.oidc_provider.specs.Issuing.{core_types, claims_for}
 use Rattle.oidc_provider.specs.SignIn.{ToIssue, allowed_for, login_of_begin, IsProviderOf, MayBeDemanded, IsHonestLogin, SignsIn}
 use Rattle.oidc_provider.specs.TwoCalls.{OfCallback}
-use Rattle.oidc_provider.proofs.Theorems.{signed_subject}
+use Rattle.tests_of_logins.proofs.SignedSubject.{signed_subject}
 use Rattle.tests_of_logins.specs.declared.provider_double.Parties.{Parties as Both}
 use Rattle.tests_of_logins.specs.Parties.{client_for, own_info, IsOwnDouble, MayBeAsked, IsPlain, IsBegunBy, IsUnsigned}
 

@@ -1,1 +1,2 @@
+mod SignedSubject
 mod FirstLogin
