@@ -1,10 +1,8 @@
 //! A proved caller of `oidc_provider::sign_in`: a site's test that meets all that its theorem rests on at once. It makes a
 //! client, a double of that client's provider, a begin and the sign-in, and looks at what can't be known beforehand.
 
-ghost use Rattle.std.specs.Prelude.{◌≡◌, true, None, Some, Ok, IfOk, IfSome};
+ghost use Rattle.std.specs.Prelude.{◌≡◌, true, Option, None, Some, Ok, IfOk};
 ghost use Rattle.url.specs.Parser.{parse_url};
-ghost use Rattle.oidc_claims.specs.Seen.{only_subject};
-ghost use Rattle.oidc_claims.specs.Write.{IsWholeSecond};
 ghost use Rattle.oidc_login.specs.Token.{subject_of};
 ghost use Rattle.tests_of_logins.specs.Parties.{client_for, metadata_for, own_info, IsOwnDouble, MayBeAsked, IsPlain, IsBegunBy, IsUnsigned};
 ghost use Rattle.tests_of_logins.specs.declared.provider_double.Parties.{Parties as Both};
