@@ -2,7 +2,8 @@
 """Has the second readers answer the cases of the programs of cases, and compares their answers with the expected lines.
 
     tools/compare_cases.py           the tables of all six: `stdin` and `stdout` of crates/vectors, crates/vectors_keys,
-                                     crates/vectors_discovery, crates/vectors_requests, crates/vectors_tokens and crates/vectors_logins
+                                     crates/vectors_requests, crates/vectors_tokens, crates/vectors_logins and
+                                     crates/vectors_provider
     tools/compare_cases.py NAME ..   the tables of these crates
 
 It writes how many cases of each operation were compared, and each line that a reader answers otherwise, and ends with
@@ -21,10 +22,11 @@ sys.dont_write_bytecode = True
 import plain_answers
 import plain_callback
 import plain_claims
-import plain_discovery
+import plain_devices
 import plain_front
 import plain_info
 import plain_keys
+import plain_provider
 import plain_requests
 import plain_rsa
 import plain_sessions
@@ -44,10 +46,11 @@ def standard(line):
 READERS = {
     "vectors": {"standard": standard, **plain_answers.OPERATIONS, **plain_keys.OPERATIONS},
     "vectors_keys": plain_rsa.OPERATIONS,
-    "vectors_discovery": plain_discovery.OPERATIONS,
     "vectors_requests": plain_requests.OPERATIONS,
     "vectors_tokens": {**plain_tokens.OPERATIONS, **plain_info.OPERATIONS, **plain_urls.OPERATIONS},
-    "vectors_logins": {**plain_callback.OPERATIONS, **plain_front.OPERATIONS, **plain_sessions.OPERATIONS},
+    "vectors_logins": {**plain_callback.OPERATIONS, **plain_front.OPERATIONS, **plain_sessions.OPERATIONS,
+                       **plain_devices.OPERATIONS},
+    "vectors_provider": plain_provider.OPERATIONS,
 }
 
 # Pieces of cases with a URL that the URL Standard writes otherwise, or refuses (sections 3.5, 4.4 and 4.5). The readers
@@ -70,7 +73,6 @@ ASIDE = {
         "endpoint=https://example/é&",
     ],
     "vectors_keys": [],
-    "vectors_discovery": [],
     "vectors_tokens": [
         '"iss":"https://",',
         '"iss":"https://a+b/",',
@@ -80,6 +82,7 @@ ASIDE = {
         "op=logout&endpoint=HTTPS://EXAMPLE:443/end&",
     ],
     "vectors_logins": [],
+    "vectors_provider": [],
 }
 
 
@@ -88,12 +91,12 @@ GENERATED = {
     "vectors": [lambda: ["op=standard&text=" + text for text in plain_claims.texts()],
                 plain_claims.readings],
     "vectors_keys": [],
-    "vectors_discovery": [lambda: list(plain_discovery.cases())],
     "vectors_requests": [],
     "vectors_tokens": [plain_tokens.cases, plain_info.cases, plain_urls.cases,
                        lambda: list(plain_tokens.readings()), lambda: list(plain_info.readings())],
     "vectors_logins": [plain_callback.short_cases, plain_callback.long_cases, plain_front.cases,
-                       plain_sessions.session_cases, plain_sessions.apart_cases],
+                       plain_sessions.session_cases, plain_sessions.apart_cases, plain_devices.cases],
+    "vectors_provider": [],
 }
 
 

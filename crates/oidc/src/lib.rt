@@ -9,13 +9,15 @@
 //!   provider to the claims that sign the user in, [`login::LoginSecrets`], drawn from a generator, and
 //!   [`login::front_channel`], which judges the answer of an implicit or a hybrid flow; and [`login::Sessions`], the
 //!   sessions that a site keeps after logins, which a logout token of the provider ends.
+//! - [`device`] has the login of a device: a command-line tool or a television, whose user signs in elsewhere.
 //!
 //! What each item promises stands in the page of its crate. The words of `oidc_login` and of `oidc_session` that their
-//! contracts cite are passed on by `specs/Lib.antt`; a contract that speaks of the crates below logins lists the crate
-//! that it speaks of.
+//! contracts cite are passed on by `specs/Lib.antt`; a contract that speaks of device logins or of the crates below
+//! logins lists the crate that it speaks of.
 #![tactic(auto)]
 
 pub mod core_types;
+pub mod device;
 pub mod login;
 
 // Texts, URLs and vocabularies.

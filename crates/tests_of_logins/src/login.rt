@@ -33,7 +33,8 @@ fn text(rt: &impl Abort, alloc: Global, text: &str) -> String {
     String::from_str(alloc, text).expect(rt, "memory")
 }
 
-fn url<M: Marker>(rt: &impl Abort, alloc: Global, address: &str) -> UrlText<M> {
+/// A URL of this text.
+pub(crate) fn url<M: Marker>(rt: &impl Abort, alloc: Global, address: &str) -> UrlText<M> {
     UrlText::new(alloc, text(rt, alloc, address)).expect(rt, "a URL")
 }
 

@@ -1,4 +1,4 @@
-//! A transport of the test's own, what it answers, and why it may not answer.
+//! Transports of the test's own, what they answer, and why they may not answer.
 
 use oidc_oauth2::{Body, CallError, HttpRequest, HttpResponse, SyncHttpClient};
 use std::alloc::{AllocError, Global};
@@ -77,6 +77,70 @@ impl SyncHttpClient for Fleeting {
                 self.requests = 1;
                 Ok(response)
             }
+            Err(AllocError) => Err(CallError::Memory),
+        }
+    }
+}
+
+// The codes of a device, which are good for half an hour, and no interval: it is five seconds then.
+const CODES: &str =
+    "{\"device_code\":\"d1\",\"user_code\":\"U1\",\"verification_uri\":\"https://example/go\",\"expires_in\":1800}";
+
+fn codes(alloc: Global) -> Result<HttpResponse, AllocError> {
+    let body = String::from_str(alloc, CODES)?;
+    Ok(http::Response::new(alloc, Body::new(body.into_bytes())))
+}
+
+/// A transport that answers its first request by the codes of a device, has no memory at its second, is down at its third,
+/// and answers each later one by tokens. It counts its requests, and keeps no log.
+#[derive(Drop)]
+pub struct Faltering {
+    requests: u64,
+    faults: u64,
+}
+
+impl Faltering {
+    /// A transport to which nothing was handed over.
+    pub(crate) fn new() -> Self {
+        Faltering {
+            requests: 0,
+            faults: 0,
+        }
+    }
+
+    /// How many requests were handed over, and how many of them failed.
+    pub(crate) fn counts(&self) -> (u64, u64) {
+        (self.requests, self.faults)
+    }
+}
+
+impl SyncHttpClient for Faltering {
+    ghost use Rattle.std.specs.Prelude.{Option};
+
+    type Error = Down;
+
+    ghost log = { λ _. Option.None };
+
+    ghost faults = { λ transport. transport.faults };
+
+    fn call(
+        &mut self,
+        alloc: Global,
+        request: HttpRequest,
+    ) -> Result<HttpResponse, CallError<Down>> {
+        let earlier = self.requests;
+        self.requests = self.requests.saturating_add(1);
+        let answer = match earlier {
+            0 => codes(alloc),
+            1 => Err(AllocError),
+            2 => {
+                self.faults = self.faults.saturating_add(1);
+                return Err(CallError::Transport(Down(earlier)));
+            }
+            _ => echo(alloc, &request),
+        };
+        match answer {
+            Ok(response) => Ok(response),
             Err(AllocError) => Err(CallError::Memory),
         }
     }

@@ -2,18 +2,19 @@
 use Rattle.std.specs.Prelude.{ℕ, List, [], ◌∷◌, Option, codes, find}
 use Rattle.std.specs.Str.{bytes_eq}
 use Rattle.vectors_logins.specs.declared.operations.Operation.{Operation}
-use Rattle.vectors_logins.specs.declared.operations.Operation.TheVariants.{Run, Front, Sessions, Display}
+use Rattle.vectors_logins.specs.declared.operations.Operation.TheVariants.{Run, Front, Sessions, DeviceLogin, Display}
 
 -- the name of an operation, the value of `op`
 abbrev pub operation_name : Operation → List ℕ
 operation_name Run = codes "run"
 operation_name Front = codes "front"
 operation_name Sessions = codes "sessions"
+operation_name DeviceLogin = codes "device_login"
 operation_name Display = codes "display"
 
 -- all operations
 abbrev pub operations : List Operation
-operations = Run ∷ Front ∷ Sessions ∷ Display ∷ []
+operations = Run ∷ Front ∷ Sessions ∷ DeviceLogin ∷ Display ∷ []
 
 -- the operation of that name
 abbrev pub operation_of : List ℕ → Option Operation

@@ -2,6 +2,7 @@
 
 use case_lines::{Case, CaseError, one_of};
 use oidc_cli::Failed;
+use oidc_device::{DeviceError, StartError};
 use oidc_keys::SignatureVerificationError;
 use oidc_login::{BeginError, FrontError, LoginError, NewLoginsError, TooLong};
 use oidc_members::{FieldName, ParseKind, Refusal};
@@ -35,18 +36,20 @@ const OPENS: [OpenError; 3] = [OpenError::Ended, OpenError::Taken, OpenError::Me
 const CALLS: [Failed; 1] = [Failed];
 
 /// `display`: what the value of a variant prints. A variant that holds something holds what stands in
-/// the lists above, or in the function below.
+/// the lists above, or in the functions below.
 pub(crate) fn display(alloc: Global, case: &Case) -> Result<String, CaseError> {
     case.check(&["type", "variant"])?;
     let variant = case.value("variant");
     match case.value("type") {
         "BeginError" => one_of(alloc, &BEGINS, variant),
+        "DeviceError" => device_error(alloc, variant),
         "Failed" => one_of(alloc, &CALLS, variant),
         "FrontError" => front_error(alloc, variant),
         "LoginError" => login_error(alloc, variant),
         "LogoutError" => logout_error(alloc, variant),
         "NewLoginsError" => one_of(alloc, &STORES, variant),
         "OpenError" => one_of(alloc, &OPENS, variant),
+        "StartError" => start_error(alloc, variant),
         "TooLong" => one_of(alloc, &PLACES, variant),
         _ => Err(CaseError::NoCase),
     }
@@ -101,6 +104,29 @@ fn logout_error(alloc: Global, variant: &str) -> Result<String, CaseError> {
         LogoutError::Nonce,
         LogoutError::Replayed,
         LogoutError::Memory,
+    ];
+    one_of(alloc, &all, variant)
+}
+
+fn start_error(alloc: Global, variant: &str) -> Result<String, CaseError> {
+    let all: [StartError<Fault>; 2] = [
+        StartError::Device(RequestTokenError::Request(Fault)),
+        StartError::Memory,
+    ];
+    one_of(alloc, &all, variant)
+}
+
+fn device_error(alloc: Global, variant: &str) -> Result<String, CaseError> {
+    let none = FieldName::new(String::from_str(alloc, "EdDSA")?);
+    let all: [DeviceError<Fault>; 8] = [
+        DeviceError::Over,
+        DeviceError::Expired,
+        DeviceError::Token(RequestTokenError::Request(Fault)),
+        DeviceError::NoIdToken,
+        DeviceError::Claims(ClaimsVerificationError::Expired),
+        DeviceError::Signing(SigningError::UnsupportedAlg(none)),
+        DeviceError::TokenHash,
+        DeviceError::Memory,
     ];
     one_of(alloc, &all, variant)
 }

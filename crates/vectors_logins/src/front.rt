@@ -121,8 +121,8 @@ fn refusal_line(alloc: Global, error: FrontError) -> Result<String, CaseError> {
     }
 }
 
-// What the report says of a callback that is refused so, behind the first two words.
-fn report_line(alloc: Global, refusal: LoginError<Fault>) -> Result<String, CaseError> {
+/// What the report says of a callback that is refused so, behind the first two words.
+pub(crate) fn report_line(alloc: Global, refusal: LoginError<Fault>) -> Result<String, CaseError> {
     let refused: Result<User, LoginError<Fault>> = Err(refusal);
     let line = verdict_line(alloc, &refused)?;
     match line.as_str().strip_prefix("callback refused ") {

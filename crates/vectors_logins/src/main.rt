@@ -3,6 +3,7 @@
 //! The page of `case_lines` has the rules of lines, README.md the operations.
 #![tactic(auto)]
 
+mod devices;
 mod displays;
 mod front;
 mod operations;

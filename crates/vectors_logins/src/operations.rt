@@ -3,7 +3,7 @@
 ghost use Rattle.std.specs.Prelude.{◌≡◌};
 ghost use Rattle.vectors_logins.specs.Operations as spec;
 
-use crate::{displays, front, scripts, sessions};
+use crate::{devices, displays, front, scripts, sessions};
 use case_lines::{Case, CaseError, CaseOperation};
 use std::alloc::Global;
 
@@ -13,15 +13,17 @@ pub(crate) enum Operation {
     Run,
     Front,
     Sessions,
+    DeviceLogin,
     Display,
 }
 
 impl Operation {
     /// Every operation.
-    const ALL: [Operation; 4] = [
+    const ALL: [Operation; 5] = [
         Operation::Run,
         Operation::Front,
         Operation::Sessions,
+        Operation::DeviceLogin,
         Operation::Display,
     ];
 
@@ -33,6 +35,7 @@ impl Operation {
             Operation::Run => "run",
             Operation::Front => "front",
             Operation::Sessions => "sessions",
+            Operation::DeviceLogin => "device_login",
             Operation::Display => "display",
         }
     }
@@ -60,6 +63,7 @@ impl CaseOperation for Operation {
             Operation::Run => scripts::run(alloc, case),
             Operation::Front => front::front(alloc, case),
             Operation::Sessions => sessions::sessions(alloc, case),
+            Operation::DeviceLogin => devices::device_login(alloc, case),
             Operation::Display => displays::display(alloc, case),
         }
     }

@@ -1,0 +1,12 @@
+mod Walks
+mod Verdicts
+mod TokenHash
+mod Signing
+mod Moments
+mod Mapped
+mod Users
+mod Polls
+mod Idle
+mod Starts
+mod Polite
+mod Called

@@ -1,3 +1,0 @@
-pub mod ReadAs
-pub mod Sets
-pub mod Written
