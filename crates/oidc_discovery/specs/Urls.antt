@@ -1,0 +1,35 @@
+-- Which URLs of a provider are taken (OpenID Connect Discovery 1.0 sections 2, 3 and 7.1).
+use Rattle.std.specs.Prelude.{ℕ, ◌==◌, List, Bool, true, false, not, ◌||◌, is_some, codes, Option, None, Some}
+use Rattle.std.specs.List.{list_any}
+use Rattle.std.specs.Option.{option_or}
+use Rattle.std.specs.Str.{bytes_eq}
+use Rattle.url.specs.Input.{is_empty}
+use Rattle.url.specs.Parts.{Parts}
+use Rattle.oidc_types.specs.{TextAndUrl}
+use Rattle.oidc_discovery.specs.declared.urls.UrlFault.{UrlFault}
+use Rattle.oidc_discovery.specs.declared.urls.UrlFault.TheVariants.{Scheme, Credentials, Fragment, Backslash, Query}
+
+abbrev pub fault_if : Bool → UrlFault → Option UrlFault → Option UrlFault
+fault_if true fault later = Some fault
+fault_if false fault later = later
+
+-- it has a user or a password
+abbrev pub has_credentials : Parts → Bool
+has_credentials url = not (is_empty url.username) || not (is_empty url.password)
+
+-- the text has a backslash, which other readers of URLs than the URL Standard's take otherwise
+abbrev pub has_backslash : List ℕ → Bool
+has_backslash text = list_any (λ byte. byte == 0x5C) text
+
+-- why a URL isn't taken, the first of these that holds
+unfoldable pub url_fault : TextAndUrl → Option UrlFault
+url_fault u =
+    fault_if (not (bytes_eq u.url.scheme (codes "https"))) Scheme
+    (fault_if (has_credentials u.url) Credentials
+    (fault_if (is_some u.url.fragment) Fragment
+    (fault_if (has_backslash u.text) Backslash
+    None)))
+
+-- an issuer has no query either (section 2)
+unfoldable pub issuer_fault : TextAndUrl → Option UrlFault
+issuer_fault u = option_or (url_fault u) (fault_if (is_some u.url.query) Query None)

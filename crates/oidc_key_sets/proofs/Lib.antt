@@ -1,0 +1,3 @@
+pub mod ReadAs
+pub mod Sets
+pub mod Written
