@@ -1,10 +1,9 @@
 -- Which URLs of a provider are taken (OpenID Connect Discovery 1.0 sections 2, 3 and 7.1).
-use Rattle.std.specs.Prelude.{ℕ, ◌==◌, List, Bool, true, false, not, ◌||◌, is_some, codes, Option, None, Some}
+use Rattle.std.specs.Prelude.{ℕ, ◌==◌, List, Bool, true, false, not, is_some, codes, Option, None, Some}
 use Rattle.std.specs.List.{list_any}
 use Rattle.std.specs.Option.{option_or}
 use Rattle.std.specs.Str.{bytes_eq}
-use Rattle.url.specs.Input.{is_empty}
-use Rattle.url.specs.Parts.{Parts}
+use Rattle.url.specs.Parts.{has_credentials}
 use Rattle.oidc_types.specs.{TextAndUrl}
 use Rattle.oidc_discovery.specs.declared.urls.UrlFault.{UrlFault}
 use Rattle.oidc_discovery.specs.declared.urls.UrlFault.TheVariants.{Scheme, Credentials, Fragment, Backslash, Query}
@@ -12,10 +11,6 @@ use Rattle.oidc_discovery.specs.declared.urls.UrlFault.TheVariants.{Scheme, Cred
 abbrev pub fault_if : Bool → UrlFault → Option UrlFault → Option UrlFault
 fault_if true fault later = Some fault
 fault_if false fault later = later
-
--- it has a user or a password
-abbrev pub has_credentials : Parts → Bool
-has_credentials url = not (is_empty url.username) || not (is_empty url.password)
 
 -- the text has a backslash, which other readers of URLs than the URL Standard's take otherwise
 abbrev pub has_backslash : List ℕ → Bool

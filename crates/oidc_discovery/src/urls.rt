@@ -2,6 +2,7 @@
 
 ghost use Rattle.std.specs.Prelude.{◌≡◌};
 ghost use Rattle.std.specs.Option.{option_copied};
+ghost use Rattle.url.specs.Parts.{has_credentials};
 ghost use Rattle.oidc_discovery.specs.Urls as spec;
 ghost use Rattle.oidc_discovery.specs.Documents.{fault_if_there as absent_or_fault};
 
@@ -29,8 +30,8 @@ pub enum UrlFault {
     Query,
 }
 
-fn has_credentials(url: &Url) -> bool
-    ensures { result ≡ spec.has_credentials url.now }
+fn has_user_or_password(url: &Url) -> bool
+    ensures { result ≡ has_credentials url.now }
 {
     !url.username().is_empty() || url.password().is_some()
 }
@@ -48,7 +49,7 @@ pub(crate) fn url_fault<M: Marker>(url: &UrlText<M>) -> Option<UrlFault>
 {
     if url.url().scheme() != "https" {
         Some(UrlFault::Scheme)
-    } else if has_credentials(url.url()) {
+    } else if has_user_or_password(url.url()) {
         Some(UrlFault::Credentials)
     } else if url.url().fragment().is_some() {
         Some(UrlFault::Fragment)
