@@ -1,2 +1,3 @@
 pub mod Addresses
+mod Needed
 mod PinnedAlone
