@@ -6,6 +6,7 @@ pub use Rattle.oidc_login.specs.Exchanges
 pub use Rattle.oidc_login.specs.Types
 pub use Rattle.oidc_login.specs.Logins
 pub use Rattle.oidc_login.specs.Begin
+pub use Rattle.oidc_login.specs.Changes
 pub use Rattle.oidc_login.specs.BeforeRequest
 pub use Rattle.oidc_login.specs.Token
 pub use Rattle.oidc_login.specs.UserInfo

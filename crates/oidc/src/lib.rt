@@ -9,6 +9,7 @@
 //!   provider to the claims that sign the user in, [`login::LoginSecrets`], drawn from a generator, and
 //!   [`login::front_channel`], which judges the answer of an implicit or a hybrid flow; and [`login::Sessions`], the
 //!   sessions that a site keeps after logins, which a logout token of the provider ends.
+//! - [`discovery`] has what a provider says of itself, from its issuer's text on, and the keys that it publishes.
 //! - [`device`] has the login of a device: a command-line tool or a television, whose user signs in elsewhere.
 //!
 //! What each item promises stands in the page of its crate. The words of `oidc_login` and of `oidc_session` that their
@@ -18,6 +19,7 @@
 
 pub mod core_types;
 pub mod device;
+pub mod discovery;
 pub mod login;
 
 // Texts, URLs and vocabularies.

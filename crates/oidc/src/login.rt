@@ -7,8 +7,9 @@ ghost use Rattle.oidc.specs.LoginSecrets.{StandsWithin};
 
 use crate::{CsrfToken, Nonce, PkceCodeChallenge, PkceCodeVerifier};
 pub use oidc_login::{
-    BeginError, FrontAnswer, FrontError, LoginClient, LoginError, LoginIdToken, LoginRequest,
-    Logins, MetadataClient, NewLoginsError, SignedIn, TooLong, UserInfoDemand, front_channel,
+    BeginError, ChangeError, FrontAnswer, FrontError, LoginClient, LoginError, LoginIdToken,
+    LoginRequest, Logins, MetadataClient, NewLoginsError, SignedIn, TooLong, UserInfoDemand,
+    front_channel,
 };
 pub use oidc_session::{
     LogoutError, LogoutVerifier, OpenError, ProviderSession, Session, SessionId, Sessions,
