@@ -140,3 +140,7 @@ module _ {Key : Type 0} (old new : SeenLoginClient Key) where
   differs change.AuthorizationEndpoint h = other_texts _ _ (failed change.AuthorizationEndpoint h)
   differs change.TokenEndpoint h = other_texts _ _ (failed change.TokenEndpoint h)
   differs change.UserInfoEndpoint h = other_texts _ _ (failed change.UserInfoEndpoint h)
+
+  -- a client that is refused isn't the same
+  pub refused_is_other : (x : ChangeError) → difference_of old new ≡ Err x → IsSameClient old new → (A : Type 0) → A
+  refused_is_other x h s A = let passes : difference_of old new ≡ Ok tt = no_difference s in let clash : Ok tt ≡ Err x = sym passes ∙ h in cc
