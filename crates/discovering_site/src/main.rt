@@ -33,7 +33,7 @@ use rand_pcg::Pcg32;
 use std::alloc::{AllocError, Global};
 use url::Url;
 
-// What the site is told of its provider: the issuer, as the provider's page has it, and the algorithm by which its ID
+// What the site knows of its provider: the issuer, as the provider's page has it, and the algorithm by which its ID
 // tokens are signed. No document changes either.
 const ISSUER: &str = "https://example";
 
