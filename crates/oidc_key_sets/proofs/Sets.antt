@@ -1,16 +1,16 @@
 -- Reading the keys of a set one after another.
-use Rattle.std.proofs.Common.{◌≡◌, ℕ, suc, ◌+◌, ◌<◌, ◌≤◌, nat_lt, Bool, true, false, List, [], ◌∷◌, ◌++◌, length, Option, Some, None, Result, Ok, Err, refl, sym, ap, ◌∙◌, append_assoc, add-one, arith}
+use Rattle.std.proofs.Common.{◌≡◌, ℕ, ◌+◌, ◌<◌, ◌≤◌, nat_lt, true, false, List, [], ◌∷◌, ◌++◌, length, Option, Some, None, Result, Ok, Err, refl, sym, ap, ◌∙◌, append_assoc, add-one, arith}
 use Rattle.std.proofs.lemmas.Bool.Decides.{nat_tests}
 use Rattle.std.proofs.lemmas.List.{append-nil}
-use Rattle.json.specs.Json.{Json, Items, no_items, item}
-use Rattle.json.specs.Value.{items_view, value_view}
+use Rattle.json.specs.Json.{Json, Items, item}
+use Rattle.json.specs.Value.{items_view}
 use Rattle.json.specs.declared.value.Value.{Value}
 use Rattle.oidc_readers.specs.Records.{◌>>=◌}
 use Rattle.oidc_key_sets.specs.declared.errors.KeyError.{KeyError}
 use Rattle.oidc_key_sets.specs.declared.errors.KeySetError.{KeySetError}
 use Rattle.oidc_key_sets.specs.declared.errors.KeySetError.TheVariants.{Key, TooMany}
 use Rattle.oidc_key_sets.specs.Keys.{SeenRsaKey, key_in}
-use Rattle.oidc_key_sets.specs.KeySets.{with_key, placed, keys_from, keys_among, count_of}
+use Rattle.oidc_key_sets.specs.KeySets.{with_key, keys_from, keys_among, count_of}
 
 abbrev Read : Type 0
 Read = Result (List SeenRsaKey) KeySetError

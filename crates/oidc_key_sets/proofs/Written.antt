@@ -1,6 +1,6 @@
 -- A set that is written is read as the same.
-use Rattle.std.proofs.Common.{◌≡◌, ◌≢◌, ℕ, ◌+◌, ◌≤◌, suc, Bool, true, false, List, [], ◌∷◌, ◌++◌, length, map, All, Option, Some, None, Result, Ok, Err, refl, sym, ap, ◌∙◌, option_map, option_and_then, codes}
-use Rattle.std.proofs.Common.{nat_lt, add-one, arith, not, ◌&&◌, slice_index_or, if◌then◌else◌}
+use Rattle.std.proofs.Common.{◌≡◌, ◌≢◌, ℕ, ◌+◌, ◌≤◌, Bool, true, false, List, [], ◌∷◌, ◌++◌, length, map, All, Option, Some, None, Ok, refl, ap, ◌∙◌, option_map, codes}
+use Rattle.std.proofs.Common.{nat_lt, add-one, arith, not, ◌&&◌, slice_index_or}
 use Rattle.std.specs.List.{list_all}
 use Rattle.std.specs.Str.{bytes_eq}
 use Rattle.std.proofs.lemmas.Bool.Decides.{nat_tests}
@@ -8,15 +8,13 @@ use Rattle.std.proofs.lemmas.List.Elements.{All-head, All-tail}
 use Rattle.std.proofs.lemmas.List.Kept.{AllPairs-cons}
 use Rattle.std.proofs.lemmas.List.Sums.{AllPass-from_list_all}
 use Rattle.std.proofs.lemmas.Slice.Eq.{bytes_eq-Decides}
-use Rattle.json.specs.Json.{Json, Items, no_items, item, string, array, object, max_depth}
+use Rattle.json.specs.Json.{Json, string, max_depth}
 use Rattle.json.specs.Strict.{keys, AreDistinct, HasUniqueKeys, ItemsHaveUniqueKeys, MembersHaveUniqueKeys}
 use Rattle.json.specs.Tree as tree
 use Rattle.json.specs.Value.{items_of}
 use Rattle.oidc_key_sets.specs.declared.errors.KeyMember.{KeyMember}
 use Rattle.oidc_key_sets.specs.declared.errors.KeyMember.TheVariants as named
-use Rattle.oidc_key_sets.specs.declared.errors.KeyError.{KeyError}
-use Rattle.oidc_key_sets.specs.declared.errors.KeySetError.{KeySetError}
-use Rattle.oidc_key_sets.specs.Numbers.{octets_of, encoded, IsNumber}
+use Rattle.oidc_key_sets.specs.Numbers.{octets_of, encoded}
 use Rattle.oidc_key_sets.specs.Keys.{SeenRsaKey, texts_in, key_in, rsa_key_in}
 use Rattle.oidc_key_sets.specs.KeySets.{set_in, keys_from, count_of}
 use Rattle.oidc_key_sets.specs.Written.{Named, written_key, written_set, members_of, key_members, text_member, text_member_if, texts_array, texts_member_if}

@@ -1,4 +1,4 @@
-use Rattle.std.proofs.Common.{rules, ◌≡◌, ◌∙◌, ◌++◌, ◌∷◌, [], Some, None, ap, sym, append-nil, arith}
+use Rattle.std.proofs.Common.{◌≡◌, ◌∙◌, ◌++◌, ◌∷◌, [], Some, None, ap, sym, append-nil, arith}
 use Rattle.oidc_key_sets.specs.SigningKeys.{operation_named}
 use Rattle.oidc_key_sets.proofs.SaidKeys.{named_more}
 use Rattle.oidc_key_sets.proofs.signing_keys.operations_named.Goals.{in-Some+in_ok-push, in_default}

@@ -1,4 +1,4 @@
-use Rattle.std.proofs.Common.{◌≡◌, ◌∙◌, ◌++◌, ◌∷◌, [], true, false, All, filter, take, Err, ap, sym, subst, arith}
+use Rattle.std.proofs.Common.{◌≡◌, ◌∙◌, true, false, All, filter, Err, ap, sym, subst, arith}
 use Rattle.std.proofs.lemmas.List.{take_all}
 use Rattle.oidc_rsa.specs.Key.{IsModulus, IsExponent}
 use Rattle.oidc_key_sets.specs.SigningKeys.{IsAllowed, may_check}

@@ -1,4 +1,4 @@
-use Rattle.std.proofs.Common.{◌≡◌, ◌∙◌, ap, sym, subst, arith, All}
+use Rattle.std.proofs.Common.{◌∙◌, ap, subst, All}
 use Rattle.json.specs.Value.{value_view}
 use Rattle.oidc_key_sets.specs.Codes.{HasNumbers}
 use Rattle.oidc_key_sets.specs.Written.{written_set}
