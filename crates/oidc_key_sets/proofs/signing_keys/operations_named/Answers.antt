@@ -11,11 +11,11 @@ loop-text-preserved c =
     let text = c.text-item.result in
     let named : operation_named text ≡ c.operation_named.result = ap operation_named (sym c.as_str.ensures) ∙ sym c.operation_named.ensures in
     elim c.match-operation_named.branch [
-      in-Some+in_ok-push w ↦
-        let operation = w.in-Some.operation in
-        let more = named_more texts place text (Some operation) (omega arith) (sym c.text-item.is) (named ∙ w.in-Some.is) in
-        ap (λ v. v.items) w.operations-is ∙ w.in_ok-push.ensures.items ∙ ap (λ before. before ++ operation ∷ []) c.loop-text.invariant ∙ sym more
+      | in-Some+in_ok-push w ↦
+          let operation = w.in-Some.operation in
+          let more = named_more texts place text (Some operation) (omega arith) (sym c.text-item.is) (named ∙ w.in-Some.is) in
+          ap (λ v. v.items) w.operations-is ∙ w.in_ok-push.ensures.items ∙ ap (λ before. before ++ operation ∷ []) c.loop-text.invariant ∙ sym more
       | in_default w ↦
-        let more = named_more texts place text None (omega arith) (sym c.text-item.is) (named ∙ w.in_default.is) in
-        ap (λ v. v.items) w.operations-is ∙ c.loop-text.invariant ∙ sym (more ∙ append-nil _)
+          let more = named_more texts place text None (omega arith) (sym c.text-item.is) (named ∙ w.in_default.is) in
+          ap (λ v. v.items) w.operations-is ∙ c.loop-text.invariant ∙ sym (more ∙ append-nil _)
     ]

@@ -12,7 +12,7 @@ returns-in-Err-Modulus-clause-cause c =
     let may : may_check said ≡ true = sym c.may_check.ensures ∙ c.if-may_check.true in
     let why = c.signing_key.ensures.modulus (c.in-Err-Modulus.is ∙ ap Err c.in-Err-Modulus.field-0-is) in
     first_refused c.keys-set.result.now c.loop-place.place said (omega arith) c.index-set-place.is c.loop-place.invariant.allowed
-        c.args.self.now c.keys-set.ensures.keys (λ key. ¬ IsModulus key.modulus) may why
+    c.args.self.now c.keys-set.ensures.keys (λ key. ¬ IsModulus key.modulus) may why
 
 pub returns-in-Err-Exponent-clause-cause : goal.returns-in-Err-Exponent-clause-cause
 returns-in-Err-Exponent-clause-cause c =
@@ -20,7 +20,7 @@ returns-in-Err-Exponent-clause-cause c =
     let may : may_check said ≡ true = sym c.may_check.ensures ∙ c.if-may_check.true in
     let why = c.signing_key.ensures.exponent (c.in-Err-Exponent.is ∙ ap Err c.in-Err-Exponent.field-0-is) in
     first_refused c.keys-set.result.now c.loop-place.place said (omega arith) c.index-set-place.is c.loop-place.invariant.allowed
-        c.args.self.now c.keys-set.ensures.keys (λ key. IsModulus key.modulus × (¬ IsExponent key.exponent)) may why
+    c.args.self.now c.keys-set.ensures.keys (λ key. IsModulus key.modulus × (¬ IsExponent key.exponent)) may why
 
 pub loop-place-preserved : goal.loop-place-preserved
 loop-place-preserved c =
@@ -31,19 +31,19 @@ loop-place-preserved c =
     let now = c.if-may_check.keys.items in
     let had = c.loop-place.invariant in
     elim c.if-may_check.branch [
-      then-may_check+in-Ok+in_ok-push-in-Ok w ↦
-        let may : may_check said ≡ true = sym c.may_check.ensures ∙ w.if-may_check.true in
-        let is_now = ap (λ v. v.items) w.keys-is ∙ w.in_ok-push-in-Ok.ensures.items in
-        record {
-          keys = keys_more set place said (omega arith) c.index-set-place.is keys now had.keys w.in-Ok.key may is_now w.in-Ok.ensures.key;
-          allowed = allowed_more set place said (omega arith) c.index-set-place.is had.allowed may w.in-Ok.ensures.allowed;
-        }
+      | then-may_check+in-Ok+in_ok-push-in-Ok w ↦
+          let may : may_check said ≡ true = sym c.may_check.ensures ∙ w.if-may_check.true in
+          let is_now = ap (λ v. v.items) w.keys-is ∙ w.in_ok-push-in-Ok.ensures.items in
+          record {
+            keys = keys_more set place said (omega arith) c.index-set-place.is keys now had.keys w.in-Ok.key may is_now w.in-Ok.ensures.key;
+            allowed = allowed_more set place said (omega arith) c.index-set-place.is had.allowed may w.in-Ok.ensures.allowed;
+          }
       | else-may_check w ↦
-        let not : may_check said ≡ false = sym c.may_check.ensures ∙ w.if-may_check.false in
-        record {
-          keys = keys_same set place said (omega arith) c.index-set-place.is keys now had.keys not (ap (λ v. v.items) w.keys-is);
-          allowed = allowed_same set place said (omega arith) c.index-set-place.is had.allowed not;
-        }
+          let not : may_check said ≡ false = sym c.may_check.ensures ∙ w.if-may_check.false in
+          record {
+            keys = keys_same set place said (omega arith) c.index-set-place.is keys now had.keys not (ap (λ v. v.items) w.keys-is);
+            allowed = allowed_same set place said (omega arith) c.index-set-place.is had.allowed not;
+          }
     ]
 
 pub returns-clause-allowed : goal.returns-clause-allowed
