@@ -1,11 +1,11 @@
 -- A text is read as one thing alone.
-use Rattle.std.proofs.Common.{◌≡◌, ℕ, List, Some, Result, Ok, Err, ◌⊎◌, inl, inr, sym, ◌∙◌, ap, subst}
-use Rattle.json.specs.Json.{Json, document}
+use Rattle.std.proofs.Common.{◌≡◌, ℕ, List, Some, Result, Ok, Err, inl, inr, sym, ◌∙◌, ap, subst}
+use Rattle.json.specs.Json.{Json}
 use Rattle.json.specs.Strict.{HasUniqueKeys}
 use Rattle.oidc_key_sets.specs.declared.errors.KeySetError.{KeySetError}
 use Rattle.oidc_key_sets.specs.declared.errors.KeySetError.TheVariants.{NoJson, DoubledName, NoObject, NoKeys, NoArray, TooMany, Key, Memory}
 use Rattle.oidc_key_sets.specs.Keys.{SeenRsaKey}
-use Rattle.oidc_key_sets.specs.KeySets.{IsTextOf, IsJson, IsPlainText, HasDoubledName, IsReadByValue, IsReadAs, IsRead, UnlessMemory, set_in}
+use Rattle.oidc_key_sets.specs.KeySets.{IsTextOf, HasDoubledName, IsReadByValue, IsReadAs, IsRead, UnlessMemory, set_in}
 
 abbrev Read : Type 0
 Read = Result (List SeenRsaKey) KeySetError

@@ -6,5 +6,5 @@ use Rattle.json.specs.declared.value.Value.{Value}
 use Rattle.oidc_key_sets.specs.Written.{Named}
 
 -- their names and their values
-abbrev pub seen : {A : Type 0} → List (Bor (List ℕ) × Value A) → List Named
-seen members = map (λ m. (m.0.now, value_view m.1)) members
+abbrev pub named_values : {A : Type 0} → List (Bor (List ℕ) × Value A) → List Named
+named_values members = map (λ m. (m.0.now, value_view m.1)) members

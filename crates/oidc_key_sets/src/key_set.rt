@@ -106,7 +106,6 @@ fn keys_of(alloc: Global, values: &[Value<'_>]) -> Result<PublishedKeySet, KeySe
 }
 
 // The keys of RSA that an array has.
-#[tactic(auto, using(crate::proofs::Sets::count))]
 fn keys_among(alloc: Global, keys: &Value<'_>) -> Result<PublishedKeySet, KeySetError>
     ensures { spec.UnlessMemory result (spec.array_in (value_view keys.now) ≡ result) }
 {

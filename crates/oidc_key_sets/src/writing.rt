@@ -9,7 +9,7 @@ ghost use Rattle.oidc_key_sets.specs.Codes.{HasNumbers};
 ghost use Rattle.oidc_key_sets.specs.KeySets.{IsReadAs};
 ghost use Rattle.oidc_key_sets.specs.Numbers.{encoded};
 ghost use Rattle.oidc_key_sets.specs.Written as spec;
-ghost use Rattle.oidc_key_sets.specs.WrittenSeen.{seen};
+ghost use Rattle.oidc_key_sets.specs.WrittenSeen.{named_values};
 
 use crate::errors::KeyMember;
 use crate::key::RsaJsonWebKey;
@@ -51,12 +51,12 @@ fn encoded_key(alloc: Global, key: &RsaJsonWebKey) -> Result<EncodedKey<'_>, All
     ensures key { IfOk result (λ made. made ≡ key.now) }
     ensures numbers { HasNumbers key.now }
 {
-    let modulus = URL_SAFE_NO_PAD.encode(alloc, key.modulus())?;
-    let exponent = URL_SAFE_NO_PAD.encode(alloc, key.exponent())?;
+    let modulus = key.modulus();
+    let exponent = key.exponent();
     Ok(EncodedKey {
         key,
-        modulus,
-        exponent,
+        modulus: URL_SAFE_NO_PAD.encode(alloc, modulus)?,
+        exponent: URL_SAFE_NO_PAD.encode(alloc, exponent)?,
     })
 }
 
@@ -86,8 +86,8 @@ fn put_text<'t>(
     member: KeyMember,
     text: &'t str,
 ) -> Result<(), AllocError>
-    ensures { OnOk result (seen members.new.items
-        ≡ seen members.old.items ++ spec.text_member member text.now) }
+    ensures { OnOk result (named_values members.new.items
+        ≡ named_values members.old.items ++ spec.text_member member text.now) }
 {
     members.push((member.name(), Value::String(text)))?;
     Ok(())
@@ -99,8 +99,8 @@ fn put_text_if<'t>(
     member: KeyMember,
     text: Option<&'t str>,
 ) -> Result<(), AllocError>
-    ensures { OnOk result (seen members.new.items
-        ≡ seen members.old.items ++ spec.text_member_if member (option_copied text.entry)) }
+    ensures { OnOk result (named_values members.new.items
+        ≡ named_values members.old.items ++ spec.text_member_if member (option_copied text.entry)) }
 {
     match text {
         None => Ok(()),
@@ -126,8 +126,8 @@ fn put_texts_if<'t>(
     member: KeyMember,
     texts: Option<&'t [FieldName]>,
 ) -> Result<(), AllocError>
-    ensures { OnOk result (seen members.new.items
-        ≡ seen members.old.items ++ spec.texts_member_if member (option_copied texts.entry)) }
+    ensures { OnOk result (named_values members.new.items
+        ≡ named_values members.old.items ++ spec.texts_member_if member (option_copied texts.entry)) }
 {
     match texts {
         None => Ok(()),
@@ -141,7 +141,7 @@ fn put_texts_if<'t>(
 
 // The members of a key.
 fn key_members<'t>(alloc: Global, encoded: &'t EncodedKey<'t>) -> Result<OutMembers<'t>, AllocError>
-    ensures { IfOk result (λ members. seen members.items ≡ spec.key_members encoded.now) }
+    ensures { IfOk result (λ members. named_values members.items ≡ spec.key_members encoded.now) }
 {
     let key = encoded.key();
     let mut members = Vec::with_capacity(alloc, 7)?;
@@ -157,7 +157,7 @@ fn key_members<'t>(alloc: Global, encoded: &'t EncodedKey<'t>) -> Result<OutMemb
 
 // An object of these members.
 fn object(members: OutMembers<'_>) -> Value<'_>
-    ensures { value_view result ≡ json_object (spec.members_of (seen members.items)) }
+    ensures { value_view result ≡ json_object (spec.members_of (named_values members.entry.items)) }
 {
     Value::Object(members)
 }
