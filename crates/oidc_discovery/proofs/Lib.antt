@@ -1,3 +1,5 @@
 pub mod Addresses
 mod Needed
 mod PinnedAlone
+mod Slashes
+mod Taken
