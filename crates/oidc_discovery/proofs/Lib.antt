@@ -1,4 +1,5 @@
 pub mod Addresses
+mod Judged
 mod Needed
 mod PinnedAlone
 mod Slashes

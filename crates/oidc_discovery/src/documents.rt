@@ -151,7 +151,7 @@ impl ProviderDocument {
         text: &[u8],
     ) -> Result<ProviderDocument, DocumentError>
         ensures read { spec.IsReadFor asked.now.text text.now result }
-        // In words of the standard: the issuer, and what each URL is.
+        // What holds of each document that is taken.
         ensures taken { IfOk result (λ said. spec.IsTaken asked.now.text said) }
     {
         let said = metadata_of(alloc, text)?;
