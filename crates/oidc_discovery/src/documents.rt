@@ -144,7 +144,7 @@ impl ProviderDocument {
     /// are missing; `OtherIssuer` one whose `issuer` isn't the text of `asked`, byte for byte; `Url` one
     /// with a URL that isn't taken, in the order of the table; `ChallengeMethods` one that lists methods
     /// without `S256`. Members of other names are left aside, and a null counts as absent.
-    #[tactic(auto, using(crate::proofs::Taken::checked_taken), unfolding(crate::specs::Documents::document_of))]
+    #[tactic(auto, unfolding(crate::specs::Documents::document_of))]
     pub fn read(
         alloc: Global,
         asked: &IssuerUrl,
