@@ -7,7 +7,8 @@
 It is a second reader beside oidc_key_sets and oidc_discovery, over plain_records.py and plain_claims.py: RFC 7517
 sections 4 and 5, RFC 7518 sections 2 and 6.3, OpenID Connect Discovery 1.0 sections 3 and 4, RFC 9207 section 3. Of a
 set of keys Python's json gives every member of every object, in order; a document's members are those of plain_claims.py.
-It takes URLs as they are written, so it is right where these are written as the URL Standard writes them.
+Of URLs it knows which ones are as the URL Standard writes them, by a pattern that takes names of ASCII letters, digits,
+dots and hyphens as hosts. Of another text it doesn't know the URL: it is right there as long as the text is one.
 """
 import base64
 import hashlib
@@ -17,8 +18,9 @@ from urllib.parse import urlsplit
 
 from plain_answers import fits_address
 from plain_records import (
-    LONGEST_BODY, NoCase, Refused, form, has_essence, is_array_of_texts, members_of, ok, read_case, run_reader, url_fault,
+    LONGEST_BODY, NoCase, Refused, form, has_essence, is_array_of_texts, members_of, ok, read_case, run_reader,
 )
+import plain_records
 from plain_tokens import check, check_there, fault_in, value_of
 
 # ---- JSON, with every member of an object
@@ -237,6 +239,13 @@ def texts_fault(value):
     return None if is_array_of_texts(value) else "type"
 
 
+def url_fault(value):
+    """The URL Standard doesn't read blanks around a text, nor tabs and line feeds in it."""
+    if isinstance(value, str):
+        value = re.sub("[\t\n\r]", "", value.strip("".join(map(chr, range(0x21)))))
+    return plain_records.url_fault(value)
+
+
 # In the order of the table: the kind of a field, and whether a null stands for no value.
 FIELDS = {
     "issuer": (url_fault, False),
@@ -253,6 +262,13 @@ NEEDED = ["issuer", "authorization_endpoint", "jwks_uri", "id_token_signing_alg_
 URLS = ["issuer", "authorization_endpoint", "token_endpoint", "userinfo_endpoint", "jwks_uri", "end_session_endpoint"]
 
 
+# A URL as the URL Standard writes it (sections 4.4, 4.5 and 1.3), or without the slash of an empty path at its end.
+HOST = "(?!([a-z0-9.-]*[.])?(0x[0-9a-f]*|[0-9]+)[.]?(:|/|$))[a-z0-9.-]+"
+PORT = "(:(?!443(/|$))(0|[1-9][0-9]{0,4}))?"
+SEGMENT = "/(?!([.]|%2[Ee]){1,2}(/|[?]|$))[]!$%&'()*+,.0-9:;=@A-Z[_a-z|~-]*"
+WRITTEN = re.compile(f"https://{HOST}{PORT}($|({SEGMENT})+([?][]!$%&()*+,./0-9:;=?@A-Z[^_`a-z{{|}}~\\\\-]*)?)")
+
+
 def url_word(text, is_issuer=False):
     """Why a URL isn't taken, or None."""
     parts = urlsplit(text)
@@ -266,6 +282,8 @@ def url_word(text, is_issuer=False):
         return "backslash"
     if is_issuer and "?" in text:
         return "query"
+    if not WRITTEN.fullmatch(text):
+        return "spelling"
     return None
 
 
@@ -327,6 +345,8 @@ def pinned(line):
 def get_line(address):
     scheme, colon, rest = address.partition(":")
     address = scheme.lower() + colon + rest
+    if re.fullmatch("https://[^/]*", address):
+        address += "/"
     if not fits_address(address):
         raise Word("uri")
     return ok([("method", "GET"), ("address", address), ("accept", "application/json")])
@@ -688,6 +708,20 @@ def document_cases():
         yield case("metadata", text=text_of({**PLAIN, "issuer": url}), issuer=url)
         for name in URLS[1:]:
             yield case("metadata", text=text_of({**PLAIN, name: url}), issuer=asked)
+        yield case("document_request", issuer=url)
+        yield case("key_set_request", uri=url)
+    yield "# Documents, by tools/plain_discovery.py: URLs that readers of RFC 3986 take otherwise than the URL Standard, or that it writes otherwise (section 4.5)."
+    for url in [
+        "https:example/i", "https:/example/i", "https:///example/i", "https:////example/i", "https://@example/i", "https://:@example/i",
+        "HTTPS://example/i", "https://EXAMPLE/i", "https://example:443/i", "https://example:/i", "https://example:0443/i",
+        "https://ex\tample/i", "https://example/\ti", "https://example/i\n", " https://example/i", "https://example/i ",
+        "https://%65xample/i", "https://\u00e9xample/i", "https://example/\u00e9", "https://example/a b", "https://example/{a}",
+        "https://example/./i", "https://example/a/../i", "https://example/%2e/i", "https://0x7f.1/i", "https://example/i?a b",
+        "https://example?a=b", "https://example", "https://example/", "https://example:8443", "https://example:8443/i", "https://example//",
+        "https://example/i?a=b&c=%20", "https://example/%7Ei",
+    ]:
+        yield case("metadata", text=text_of({**PLAIN, "issuer": url}), issuer=url)
+        yield case("metadata", text=text_of({**PLAIN, "userinfo_endpoint": url}), issuer=asked)
         yield case("document_request", issuer=url)
         yield case("key_set_request", uri=url)
     yield case("metadata", text=text_of({**PLAIN, "token_endpoint": "http://a/", "jwks_uri": "http://a/"}), issuer=asked)

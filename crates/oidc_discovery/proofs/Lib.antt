@@ -1,3 +1,6 @@
 pub mod Addresses
+mod Judged
 mod Needed
 mod PinnedAlone
+mod Slashes
+mod Taken

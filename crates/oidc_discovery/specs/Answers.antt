@@ -5,6 +5,9 @@ use Rattle.oidc_oauth2.specs.Messages.{SeenResponse}
 use Rattle.oidc_oauth2.specs.HttpUtils.{may_be}
 use Rattle.oidc_oauth2.specs.TokenAnswers.{is_over_long}
 use Rattle.oidc_oauth2.specs.Replies.{◌>>=◌, ◌>>◌, ◌when◌}
+use Rattle.oidc_key_sets.specs.declared.errors.KeySetError.{KeySetError}
+use Rattle.oidc_key_sets.specs.Keys.{SeenRsaKey}
+use Rattle.oidc_key_sets.specs.KeySets.{IsReadAs, UnlessMemory}
 use Rattle.oidc_discovery.specs.declared.errors.AnswerError.{AnswerError}
 use Rattle.oidc_discovery.specs.declared.errors.AnswerError.TheVariants.{TooLong, Status, MediaType, Refused}
 
@@ -40,3 +43,7 @@ IsJudged Reads (Ok body) (Err (Refused e)) = Reads body (Err e)
 IsJudged Reads (Ok body) (Err TooLong) = ⊥
 IsJudged Reads (Ok body) (Err (Status status)) = ⊥
 IsJudged Reads (Ok body) (Err MediaType) = ⊥
+
+-- What a text is read as is this one thing: where it may be read as `meant`, it was, or there was no memory.
+abbrev pub IsAsMeant : Result (List SeenRsaKey) KeySetError → List ℕ → Result (List SeenRsaKey) KeySetError → Type 0
+IsAsMeant meant text read = IsReadAs text meant → UnlessMemory read (read ≡ meant)

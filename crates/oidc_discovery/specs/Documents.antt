@@ -58,6 +58,17 @@ checked asked said = do
   urls_checked said
   ChallengeMethods when lacks_s256 said.challenge_methods
 
+-- What holds of a document that is taken.
+pub record IsTaken (asked : List ℕ) (said : SeenMetadata) : Type 0 where
+  pub issuer : said.needed.issuer.text ≡ asked
+  pub issuer_url : issuer_fault said.needed.issuer ≡ None
+  pub authorization_url : url_fault said.needed.authorization_endpoint ≡ None
+  pub token_url : fault_if_there said.token_endpoint ≡ None
+  pub userinfo_url : fault_if_there said.userinfo_endpoint ≡ None
+  pub keys_url : url_fault said.needed.jwks_uri ≡ None
+  pub end_session_url : fault_if_there said.end_session_endpoint ≡ None
+  pub challenges : lacks_s256 said.challenge_methods ≡ false
+
 -- what the object says that a text is
 abbrev pub metadata_in_text : List ℕ → Result SeenMetadata Refusal
 metadata_in_text text = split_of text >>= metadata_of

@@ -48,7 +48,7 @@ abbrev pub UnlessMemory : {V : Type 0} → Result V PinError → Type 0 → Type
 UnlessMemory (Err Memory) Fact = Unit {0}
 UnlessMemory result Fact = Fact
 
--- Whatever a document lists, a client of its metadata allows the pinned algorithm alone.
+-- Whatever a document lists, a client of its metadata allows ID tokens by the pinned algorithm alone.
 abbrev pub AllowsPinnedAlone : Type 0
 AllowsPinnedAlone =
     (said : SeenMetadata) (algorithm : CoreJwsSigningAlgorithm) (keys : List SeenProviderKey)

@@ -1,8 +1,9 @@
 //! What the answers to the two requests are worth.
 
-ghost use Rattle.std.specs.Prelude.{◌≡◌};
+ghost use Rattle.std.specs.Prelude.{◌≡◌, List, Result};
 ghost use Rattle.oidc_oauth2.specs.Messages.{seen_response};
 ghost use Rattle.oidc_key_sets.specs.KeySets.{IsRead};
+ghost use Rattle.oidc_key_sets.specs.Keys.{SeenRsaKey};
 ghost use Rattle.oidc_discovery.specs.Answers as spec;
 ghost use Rattle.oidc_discovery.specs.Documents.{IsReadFor};
 
@@ -81,6 +82,10 @@ impl<'a> KeySetRequest<'a> {
     ) -> Result<PublishedKeySet, AnswerError<KeySetError>>
         ensures answer { let body = spec.body_in spec.key_set_types (seen_response response) in
             spec.IsJudged IsRead body result }
+        // Each refusal of a text has its cause, and each cause its refusal.
+        ensures caused { (meant : Result (List SeenRsaKey) KeySetError)
+            → let body = spec.body_in spec.key_set_types (seen_response response) in
+            spec.IsJudged (spec.IsAsMeant meant) body result }
     {
         let is_of_type = may_be_key_set(&response);
         let body = body_in::<KeySetError>(response, is_of_type)?;

@@ -1,6 +1,6 @@
 //! A provider's document, judged.
 
-ghost use Rattle.std.specs.Prelude.{◌≡◌, false, unwrap_or};
+ghost use Rattle.std.specs.Prelude.{◌≡◌, false, unwrap_or, IfOk};
 ghost use Rattle.std.specs.List.{list_any};
 ghost use Rattle.std.specs.Option.{option_copied};
 ghost use Rattle.std.specs.Str.{bytes_eq};
@@ -10,6 +10,7 @@ ghost use Rattle.oidc_discovery.specs.Pinned as pin;
 
 use crate::errors::{DocumentError, MetadataUrl};
 use crate::metadata::{ListedMarker, Metadata, metadata_in};
+use crate::requests::KeySetRequest;
 use crate::urls::{UrlFault, fault_if_there, issuer_fault, url_fault};
 use oidc_members::{Members, ParseError};
 use oidc_types::{
@@ -149,7 +150,9 @@ impl ProviderDocument {
         asked: &IssuerUrl,
         text: &[u8],
     ) -> Result<ProviderDocument, DocumentError>
-        ensures read { spec.UnlessMemory result (spec.document_of asked.now.text text.now ≡ result) }
+        ensures read { spec.IsReadFor asked.now.text text.now result }
+        // What holds of each document that is taken.
+        ensures taken { IfOk result (λ said. spec.IsTaken asked.now.text said) }
     {
         let said = metadata_of(alloc, text)?;
         match said.check(asked) {
@@ -194,6 +197,13 @@ impl ProviderDocument {
         ensures uri { result.now ≡ self.now.needed.jwks_uri }
     {
         &self.said.needed.jwks_uri
+    }
+
+    /// The request for the set of keys that is published there, and for no other one.
+    pub fn key_set_request(&self) -> KeySetRequest<'_>
+        ensures uri { result ≡ self.now.needed.jwks_uri }
+    {
+        KeySetRequest::new(self.jwks_uri())
     }
 
     /// The endpoint where users sign out, where there is one.

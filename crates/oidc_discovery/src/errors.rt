@@ -101,6 +101,7 @@ impl From<AllocError> for FetchError {
 
 /// Why an answer isn't taken. `E` says why its text is refused.
 #[derive(Debug, Drop, Error, PartialEq, Eq)]
+#[error_bound(E: fmt::Display)]
 pub enum AnswerError<E> {
     /// The body has more than 1,048,576 bytes.
     #[error("the response is too long")]
@@ -112,7 +113,7 @@ pub enum AnswerError<E> {
     #[error("another media type")]
     MediaType,
     /// The body is refused, or there was no memory to read it.
-    #[error("a text that is refused")]
+    #[error("{0}")]
     Refused(E),
 }
 

@@ -2,8 +2,8 @@
 
 ghost use Rattle.oidc_discovery.specs.Pinned.{AllowsPinnedAlone};
 
-/// Whatever a document lists, a client that is made of its metadata allows the pinned algorithm alone: no
-/// document widens what a site takes.
+/// Whatever a document lists, a client that is made of its metadata allows ID tokens by the pinned algorithm
+/// alone: no document widens by what a site takes them.
 pub fn pinned_alone()
     ensures alone { AllowsPinnedAlone }
 {}

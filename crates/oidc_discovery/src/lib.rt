@@ -6,7 +6,7 @@
 //! - [`ProviderDocument`] is what the document says, where the issuer is the one that was asked for and
 //!   each URL is `https` without user, password, fragment and backslash.
 //! - [`ProviderDocument::into_metadata`] makes the metadata that a client is made of, under the one
-//!   algorithm that a site pins. No document can widen that.
+//!   algorithm of ID tokens that a site pins. No document can widen that.
 //!
 //! What it promises. Requests, answers and documents are those of the definitions in `specs/`: each
 //! refusal has its cause, and each cause its refusal, but for want of memory, which no clause

@@ -60,8 +60,9 @@ fn metadata_with(
 
 impl ProviderDocument {
     /// The metadata of a provider with these keys, that a client is made of
-    /// (`Client::from_provider_metadata`). The client allows `algorithm`, and no other one that the
-    /// document lists. `NotListed` exactly where the document doesn't list it.
+    /// (`Client::from_provider_metadata`). The client allows ID tokens by `algorithm`, and by no other one that the
+    /// document lists. The keys are those that [`ProviderDocument::key_set_request`] asks for. `NotListed` exactly
+    /// where the document doesn't list the algorithm.
     pub fn into_metadata(
         self,
         alloc: Global,

@@ -31,6 +31,7 @@ fn fault_word(fault: UrlFault) -> &'static str {
         UrlFault::Fragment => "fragment",
         UrlFault::Backslash => "backslash",
         UrlFault::Query => "query",
+        UrlFault::Spelling => "spelling",
     }
 }
 

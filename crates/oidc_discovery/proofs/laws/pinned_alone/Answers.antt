@@ -2,4 +2,4 @@ use Rattle.oidc_discovery.proofs.PinnedAlone.{pinned_alone}
 use Rattle.oidc_discovery.proofs.laws.pinned_alone.Goals as goal
 
 pub returns : goal.returns
-returns c = pinned_alone
+returns c = record { alone = pinned_alone }
