@@ -20,7 +20,7 @@ mod provider;
 use crate::provider::{answers, print_requests};
 use jiff::Timestamp;
 use oidc::core_types::{CoreGenderClaim, CoreJwsSigningAlgorithm};
-use oidc::discovery::{DocumentRequest, KeySetRequest, ProviderDocument, ProviderKey};
+use oidc::discovery::{DocumentRequest, ProviderDocument, ProviderKey};
 use oidc::login::{LoginError, LoginSecrets, Logins, MetadataClient, SignedIn};
 use oidc::{
     AllOtherClaims, AuthenticationFlow, ClaimsVerificationError, Client, ClientId, ClientSecret,
@@ -92,7 +92,7 @@ fn fetch_keys<H: SyncHttpClient<Error: Drop>>(
     requires { H.ready http.old }
     ensures { H.ready http.new }
 {
-    let asked = KeySetRequest::new(document.jwks_uri());
+    let asked = document.key_set_request();
     let response = fetch(alloc, http, asked.prepare(alloc)?)?;
     let set = asked.answer(alloc, response)?;
     Ok(set.signing_keys(alloc)?)
