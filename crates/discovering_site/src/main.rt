@@ -8,7 +8,7 @@
 //! store goes on with a client of the new keys: the second login, which was pending all the while, signs in.
 #![tactic(auto)]
 
-ghost use Rattle.std.specs.Prelude.{◌≡◌, ◌∷◌, [], ◌↔◌, Some, IfOk, IfErr, IsSome, IsTrue, OnOk};
+ghost use Rattle.std.specs.Prelude.{◌≡◌, ◌∷◌, [], ◌↔◌, true, Some, IfOk, IsSome, IsTrue, OnOk};
 ghost use Rattle.oidc_types.specs.Random.{random_text};
 ghost use Rattle.oidc.specs.Pairs.{pairs};
 ghost use Rattle.oidc.specs.Errors.{is_spent_by};
