@@ -1,12 +1,10 @@
 -- A client of a document's metadata allows the pinned algorithm alone.
-use Rattle.std.proofs.Common.{◌≡◌, ℕ, List, [], ◌∷◌, Bool, true, false, Option, Some, Ok, Err, Result, sym, ap, subst, if◌then◌else◌}
+use Rattle.std.proofs.Common.{◌≡◌, [], ◌∷◌, Bool, true, false, Ok, Err, sym, ap, if◌then◌else◌}
 use Rattle.oidc_types.specs.declared.core_algorithms.CoreJwsSigningAlgorithm.{CoreJwsSigningAlgorithm}
 use Rattle.oidc_client.specs.ProviderMetadata.{SeenProviderMetadata, client_of_provider}
 use Rattle.oidc_rsa.specs.ProviderKey.{SeenProviderKey}
-use Rattle.oidc_discovery.specs.declared.errors.PinError.{PinError}
 use Rattle.oidc_discovery.specs.declared.errors.PinError.TheVariants.{NotListed}
-use Rattle.oidc_discovery.specs.Metadata.{SeenMetadata}
-use Rattle.oidc_discovery.specs.Pinned.{Additional, lists, metadata_with, pinned, AllowsPinnedAlone}
+use Rattle.oidc_discovery.specs.Pinned.{Additional, lists, metadata_with, AllowsPinnedAlone}
 
 abbrev Made : Type 0
 Made = SeenProviderMetadata Additional SeenProviderKey CoreJwsSigningAlgorithm

@@ -1,12 +1,11 @@
 -- What holds of metadata that passed the checks.
 use Rattle.std.proofs.Common.{◌≡◌, Bool, true, false, not, List, ℕ, Option, None, Some, Result, Ok, Err, refl}
 use Rattle.std.proofs.lemmas.Slice.Eq.{bytes_eq-Decides}
-use Rattle.oidc_oauth2.specs.Replies.{◌>>◌, ◌when◌, ◌for◌}
-use Rattle.oidc_discovery.specs.declared.errors.DocumentError.{DocumentError}
+use Rattle.oidc_oauth2.specs.Replies.{◌>>◌, ◌when◌}
 use Rattle.oidc_discovery.specs.declared.errors.MetadataUrl.{MetadataUrl}
 use Rattle.oidc_discovery.specs.declared.urls.UrlFault.{UrlFault}
 use Rattle.oidc_discovery.specs.Metadata.{SeenMetadata}
-use Rattle.oidc_discovery.specs.Documents.{IsTaken, checked, urls_checked, unless_faulty}
+use Rattle.oidc_discovery.specs.Documents.{IsTaken, checked, unless_faulty}
 
 first_ok : {F : Type 0} (first next : Result (Unit {0}) F) → first >> next ≡ Ok tt → first ≡ Ok tt
 first_ok (Ok u) next e = refl

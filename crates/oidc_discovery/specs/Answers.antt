@@ -4,7 +4,7 @@ use Rattle.std.specs.List.{list_any}
 use Rattle.oidc_oauth2.specs.Messages.{SeenResponse}
 use Rattle.oidc_oauth2.specs.HttpUtils.{may_be}
 use Rattle.oidc_oauth2.specs.TokenAnswers.{is_over_long}
-use Rattle.oidc_oauth2.specs.Replies.{◌>>=◌, ◌>>◌, ◌when◌}
+use Rattle.oidc_oauth2.specs.Replies.{◌>>◌, ◌when◌}
 use Rattle.oidc_key_sets.specs.declared.errors.KeySetError.{KeySetError}
 use Rattle.oidc_key_sets.specs.Keys.{SeenRsaKey}
 use Rattle.oidc_key_sets.specs.KeySets.{IsReadAs, UnlessMemory}

@@ -1,6 +1,6 @@
 -- A provider's document, and why a text is none that is taken (OpenID Connect Discovery 1.0 sections 3, 4.3 and 7.1,
 -- RFC 7636 section 4.2).
-use Rattle.std.specs.Prelude.{◌≡◌, ℕ, List, Bool, true, false, not, codes, Option, None, Some, Result, Ok, Err}
+use Rattle.std.specs.Prelude.{◌≡◌, ℕ, List, Bool, false, not, codes, Option, None, Some, Result, Ok, Err}
 use Rattle.std.specs.List.{list_any}
 use Rattle.std.specs.Str.{bytes_eq}
 use Rattle.oidc_types.specs.{TextAndUrl}
