@@ -774,7 +774,7 @@ def no_cases():
     yield from [
         "op=key_set", "op=key_set&text=&text=", "op=key_set&text=&a=", "op=signing_keys", "op=written_key_set", "op=metadata&text=",
         "op=metadata&issuer=https://a", "op=pinned&text=&issuer=https://a", "op=document_request", "op=key_set_request",
-        "op=document_answer&issuer=https://a&status=200", "op=key_set_answer&status=200", "op=rsa&text=",
+        "op=document_answer&issuer=https://a&status=200", "op=key_set_answer&status=200",
     ]
 
 
