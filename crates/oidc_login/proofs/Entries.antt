@@ -1,6 +1,6 @@
 -- how changes of the hashed map change the map that it keeps
 use Rattle.std.proofs.Common.{◌≡◌, ◌≢◌, ℕ, suc, ◌+◌, List, [], ◌∷◌, length, Option, None, Some, Bool, true, false, cond, refl, sym, ap, subst, ◌∙◌, arith, String}
-use Rattle.std.specs.Prelude.{unwrap_or, IsTrue, IfSome, is_some}
+use Rattle.std.specs.Prelude.{unwrap_or, IsTrue, is_some}
 use Rattle.std.specs.List.{IsDistinct, AllByRecursion}
 use Rattle.std.specs.FinMap as finite
 use Rattle.std.specs.HashMap as hash
@@ -48,11 +48,6 @@ verifiers_remove m k h q l e = unchosen (λ x. IsTrue (is_verifier x.verifier)) 
 
 pub verifiers_empty : HasVerifiers finite.empty
 verifiers_empty q l e = absurd (not_None l (sym e ∙ finite.get-empty (slice_cmp nat_cmp) q))
-
--- a login that is found has a verifier of that length
-pub verifier_found : (m : Pending) (q : List ℕ) (found : Option SeenLogin) → HasVerifiers m → found ≡ finite.get m q → IfSome found (λ l. IsTrue (is_verifier l.verifier))
-verifier_found m q None h e = tt
-verifier_found m q (Some l) h e = h q l (sym e)
 
 pub same : (x y : List ℕ) → ties x y ≡ true → x ≡ y
 same x y e = (bytes_decides x y).0 (sym (is_eq-slice_cmp x y) ∙ e)

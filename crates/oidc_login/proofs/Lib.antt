@@ -2,6 +2,7 @@ pub mod TokenRuns
 pub mod Theorems
 pub mod Entries
 pub mod Begun
+pub mod Changed
 pub mod Endpoints
 pub mod Verification
 pub mod TokenHash

@@ -1,4 +1,4 @@
--- In reading order: what a site brings; pending logins, what a begin answers and what it leaves; what the query of a
+-- In reading order: what a site brings; pending logins, what a begin answers and what it leaves; when the store goes on with another client; what the query of a
 -- callback names and the token request; its answer with the ID token and the hash in it; the request for user info; who
 -- is signed in; the table of a callback, what each reply rests on, which logins are valid, and what a callback leaves of
 -- a transport and of the store; begins and callbacks, one after another, each login by itself, and dealt to several stores.
@@ -6,6 +6,7 @@
 pub mod Types
 pub mod Logins
 pub mod Begin
+pub mod Changes
 pub mod BeforeRequest
 pub mod Token
 pub mod UserInfo

@@ -9,7 +9,7 @@ ghost use Rattle.oidc_login.specs.Begin as begins;
 ghost use Rattle.oidc_login.specs.Begin.{begin_of, reply_by, challenge_or_refusal, url_or_refusal, Begins, with_login};
 
 use crate::errors::BeginError;
-use crate::store::{Login, Store};
+use crate::store::{KeptLogin, Login, Store};
 use crate::types::{LoginRequest, UserInfoDemand};
 use oidc_client::{AuthenticationFlow, CoreAuthenticationFlow};
 use oidc_oauth2::{PkceCodeChallenge, PkceError};
@@ -155,7 +155,12 @@ fn kept_of(
 }
 
 // Records a login, unless there is no memory.
-fn record(pending: &mut Store, url: Url, state: CsrfToken, login: Login) -> Result<Url, BeginError>
+fn record(
+    pending: &mut Store,
+    url: Url,
+    state: CsrfToken,
+    login: KeptLogin,
+) -> Result<Url, BeginError>
     requires absent { finite.get pending.old state ≡ None }
     requires fits { IsTrue (is_verifier login.verifier) }
     ensures url { IfOk result (λ answered. answered ≡ url) }
@@ -205,7 +210,14 @@ fn recorded_url(
                 verifier,
                 user_info,
             };
-            record(pending, url, state, login)
+            match KeptLogin::of(alloc, login) {
+                Ok(kept) => record(pending, url, state, kept),
+                Err(_) => {
+                    drop(url);
+                    drop(state);
+                    Err(BeginError::Memory)
+                }
+            }
         }
         Err(refusal) => {
             drop(redirect_uri);

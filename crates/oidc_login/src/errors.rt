@@ -56,6 +56,26 @@ impl From<AllocError> for BeginError {
     }
 }
 
+/// Why a store doesn't go on with another client: what differs first from the client that it has.
+#[derive(Clone, Copy, Debug, PartialEq, Eq, Error)]
+pub enum ChangeError {
+    /// The client ID.
+    #[error("another client ID")]
+    ClientId,
+    /// The text of the issuer.
+    #[error("another issuer")]
+    Issuer,
+    /// The text of the authorization endpoint.
+    #[error("another authorization endpoint")]
+    AuthorizationEndpoint,
+    /// The token endpoint: another text, or only one of the two has one.
+    #[error("another token endpoint")]
+    TokenEndpoint,
+    /// The user info endpoint: another text, or only one of the two has one.
+    #[error("another user info endpoint")]
+    UserInfoEndpoint,
+}
+
 /// What was too long: it has more than 1,048,576 bytes.
 #[derive(Clone, Copy, Debug, PartialEq, Eq, Error)]
 pub enum TooLong {

@@ -49,6 +49,7 @@
 
 mod begin;
 mod callback;
+mod changes;
 mod errors;
 mod front;
 mod hashes;
@@ -59,7 +60,7 @@ mod signed_in;
 mod store;
 mod types;
 
-pub use errors::{BeginError, LoginError, NewLoginsError, TooLong};
+pub use errors::{BeginError, ChangeError, LoginError, NewLoginsError, TooLong};
 pub use front::{FrontAnswer, FrontError, front_channel};
 pub use logins::Logins;
 pub use signed_in::{LoginIdToken, SignedIn};

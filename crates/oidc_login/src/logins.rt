@@ -1,6 +1,6 @@
 //! The pending logins of one client.
 
-ghost use Rattle.std.specs.Prelude.{◌≡◌, ◌≢◌, ◌↔◌, ◌≤◌, ◌<◌, length, codes, is_some, IfErr, IfOk, IfSome, OnOk, OnErr, IsErrOf, IsSomeAnd, IsTrue, IsNone, IsSome, not, true, false, None};
+ghost use Rattle.std.specs.Prelude.{◌≡◌, ◌≢◌, ◌↔◌, ◌≤◌, ◌<◌, length, codes, is_some, IfErr, IfOk, IfSome, OnOk, OnErr, IsErrOf, IsOk, IsSomeAnd, IsTrue, IsNone, IsSome, not, true, false, None};
 ghost use Rattle.std.specs.FinMap as finite;
 ghost use Rattle.url.specs.Parts.{serialize};
 ghost use Rattle.oidc_pairs.specs.Pairs.{pairs};
@@ -15,6 +15,7 @@ ghost use Rattle.oidc_login.specs.Types.{site_types};
 ghost use Rattle.oidc_login.specs.Token.{subject_of, IsAcceptedBy, HasOwnHash};
 ghost use Rattle.oidc_login.specs.Logins.{HasVerifiers, HasEndpoints};
 ghost use Rattle.oidc_login.specs.Begin.{begin_of, begin_reply, is_code_flow, url_with, Begins, with_login};
+ghost use Rattle.oidc_login.specs.Changes.{difference_of, has_same_text, seen_change, IsSameClient, Differs};
 ghost use Rattle.oidc_login.specs.BeforeRequest.{login_named_by};
 ghost use Rattle.oidc_login.specs.Callback.{callback_store};
 ghost use Rattle.oidc_login.specs.Causes.{AsksNothing, HasError, LacksCode, HasNoRequest};
@@ -24,7 +25,8 @@ ghost use Rattle.oidc_oauth2.specs.declared.token_answers.RequestTokenError.TheV
 
 use crate::begin::begun_url;
 use crate::callback::callback_reply;
-use crate::errors::{BeginError, LoginError, NewLoginsError, TooLong};
+use crate::changes::first_difference;
+use crate::errors::{BeginError, ChangeError, LoginError, NewLoginsError, TooLong};
 use crate::signed_in::SignedIn;
 use crate::store::Store;
 use crate::types::{LoginRequest, MetadataClient, UserInfoDemand};
@@ -104,6 +106,47 @@ impl<
             client,
             pending: Store::new(alloc),
         })
+    }
+
+    /// The same pending logins over another client of the same provider, as one whose keys are new (OpenID Connect Core
+    /// 1.0 section 10.1.1): by it logins begin and callbacks are judged from then on. Whatever else of the client is new
+    /// counts from then on too. It takes no memory.
+    ///
+    /// The errors are, in this order: `ClientId`, `Issuer`, `AuthorizationEndpoint`, `TokenEndpoint`, `UserInfoEndpoint`,
+    /// where the two differ in it, by its text. The store comes back beside the error, as it was.
+    pub fn with_client<'d>(
+        self,
+        client: &'d MetadataClient<AC, GC, K>,
+    ) -> Result<Logins<'d, AC, GC, K>, (ChangeError, Self)>
+        ensures reply { let old = self.entry.client in
+            seen_change result ≡ difference_of old client.now }
+        ensures changed { let pending = self.entry.pending in
+            IfOk result (λ logins. logins ≡ record { client = client.now; pending = pending }) }
+        ensures unchanged { IfErr result (λ refused. refused.1 ≡ self.entry) }
+        ensures same { OnOk result (IsSameClient self.entry.client client.now) }
+        ensures taken { IsSameClient self.entry.client client.now → IsOk result }
+        ensures differs { let old = self.entry.client in
+            IfErr result (λ refused. Differs old client.now refused.0) }
+    {
+        match first_difference(self.client, client) {
+            Ok(()) => Ok(self.over(client)),
+            Err(error) => Err((error, self)),
+        }
+    }
+
+    // The same over another client, which has an endpoint for user info where this one has.
+    fn over<'d>(self, client: &'d MetadataClient<AC, GC, K>) -> Logins<'d, AC, GC, K>
+        requires { let old = self.client.user_info_url in
+            has_same_text old client.now.user_info_url ≡ true }
+        ensures { let pending = self.entry.pending in
+            result ≡ record { client = client.now; pending = pending } }
+    {
+        let Logins { alloc, pending, .. } = self;
+        Logins {
+            alloc,
+            client,
+            pending,
+        }
     }
 
     /// How many logins are pending.

@@ -1,6 +1,6 @@
 // The logins that are pending, by their states.
 
-ghost use Rattle.std.specs.Prelude.{◌≡◌, OnOk, OnErr, IfSome, IsTrue, None};
+ghost use Rattle.std.specs.Prelude.{◌≡◌, OnOk, OnErr, IfOk, IfSome, IsTrue, None};
 ghost use Rattle.std.specs.String.{string_bytes};
 ghost use Rattle.std.specs.FinMap as finite;
 ghost use Rattle.oidc_oauth2.specs.Pkce.{is_verifier};
@@ -36,10 +36,43 @@ impl Model for Login {
     } };
 }
 
+// What the map has beside a state: a login behind a pointer, so that a map that grows moves one word of it.
+#[derive(Drop)]
+pub(crate) struct KeptLogin {
+    login: Box<Login>,
+}
+
+impl Model for KeptLogin {
+    ghost use Rattle.oidc_login.specs.Logins.{SeenLogin, seen_login_code};
+
+    ghost Value = { SeenLogin };
+
+    ghost coded = { seen_login_code };
+
+    ghost view = { λ k. k.login.value };
+}
+
+impl KeptLogin {
+    pub(crate) fn of(alloc: Global, login: Login) -> Result<Self, AllocError>
+        ensures kept { IfOk result (λ kept. kept ≡ login) }
+    {
+        match Box::new(alloc, login) {
+            Ok(login) => Ok(KeptLogin { login }),
+            Err(_) => Err(AllocError),
+        }
+    }
+
+    fn into_login(self) -> Login
+        ensures login { result ≡ self }
+    {
+        Box::into_inner(self.login)
+    }
+}
+
 // The pending logins, by their states. Each verifier has 43 to 128 bytes.
 #[derive(Drop)]
 pub(crate) struct Store {
-    logins: HashMap<String, Login>,
+    logins: HashMap<String, KeptLogin>,
 }
 
 impl Model for Store {
@@ -88,7 +121,7 @@ impl Store {
 
     // Adds a login under a state that isn't pending. After an error the store is as it was.
     #[tactic(auto, using(crate::proofs::Entries::kept_insert))]
-    pub(crate) fn insert(&mut self, state: String, login: Login) -> Result<(), AllocError>
+    pub(crate) fn insert(&mut self, state: String, login: KeptLogin) -> Result<(), AllocError>
         requires state { finite.get self.old (string_bytes state) ≡ None }
         requires verifier { IsTrue (is_verifier login.verifier) }
         ensures ok { OnOk result (self.new ≡ finite.insert self.old (string_bytes state) login) }
@@ -107,6 +140,9 @@ impl Store {
         ensures rest { self.new ≡ finite.remove self.old state.now }
         ensures verifiers { HasVerifiers self.new }
     {
-        self.logins.remove(state)
+        let Some(kept) = self.logins.remove(state) else {
+            return None;
+        };
+        Some(kept.into_login())
     }
 }

@@ -10,7 +10,7 @@ use oidc_members::Reading;
 use oidc_oauth2::AuthType;
 use oidc_types::{
     AuthUrl, ClientId, ClientSecret, DeviceAuthorizationUrl, EndpointSet, EndpointState,
-    IntrospectionUrl, RedirectUrl, RevocationUrl, TokenUrl, UserInfoUrl,
+    IntrospectionUrl, IssuerUrl, RedirectUrl, RevocationUrl, TokenUrl, UserInfoUrl,
 };
 use std::marker::PhantomData;
 
@@ -71,6 +71,13 @@ impl<
         ensures id { result.now ≡ self.now.client_id }
     {
         &self.own.client_id
+    }
+
+    /// The issuer of its provider (OpenID Connect Core 1.0 section 2).
+    pub fn issuer(&self) -> &IssuerUrl
+        ensures issuer { result.now ≡ self.now.issuer }
+    {
+        &self.own.issuer
     }
 
     /// As a confidential client with this secret.
