@@ -24,51 +24,62 @@ behind_parts a x1 x2 x3 x4 =
     behind-append ((a ∷ x1 ++ x2) ++ x3) x4
     ∙ ap (λ t. t ++ behind x4) (behind-append (a ∷ x1 ++ x2) x3 ∙ ap (λ t. t ++ behind x3) (behind-append (a ∷ x1) x2))
 
-nested : (r m p x y z w l : List ℕ)
-    → (((((((r ++ m) ++ (p ++ [])) ++ x) ++ y) ++ z) ++ w) ++ l) ≡ (r ++ (m ++ ((((p ++ x) ++ y) ++ z) ++ w))) ++ l
-nested r m p x y z w l = simp (append_assoc, append-nil)
+-- a text behind which two were put, and a line of two parts
+pub both_pushed : (o a b t1 t2 : List ℕ) → t1 ≡ o ++ a → t2 ≡ t1 ++ b → t2 ≡ o ++ (a ++ b)
+both_pushed o a b t1 t2 e1 e2 = rw (e2, e1) (append_assoc o a b)
 
-pub request_text : (request : SeenRequest) (t1 t2 t3 t4 t5 t6 t7 : List ℕ)
-    → t1 ≡ codes "request " ++ serialize_pair (codes "method", request.method)
+pub line_pushed : (o a b t1 t2 t3 : List ℕ) → t1 ≡ o ++ a → t2 ≡ t1 ++ b → t3 ≡ t2 ++ 10 ∷ [] → t3 ≡ o ++ ((a ++ b) ++ 10 ∷ [])
+line_pushed o a b t1 t2 t3 e1 e2 e3 = rw (e3, e2, e1) (simp append_assoc)
+
+nested : (o r m p x y z w l : List ℕ)
+    → ((((((((o ++ r) ++ m) ++ (p ++ [])) ++ x) ++ y) ++ z) ++ w) ++ l) ≡ o ++ ((r ++ (m ++ ((((p ++ x) ++ y) ++ z) ++ w))) ++ l)
+nested o r m p x y z w l = simp (append_assoc, append-nil)
+
+-- the line of a request, behind a text
+pub request_text : (request : SeenRequest) (o t0 t1 t2 t3 t4 t5 t6 t7 : List ℕ)
+    → t0 ≡ o ++ codes "request "
+    → t1 ≡ t0 ++ serialize_pair (codes "method", request.method)
     → t2 ≡ t1 ++ behind ((codes "address", request.address) ∷ [])
     → t3 ≡ t2 ++ behind (header_pair (codes "accept") (get request.headers (codes "accept")))
     → t4 ≡ t3 ++ behind (header_pair (codes "content_type") (get request.headers (codes "content-type")))
     → t5 ≡ t4 ++ behind (header_pair (codes "authorization") (get request.headers (codes "authorization")))
     → t6 ≡ t5 ++ behind (body_pair request)
     → t7 ≡ t6 ++ 10 ∷ []
-    → t7 ≡ request_line request
+    → t7 ≡ o ++ request_line request
 unfolding request_line
-request_text request t1 t2 t3 t4 t5 t6 t7 e1 e2 e3 e4 e5 e6 e7 =
+request_text request o t0 t1 t2 t3 t4 t5 t6 t7 e0 e1 e2 e3 e4 e5 e6 e7 =
     let x1 = header_pair (codes "accept") (get request.headers (codes "accept")) in
     let x2 = header_pair (codes "content_type") (get request.headers (codes "content-type")) in
     let x3 = header_pair (codes "authorization") (get request.headers (codes "authorization")) in
     let x4 = body_pair request in
     let a : List ℕ × List ℕ = (codes "address", request.address) in
-    rw (e7, e6, e5, e4, e3, e2, e1)
-    (nested (codes "request ") (serialize_pair (codes "method", request.method)) (38 ∷ serialize_pair a) (behind x1) (behind x2) (behind x3) (behind x4) (10 ∷ [])
-    ∙ ap (λ t. (codes "request " ++ t) ++ 10 ∷ [])
+    rw (e7, e6, e5, e4, e3, e2, e1, e0)
+    (nested o (codes "request ") (serialize_pair (codes "method", request.method)) (38 ∷ serialize_pair a) (behind x1) (behind x2) (behind x3) (behind x4) (10 ∷ [])
+    ∙ ap (λ t. o ++ ((codes "request " ++ t) ++ 10 ∷ []))
     (ap (λ t. serialize_pair (codes "method", request.method) ++ t) (sym (behind_parts a x1 x2 x3 x4))
     ∙ sym (form_first (codes "method", request.method) (((a ∷ x1 ++ x2) ++ x3) ++ x4))))
 
-chained : (w s r c u l : List ℕ) → ((((w ++ s) ++ r) ++ (c ++ [])) ++ u) ++ l ≡ (w ++ (s ++ (r ++ (c ++ u)))) ++ l
-chained w s r c u l = simp (append_assoc, append-nil)
+chained : (o w s r c u l : List ℕ) → (((((o ++ w) ++ s) ++ r) ++ (c ++ [])) ++ u) ++ l ≡ o ++ ((w ++ (s ++ (r ++ (c ++ u)))) ++ l)
+chained o w s r c u l = simp (append_assoc, append-nil)
 
-pub signed_text : (signed : SeenSignedIn) (t1 t2 t3 t4 t5 : List ℕ)
-    → t1 ≡ codes "callback ok " ++ serialize_pair (codes "access_token", signed.access_token)
+-- the line of a user who is signed in, behind a text
+pub signed_text : (signed : SeenSignedIn) (o t0 t1 t2 t3 t4 t5 : List ℕ)
+    → t0 ≡ o ++ codes "callback ok "
+    → t1 ≡ t0 ++ serialize_pair (codes "access_token", signed.access_token)
     → t2 ≡ t1 ++ behind (refresh_pair signed.refresh_token)
     → t3 ≡ t2 ++ behind ((codes "claims", claims_text signed.id_token.payload) ∷ [])
     → t4 ≡ t3 ++ behind (user_info_pair signed.user_info)
     → t5 ≡ t4 ++ 10 ∷ []
-    → t5 ≡ verdict_line (Ok signed)
+    → t5 ≡ o ++ verdict_line (Ok signed)
 unfolding verdict_line
-signed_text signed t1 t2 t3 t4 t5 e1 e2 e3 e4 e5 =
+signed_text signed o t0 t1 t2 t3 t4 t5 e0 e1 e2 e3 e4 e5 =
     let a : List ℕ × List ℕ = (codes "access_token", signed.access_token) in
     let c : List ℕ × List ℕ = (codes "claims", claims_text signed.id_token.payload) in
     let r = refresh_pair signed.refresh_token in
     let u = user_info_pair signed.user_info in
-    rw (e5, e4, e3, e2, e1)
-    (chained (codes "callback ok ") (serialize_pair a) (behind r) (38 ∷ serialize_pair c) (behind u) (10 ∷ [])
-    ∙ ap (λ t. (codes "callback ok " ++ t) ++ 10 ∷ []) (sym (form_first a (r ++ c ∷ u) ∙ ap (λ t. serialize_pair a ++ t) (behind-append r (c ∷ u)))))
+    rw (e5, e4, e3, e2, e1, e0)
+    (chained o (codes "callback ok ") (serialize_pair a) (behind r) (38 ∷ serialize_pair c) (behind u) (10 ∷ [])
+    ∙ ap (λ t. o ++ ((codes "callback ok " ++ t) ++ 10 ∷ [])) (sym (form_first a (r ++ c ∷ u) ∙ ap (λ t. serialize_pair a ++ t) (behind-append r (c ∷ u)))))
 
 -- the words of a refusal to read
 joined_words : (t w s f : List ℕ) → ((t ++ w) ++ s) ++ f ≡ t ++ (w ++ (s ++ f))

@@ -1,11 +1,10 @@
 -- Bytes that are taken and put, call after call.
-use Rattle.std.proofs.Common.{◌≡◌, inl, inr, ℕ, ◌+◌, ◌≤◌, List, [], ◌++◌, Option, None, Some, option_map, take, length, min, Result, Ok, Err, OnOk, OnErr, refl, sym, ap, subst, ◌∙◌, append_assoc, append-nil, arith}
+use Rattle.std.proofs.Common.{◌≡◌, ℕ, ◌+◌, List, [], ◌++◌, Option, None, Some, option_map, take, length, min, Result, Ok, Err, OnOk, OnErr, refl, sym, ap, subst, ◌∙◌, append_assoc, append-nil, arith}
 use Rattle.std.proofs.Math.Seq.{take-append_seam, take-append-add}
 use Rattle.std.proofs.lemmas.List.{take-append-le}
 use Rattle.std.proofs.lemmas.Grind.{common_steps}
-use Rattle.oidc_cli.specs.Calls.{HasRisen}
 use Rattle.oidc_cli.specs.Sources.{Takes}
-use Rattle.oidc_cli.specs.Sinks.{Puts, PutsPrefix}
+use Rattle.oidc_cli.specs.Sinks.{Puts, PutsPrefix, PutsSoFar}
 
 pub Takes-append : (a b c : Option (List ℕ)) (xs ys : List ℕ) → Takes a b xs → Takes b c ys → Takes a c (xs ++ ys)
 Takes-append a b None xs ys p q = p ∙ ap (option_map (λ left. xs ++ left)) q
@@ -41,20 +40,29 @@ prefix_behind a b c xs ys p q =
 
 -- ---- a text that is put part by part
 
--- what was put so far, and what is left of the whole
-pub record PutsSoFar (before now : Option (List ℕ)) (left whole : List ℕ) : Type 0 where
-  pub done : List ℕ
-  pub done_put : Puts before now done
-  pub done_and_left : done ++ left ≡ whole
-
 pub begun : (known : Option (List ℕ)) (whole : List ℕ) → PutsSoFar known known whole whole
 begun known whole = record { done = []; done_put = Puts-nil known; done_and_left = refl }
 
-pub put_more : (a b c : Option (List ℕ)) (part left whole : List ℕ) → PutsSoFar a b (part ++ left) whole → Puts b c part → PutsSoFar a c left whole
-put_more a b c part left whole so_far more = record {
-  done = so_far.done ++ part;
-  done_put = Puts-append a b c so_far.done part so_far.done_put more;
-  done_and_left = append_assoc so_far.done part left ∙ so_far.done_and_left;
+pub all_put : (a b : Option (List ℕ)) (whole : List ℕ) → Puts a b whole → PutsSoFar a b [] whole
+all_put a b whole p = record { done = whole; done_put = p; done_and_left = append-nil whole }
+
+-- what is left first goes behind what is held
+pub pushed : (a b : Option (List ℕ)) (held part held' later left whole : List ℕ) → held' ≡ held ++ part → left ≡ part ++ later → PutsSoFar a b (held ++ left) whole
+    → PutsSoFar a b (held' ++ later) whole
+pushed a b held part held' later left whole grown first so_far = record {
+  done = so_far.done;
+  done_put = so_far.done_put;
+  done_and_left = ap (λ l. so_far.done ++ l) (ap (λ t. t ++ later) grown ∙ append_assoc held part later ∙ ap (λ t. held ++ t) (sym first)) ∙ so_far.done_and_left;
+}
+
+-- some of what was held is put, and the rest stays before what is left
+pub put_part : (a b c : Option (List ℕ)) (held held' left whole : List ℕ) → PutsSoFar a b (held ++ left) whole → PutsSoFar b c held' held → PutsSoFar a c (held' ++ left) whole
+put_part a b c held held' left whole so_far more = record {
+  done = so_far.done ++ more.done;
+  done_put = Puts-append a b c so_far.done more.done so_far.done_put more.done_put;
+  done_and_left = append_assoc so_far.done more.done (held' ++ left)
+      ∙ ap (λ l. so_far.done ++ l) (sym (append_assoc more.done held' left) ∙ ap (λ l. l ++ left) more.done_and_left)
+      ∙ so_far.done_and_left;
 }
 
 pub put_all : (a b c : Option (List ℕ)) (part whole : List ℕ) → PutsSoFar a b part whole → Puts b c part → Puts a c whole
@@ -84,17 +92,3 @@ on_ok_weaker (Err e) P Q f p = tt
 pub on_err_weaker : {T E : Type 0} (r : Result T E) (P Q : Type 0) → (P → Q) → OnErr r P → OnErr r Q
 on_err_weaker (Ok x) P Q f p = tt
 on_err_weaker (Err e) P Q f p = f p
-
--- a text that a call put behind another
-pub on_ok_behind : {T E : Type 0} (r : Result T E) (a b c : Option (List ℕ)) (xs ys : List ℕ) → Puts a b xs → OnOk r (Puts b c ys) → OnOk r (Puts a c (xs ++ ys))
-on_ok_behind r a b c xs ys p = on_ok_weaker r (Puts b c ys) (Puts a c (xs ++ ys)) (Puts-append a b c xs ys p)
-
-pub on_err_behind : {T E : Type 0} (r : Result T E) (a b c : Option (List ℕ)) (xs ys : List ℕ) → Puts a b xs → OnErr r (PutsPrefix b c ys) → OnErr r (PutsPrefix a c (xs ++ ys))
-on_err_behind r a b c xs ys p = on_err_weaker r (PutsPrefix b c ys) (PutsPrefix a c (xs ++ ys)) (prefix_behind a b c xs ys p)
-
--- ---- counts of faults
-
--- a count that rises later has risen from before
-pub risen_before : (a b c : ℕ) → a ≤ b → HasRisen b c → HasRisen a c
-risen_before a b c least (inl rises) = inl (omega arith)
-risen_before a b c least (inr last) = inr last

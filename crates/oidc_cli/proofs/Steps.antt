@@ -104,22 +104,6 @@ rest_at_fault client pending n event all other fault here =
     ∙ ap (λ l. rest_from client pending (Some n) (login_events client (map event_of l))) (lines_before-here n all)
     ∙ ap (λ l. l ++ fault_line n) (sym (no_lines client pending event other))
 
--- whatever the next event is, its lines come first
-by_step : (client : SeenScriptClient) (pending : Pending) (n : ℕ) (event : Option Event) (all : List (List ℕ)) (line : List ℕ) (later : List (List ℕ))
-    → all ≡ line ∷ later → event ≡ event_of line → (fault : Option ℕ) → fault_from n all ≡ fault
-    → (step : Bool) → is_step event ≡ step
-    → (behind : List ℕ) × (rest_of_report client pending n all fault ≡ event_lines client pending event ++ behind)
-by_step client pending n event all line later cut read fault first true step =
-    (rest_of_report client (store_after client pending event) (n + 1) later fault, first_step client pending n event all line later cut read step fault first)
-by_step client pending n event all line later cut read fault first false other =
-    (rest_of_report client pending n all fault, ap (λ l. l ++ rest_of_report client pending n all fault) (sym (no_lines client pending event other)))
-
-pub step_first : (client : SeenScriptClient) (pending : Pending) (n : ℕ) (event : Option Event) (all : List (List ℕ)) (line : List ℕ) (later : List (List ℕ))
-    → all ≡ line ∷ later → event ≡ event_of line → (fault : Option ℕ) → fault_from n all ≡ fault
-    → (behind : List ℕ) × (rest_of_report client pending n all fault ≡ event_lines client pending event ++ behind)
-step_first client pending n event all line later cut read fault first =
-    by_step client pending n event all line later cut read fault first (is_step event) refl
-
 pub same_rest : (client client' : SeenScriptClient) (pending pending' : Pending) (n : ℕ) (all : List (List ℕ)) (fault : Option ℕ)
     → client' ≡ client → pending' ≡ pending → rest_of_report client pending n all fault ≡ rest_of_report client' pending' n all fault
 same_rest client client' pending pending' n all fault same left =

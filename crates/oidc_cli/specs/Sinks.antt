@@ -13,6 +13,12 @@ Puts before after bytes = after ≡ option_map (λ held. held ++ bytes) before
 abbrev pub PutsPrefix : Option (List ℕ) → Option (List ℕ) → List ℕ → Type 0
 PutsPrefix before after piece = (n : ℕ) × Puts before after (take n piece)
 
+-- of a text that is put part by part: some was put, and this is left of it
+pub record PutsSoFar (before now : Option (List ℕ)) (left whole : List ℕ) : Type 0 where
+  pub done : List ℕ
+  pub done_put : Puts before now done
+  pub done_and_left : done ++ left ≡ whole
+
 -- ---- over a writer
 
 -- what a writer is known to hold grew by some of the piece's first bytes, or none, or all

@@ -37,8 +37,10 @@ pub const NO_MEMORY: u8 = 5;
 /// that number of logins itself, runs them from end to end, and writes one line of counts. The result is the
 /// exit status.
 ///
-/// On `replay` the body reads first, to the end of the source or one byte past 67,108,864, and then writes, a line of
-/// the report at a call of the sink. No clause says in which order it reads and writes. What the clauses
+/// On `replay` the body reads first, to the end of the source or one byte past 67,108,864, and then writes, block by
+/// block: the lines of the report wait until they have 65,536 bytes behind an event, and what waits then, or with the
+/// report's last line, is one call of the sink. So on 5 lines that waited are not written. No clause says in which order
+/// it reads and writes, nor in which pieces. What the clauses
 /// say of bytes, they say of a source whose bytes are known; a sink whose bytes aren't known is not known
 /// after the call either. For want of memory the status may be 5 wherever the words are right.
 pub fn run<S: Source, O: Sink>(alloc: Global, words: &[String], source: &mut S, sink: &mut O) -> u8

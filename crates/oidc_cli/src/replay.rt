@@ -4,7 +4,7 @@ ghost use Rattle.std.specs.FinMap as finite;
 ghost use Rattle.std.specs.String.{string_bytes};
 ghost use Rattle.oidc_login.specs.Errors.{seen_reply};
 ghost use Rattle.oidc_cli.specs.Calls.{HasRisen};
-ghost use Rattle.oidc_cli.specs.Sinks.{Puts, PutsPrefix};
+ghost use Rattle.oidc_cli.specs.Sinks.{Puts, PutsPrefix, PutsSoFar};
 ghost use Rattle.oidc_cli.specs.Script.{lines, is_client, is_step, fault_from, fault_of};
 ghost use Rattle.oidc_cli.specs.Report.{HasNoFloats, request_lines, verdict_line as line_of_verdict, fault_line as line_of_fault, pending_line as line_of_pending, report};
 ghost use Rattle.oidc_cli.specs.Steps.{event_lines, store_after, rest_of_report, ending_of};
@@ -12,7 +12,7 @@ ghost use Rattle.oidc_cli.specs.Steps.{event_lines, store_after, rest_of_report,
 use crate::events::{BeginLine, CallbackLine, ClientLine, Event};
 use crate::logins::{Replied, begin, call_back, client_of};
 use crate::reading::LIMIT;
-use crate::report::{begin_line, fault_line, pending_line, request_line, verdict_line};
+use crate::report::{fault_line, pending_line, push_begin, push_request, push_verdict};
 use crate::script::{first_line, read_line};
 use crate::user::PendingLogins;
 use crate::{Failed, Sink};
@@ -79,18 +79,19 @@ fn client_line_of(event: Option<Event>) -> Option<ClientLine>
     }
 }
 
-// ---- begins
+// ---- the lines of an event
 
-// The line of what a begin line gets, unless there is no memory.
-fn begun_line<'c>(
+// Runs a begin line and adds its line.
+fn push_begun<'c>(
     alloc: Global,
     client: &'c LoginClient,
     logins: &mut PendingLogins<'c>,
     line: BeginLine,
-) -> Result<String, AllocError>
+    text: &mut String,
+) -> Result<(), AllocError>
     requires same { logins.old.client ≡ client.now }
-    ensures text { let event = Some (Event.Begin line) in IfOk result (λ text.
-        string_bytes text ≡ event_lines logins.old.client logins.old.pending event) }
+    ensures lines { let event = Some (Event.Begin line) in OnOk result (string_bytes text.new
+        ≡ string_bytes text.old ++ event_lines logins.old.client logins.old.pending event) }
     ensures client { logins.new.client ≡ logins.old.client }
     ensures store { OnOk result
         (logins.new.pending
@@ -98,10 +99,10 @@ fn begun_line<'c>(
 {
     let reply = begin(alloc, client, logins, line)?;
     // The URL is let go by a call on each way out.
-    match begin_line(alloc, &reply) {
-        Ok(text) => {
+    match push_begin(text, &reply) {
+        Ok(()) => {
             drop(reply);
-            Ok(text)
+            Ok(())
         }
         Err(refused) => {
             drop(reply);
@@ -110,134 +111,73 @@ fn begun_line<'c>(
     }
 }
 
-// Runs a begin line and puts its line.
-#[tactic(auto, using(crate::proofs::Passing::prefix_none))]
-fn put_begin<'c, O: Sink>(
-    alloc: Global,
-    client: &'c LoginClient,
-    logins: &mut PendingLogins<'c>,
-    line: BeginLine,
-    sink: &mut O,
-) -> Result<(), Halt>
-    requires same { logins.old.client ≡ client.now }
-    ensures whole { OnOk result
-        (Puts (O.written sink.old) (O.written sink.new)
-        (event_lines logins.old.client logins.old.pending (Some (Event.Begin line)))) }
-    ensures begun { OnErr result
-        (PutsPrefix (O.written sink.old) (O.written sink.new)
-        (event_lines logins.old.client logins.old.pending (Some (Event.Begin line)))) }
-    ensures client { logins.new.client ≡ logins.old.client }
-    ensures store { OnOk result
-        (logins.new.pending
-        ≡ store_after logins.old.client logins.old.pending (Some (Event.Begin line))) }
-    ensures blamed { IsErrOf result Halt.Sink → HasRisen (O.faults sink.old) (O.faults sink.new) }
-    ensures counts { O.faults sink.old ≤ O.faults sink.new }
-{
-    let text = begun_line(alloc, client, logins, line)?;
-    sink.put(text.as_str().as_bytes())?;
-    Ok(())
-}
-
-// ---- callbacks
-
-// Puts the lines of requests.
-#[tactic(auto, using(crate::proofs::Passing::begun))]
-fn put_requests<O: Sink>(alloc: Global, requests: &[HttpRequest], sink: &mut O) -> Result<(), Halt>
-    ensures whole { OnOk result
-        (Puts (O.written sink.old) (O.written sink.new) (request_lines requests.now)) }
-    ensures begun { OnErr result
-        (PutsPrefix (O.written sink.old) (O.written sink.new) (request_lines requests.now)) }
-    ensures blamed { IsErrOf result Halt.Sink → HasRisen (O.faults sink.old) (O.faults sink.new) }
-    ensures counts { O.faults sink.old ≤ O.faults sink.new }
+// Adds the lines of requests.
+fn push_requests(requests: &[HttpRequest], text: &mut String) -> Result<(), AllocError>
+    ensures { OnOk result (string_bytes text.new
+        ≡ string_bytes text.old ++ request_lines requests.now) }
 {
     for request in requests {
-        let text = request_line(alloc, request)?;
-        sink.put(text.as_str().as_bytes())?;
+        push_request(text, request)?;
     }
     Ok(())
 }
 
-// Puts the lines of a callback, whose claims hold no float.
-fn put_replied<O: Sink>(alloc: Global, replied: &Replied, sink: &mut O) -> Result<(), Halt>
-    ensures whole { let reply = seen_reply replied.now.reply in
-        HasNoFloats reply → OnOk result
-        (Puts (O.written sink.old) (O.written sink.new)
-        (request_lines replied.now.http.requests ++ line_of_verdict reply)) }
-    ensures begun { let reply = seen_reply replied.now.reply in
-        HasNoFloats reply → OnErr result
-        (PutsPrefix (O.written sink.old) (O.written sink.new)
-        (request_lines replied.now.http.requests ++ line_of_verdict reply)) }
-    ensures blamed { IsErrOf result Halt.Sink → HasRisen (O.faults sink.old) (O.faults sink.new) }
-    ensures counts { O.faults sink.old ≤ O.faults sink.new }
+// Adds the lines of a callback, whose claims hold no float.
+fn push_replied(alloc: Global, replied: &Replied, text: &mut String) -> Result<(), AllocError>
+    ensures { let reply = seen_reply replied.now.reply in
+        HasNoFloats reply → OnOk result (string_bytes text.new ≡ string_bytes text.old
+        ++ (request_lines replied.now.http.requests ++ line_of_verdict reply)) }
 {
-    put_requests(alloc, replied.http.requests(), sink)?;
-    let text = verdict_line(alloc, &replied.reply)?;
-    sink.put(text.as_str().as_bytes())?;
-    Ok(())
+    push_requests(replied.http.requests(), text)?;
+    push_verdict(text, alloc, &replied.reply)
 }
 
-// Runs a callback line and puts its lines.
-#[tactic(auto, using(crate::proofs::Passing::prefix_none))]
-fn put_callback<O: Sink>(
+// Runs a callback line and adds its lines.
+fn push_called(
     alloc: Global,
     logins: &mut PendingLogins<'_>,
     line: CallbackLine,
-    sink: &mut O,
-) -> Result<(), Halt>
-    ensures whole { OnOk result
-        (Puts (O.written sink.old) (O.written sink.new)
-        (event_lines logins.old.client logins.old.pending (Some (Event.Callback line)))) }
-    ensures begun { OnErr result
-        (PutsPrefix (O.written sink.old) (O.written sink.new)
-        (event_lines logins.old.client logins.old.pending (Some (Event.Callback line)))) }
+    text: &mut String,
+) -> Result<(), AllocError>
+    ensures lines { let event = Some (Event.Callback line) in OnOk result (string_bytes text.new
+        ≡ string_bytes text.old ++ event_lines logins.old.client logins.old.pending event) }
     ensures client { logins.new.client ≡ logins.old.client }
     ensures store { OnOk result
         (logins.new.pending
         ≡ store_after logins.old.client logins.old.pending (Some (Event.Callback line))) }
-    ensures blamed { IsErrOf result Halt.Sink → HasRisen (O.faults sink.old) (O.faults sink.new) }
-    ensures counts { O.faults sink.old ≤ O.faults sink.new }
 {
     // What came is large: it is let go once, by a call, and not on each way out.
     let Ok(replied) = call_back(alloc, logins, line) else {
-        return Err(Halt::Memory);
+        return Err(AllocError);
     };
-    let put = put_replied(alloc, &replied, sink);
+    let pushed = push_replied(alloc, &replied, text);
     drop(replied);
-    put
+    pushed
 }
 
-// ---- the report
-
-// Runs a begin or a callback and puts its lines. The result is whether the event is one.
-#[tactic(auto, using(crate::proofs::Passing::puts_nothing))]
-fn put_step<'c, O: Sink>(
+// Runs a begin or a callback and adds its lines. The result is whether the event is one.
+fn push_step<'c>(
     alloc: Global,
     client: &'c LoginClient,
     logins: &mut PendingLogins<'c>,
     event: Option<Event>,
-    sink: &mut O,
-) -> Result<bool, Halt>
+    text: &mut String,
+) -> Result<bool, AllocError>
     requires same { logins.old.client ≡ client.now }
     ensures placed { IfOk result (λ placed. placed ≡ is_step event) }
-    ensures whole { OnOk result
-        (Puts (O.written sink.old) (O.written sink.new)
-        (event_lines logins.old.client logins.old.pending event)) }
-    ensures begun { OnErr result
-        (PutsPrefix (O.written sink.old) (O.written sink.new)
-        (event_lines logins.old.client logins.old.pending event)) }
+    ensures lines { OnOk result (string_bytes text.new
+        ≡ string_bytes text.old ++ event_lines logins.old.client logins.old.pending event) }
     ensures client { logins.new.client ≡ logins.old.client }
     ensures store { OnOk result
         (logins.new.pending ≡ store_after logins.old.client logins.old.pending event) }
-    ensures blamed { IsErrOf result Halt.Sink → HasRisen (O.faults sink.old) (O.faults sink.new) }
-    ensures counts { O.faults sink.old ≤ O.faults sink.new }
 {
     match event {
         Some(Event::Begin(line)) => {
-            put_begin(alloc, client, logins, line, sink)?;
+            push_begun(alloc, client, logins, line, text)?;
             Ok(true)
         }
         Some(Event::Callback(line)) => {
-            put_callback(alloc, logins, line, sink)?;
+            push_called(alloc, logins, line, text)?;
             Ok(true)
         }
         Some(Event::Client(line)) => {
@@ -246,6 +186,44 @@ fn put_step<'c, O: Sink>(
         }
         None => Ok(false),
     }
+}
+
+// ---- the report
+
+// How many bytes of a report are put at once, at least, but for its end.
+const BLOCK: usize = 65_536;
+
+// Puts a text that fills a block, which is empty then, and its room is used again.
+#[tactic(auto, using(crate::proofs::Passing::begun))]
+fn put_block<O: Sink>(text: &mut String, sink: &mut O) -> Result<(), Halt>
+    ensures part { OnOk result (PutsSoFar (O.written sink.old) (O.written sink.new)
+        (string_bytes text.new) (string_bytes text.old)) }
+    ensures begun { OnErr result
+        (PutsPrefix (O.written sink.old) (O.written sink.new) (string_bytes text.old)) }
+    ensures blamed { IsErrOf result Halt.Sink → HasRisen (O.faults sink.old) (O.faults sink.new) }
+    ensures counts { O.faults sink.old ≤ O.faults sink.new }
+{
+    if text.len() < BLOCK {
+        return Ok(());
+    }
+    sink.put(text.as_str().as_bytes())?;
+    text.clear();
+    Ok(())
+}
+
+// Puts a text and its last line.
+#[tactic(auto, using(crate::proofs::Passing::prefix_none))]
+fn put_end<O: Sink>(text: &mut String, last: &str, sink: &mut O) -> Result<(), Halt>
+    ensures whole { OnOk result (Puts (O.written sink.old) (O.written sink.new)
+        (string_bytes text.old ++ last.now)) }
+    ensures begun { OnErr result (PutsPrefix (O.written sink.old) (O.written sink.new)
+        (string_bytes text.old ++ last.now)) }
+    ensures blamed { IsErrOf result Halt.Sink → HasRisen (O.faults sink.old) (O.faults sink.new) }
+    ensures counts { O.faults sink.old ≤ O.faults sink.new }
+{
+    text.push_str(last)?;
+    sink.put(text.as_str().as_bytes())?;
+    Ok(())
 }
 
 // Puts a line.
@@ -259,7 +237,7 @@ pub(crate) fn put_line<O: Sink>(line: &str, sink: &mut O) -> Result<(), Halt>
     Ok(())
 }
 
-// Puts the line of the script's first fault.
+// Puts the line of the script's first fault, where it has no line before it.
 #[tactic(auto, using(crate::proofs::Passing::prefix_none))]
 fn put_fault<O: Sink>(alloc: Global, number: usize, sink: &mut O) -> Result<Ending, Halt>
     ensures ending { IfOk result (λ ending. ending ≡ Ending.Fault) }
@@ -275,33 +253,55 @@ fn put_fault<O: Sink>(alloc: Global, number: usize, sink: &mut O) -> Result<Endi
     Ok(Ending::Fault)
 }
 
-// Puts the line of the pending logins.
+// Puts a text and the line of the script's first fault.
+#[tactic(auto, using(crate::proofs::Passing::prefix_none))]
+fn put_fault_behind<O: Sink>(
+    alloc: Global,
+    text: &mut String,
+    number: usize,
+    sink: &mut O,
+) -> Result<Ending, Halt>
+    ensures ending { IfOk result (λ ending. ending ≡ Ending.Fault) }
+    ensures whole { OnOk result (Puts (O.written sink.old) (O.written sink.new)
+        (string_bytes text.old ++ line_of_fault number)) }
+    ensures begun { OnErr result (PutsPrefix (O.written sink.old) (O.written sink.new)
+        (string_bytes text.old ++ line_of_fault number)) }
+    ensures blamed { IsErrOf result Halt.Sink → HasRisen (O.faults sink.old) (O.faults sink.new) }
+    ensures counts { O.faults sink.old ≤ O.faults sink.new }
+{
+    let line = fault_line(alloc, number)?;
+    put_end(text, line.as_str(), sink)?;
+    Ok(Ending::Fault)
+}
+
+// Puts a text and the line of the pending logins.
 #[tactic(auto, using(crate::proofs::Passing::prefix_none))]
 fn put_pending<O: Sink>(
     alloc: Global,
+    text: &mut String,
     logins: &PendingLogins<'_>,
     sink: &mut O,
 ) -> Result<Ending, Halt>
     ensures ending { IfOk result (λ ending. ending ≡ Ending.Pending) }
-    ensures whole { OnOk result
-        (Puts (O.written sink.old) (O.written sink.new) (line_of_pending logins.now.pending)) }
-    ensures begun { OnErr result
-        (PutsPrefix (O.written sink.old) (O.written sink.new)
-        (line_of_pending logins.now.pending)) }
+    ensures whole { OnOk result (Puts (O.written sink.old) (O.written sink.new)
+        (string_bytes text.old ++ line_of_pending logins.now.pending)) }
+    ensures begun { OnErr result (PutsPrefix (O.written sink.old) (O.written sink.new)
+        (string_bytes text.old ++ line_of_pending logins.now.pending)) }
     ensures blamed { IsErrOf result Halt.Sink → HasRisen (O.faults sink.old) (O.faults sink.new) }
     ensures counts { O.faults sink.old ≤ O.faults sink.new }
 {
     let line = pending_line(alloc, logins.pending())?;
-    put_line(line.as_str(), sink)?;
+    put_end(text, line.as_str(), sink)?;
     Ok(Ending::Pending)
 }
 
-// Puts the report of the lines behind the client line, over the logins of that client.
+// Puts a text and the report of the lines behind the client line, over the logins of that client, block by block.
 fn put_lines<'c, O: Sink>(
     alloc: Global,
     client: &'c LoginClient,
     logins: &mut PendingLogins<'c>,
     script: &[u8],
+    text: &mut String,
     sink: &mut O,
 ) -> Result<Ending, Halt>
     requires same { logins.old.client ≡ client.now }
@@ -309,12 +309,12 @@ fn put_lines<'c, O: Sink>(
         (λ ending. ending ≡ ending_of (fault_from 2 (lines script.now))) }
     ensures whole { OnOk result
         (Puts (O.written sink.old) (O.written sink.new)
-        (let all = lines script.now in
-        rest_of_report logins.old.client logins.old.pending 2 all (fault_from 2 all))) }
+        (let all = lines script.now in string_bytes text.old
+        ++ rest_of_report logins.old.client logins.old.pending 2 all (fault_from 2 all))) }
     ensures begun { OnErr result
         (PutsPrefix (O.written sink.old) (O.written sink.new)
-        (let all = lines script.now in
-        rest_of_report logins.old.client logins.old.pending 2 all (fault_from 2 all))) }
+        (let all = lines script.now in string_bytes text.old
+        ++ rest_of_report logins.old.client logins.old.pending 2 all (fault_from 2 all))) }
     ensures blamed { IsErrOf result Halt.Sink → HasRisen (O.faults sink.old) (O.faults sink.new) }
     ensures counts { O.faults sink.old ≤ O.faults sink.new }
 {
@@ -322,13 +322,14 @@ fn put_lines<'c, O: Sink>(
     let mut left = script;
     while let Some((line, rest)) = first_line(left) {
         let event = read_line(alloc, line)?;
-        if !put_step(alloc, client, logins, event, sink)? {
-            return put_fault(alloc, number, sink);
+        if !push_step(alloc, client, logins, event, text)? {
+            return put_fault_behind(alloc, text, number, sink);
         }
+        put_block(text, sink)?;
         number += 1;
         left = rest;
     }
-    put_pending(alloc, logins, sink)
+    put_pending(alloc, text, logins, sink)
 }
 
 // The same, from no pending logins.
@@ -336,6 +337,7 @@ fn put_steps<O: Sink>(
     alloc: Global,
     client: &LoginClient,
     script: &[u8],
+    text: &mut String,
     sink: &mut O,
 ) -> Result<Ending, Halt>
     requires endpoint { IsSome client.now.token_uri }
@@ -343,24 +345,25 @@ fn put_steps<O: Sink>(
         (λ ending. ending ≡ ending_of (fault_from 2 (lines script.now))) }
     ensures whole { OnOk result
         (Puts (O.written sink.old) (O.written sink.new)
-        (let all = lines script.now in
-        rest_of_report client.now finite.empty 2 all (fault_from 2 all))) }
+        (let all = lines script.now in string_bytes text.old
+        ++ rest_of_report client.now finite.empty 2 all (fault_from 2 all))) }
     ensures begun { OnErr result
         (PutsPrefix (O.written sink.old) (O.written sink.new)
-        (let all = lines script.now in
-        rest_of_report client.now finite.empty 2 all (fault_from 2 all))) }
+        (let all = lines script.now in string_bytes text.old
+        ++ rest_of_report client.now finite.empty 2 all (fault_from 2 all))) }
     ensures blamed { IsErrOf result Halt.Sink → HasRisen (O.faults sink.old) (O.faults sink.new) }
     ensures counts { O.faults sink.old ≤ O.faults sink.new }
 {
     let Ok(mut logins) = Logins::new(alloc, client) else {
         unreachable!()
     };
-    let put = put_lines(alloc, client, &mut logins, script, sink);
+    let put = put_lines(alloc, client, &mut logins, script, text, sink);
     drop(logins);
     put
 }
 
 // Puts the line of a client, and the report of the lines behind it.
+#[tactic(auto, using(crate::proofs::Passing::prefix_none))]
 fn put_client<O: Sink>(
     alloc: Global,
     client: &LoginClient,
@@ -381,8 +384,8 @@ fn put_client<O: Sink>(
     ensures blamed { IsErrOf result Halt.Sink → HasRisen (O.faults sink.old) (O.faults sink.new) }
     ensures counts { O.faults sink.old ≤ O.faults sink.new }
 {
-    put_line("client ok\n", sink)?;
-    put_steps(alloc, client, script, sink)
+    let mut text = String::from_str(alloc, "client ok\n")?;
+    put_steps(alloc, client, script, &mut text, sink)
 }
 
 /// Runs a script and puts its report.

@@ -12,7 +12,7 @@ ghost use Rattle.oidc_user_info.specs.InfoErrors.{seen_refusal as seen_info};
 ghost use Rattle.oidc_login.specs.Errors.{seen_reply};
 ghost use Rattle.oidc_cli.specs.Types as types;
 ghost use Rattle.oidc_cli.specs.Report as spec;
-ghost use Rattle.oidc_cli.specs.Report.{refresh_pair, user_info_pair, HasNoFloats, header_pair, body_pair, begin_line as line_of_begin, request_line as line_of_request, signature_word as word_of_signature, claims_word as word_of_claims, verdict_line as line_of_verdict, fault_line as line_of_fault};
+ghost use Rattle.oidc_cli.specs.Report.{refresh_pair, user_info_pair, HasNoFloats, header_pair, body_pair, line_of, begin_line, request_line, signature_word as word_of_signature, claims_word as word_of_claims, verdict_line as line_of_verdict, fault_line as line_of_fault};
 ghost use Rattle.oidc_cli.specs.Steps.{behind};
 
 use crate::user::{User, UserClaims, UserInfo};
@@ -83,66 +83,92 @@ fn push_body(text: &mut String, request: &HttpRequest) -> Result<(), AllocError>
 
 // ---- lines
 
-// How many bytes a line has room for at once. Most lines of logins have fewer.
-const ROOM: usize = 1_024;
-
-// The beginning of a line that may be long.
-fn begun_with(alloc: Global, words: &str) -> Result<String, AllocError>
-    ensures ok { IfOk result (λ text. string_bytes text ≡ words.now) }
+// Adds words.
+fn push_words(text: &mut String, words: &str) -> Result<(), AllocError>
+    ensures { OnOk result (string_bytes text.new ≡ string_bytes text.old ++ words.now) }
 {
-    let mut text = String::with_capacity(alloc, ROOM)?;
     text.push_str(words)?;
-    Ok(text)
+    Ok(())
 }
 
-/// The line of what a begin answered. For want of memory there is none.
+// Adds a line of two parts.
+fn push_line(text: &mut String, words: &str, word: &str) -> Result<(), AllocError>
+    ensures { OnOk result (string_bytes text.new
+        ≡ string_bytes text.old ++ line_of (words.now ++ word.now)) }
+{
+    text.push_str(words)?;
+    text.push_str(word)?;
+    text.push_str("\n")?;
+    Ok(())
+}
+
+/// Adds the line of what a begin answered. For want of memory there is none.
 #[tactic(auto, unfolding(crate::specs::Report::begin_line))]
-pub fn begin_line(alloc: Global, reply: &Result<Url, BeginError>) -> Result<String, AllocError>
-    ensures line { IfOk result (λ text. string_bytes text ≡ line_of_begin reply.now) }
+pub fn push_begin(text: &mut String, reply: &Result<Url, BeginError>) -> Result<(), AllocError>
+    ensures line { OnOk result (string_bytes text.new
+        ≡ string_bytes text.old ++ begin_line reply.now) }
     ensures memory { reply.now ≡ Err BeginError.Memory → IsErr result }
 {
     match reply {
-        Ok(url) => begin_ok_line(alloc, url),
-        Err(BeginError::Flow) => String::from_str(alloc, "begin refused flow\n"),
-        Err(BeginError::ClientId) => String::from_str(alloc, "begin refused client_id\n"),
-        Err(BeginError::Verifier) => String::from_str(alloc, "begin refused verifier\n"),
-        Err(BeginError::UserInfoEndpoint) => {
-            String::from_str(alloc, "begin refused user_info_endpoint\n")
-        }
-        Err(BeginError::Pending) => String::from_str(alloc, "begin refused pending\n"),
-        Err(BeginError::TooLong) => String::from_str(alloc, "begin refused too_long\n"),
+        Ok(url) => push_line(text, "begin ok ", url.as_str()),
+        Err(BeginError::Flow) => text.push_str("begin refused flow\n"),
+        Err(BeginError::ClientId) => text.push_str("begin refused client_id\n"),
+        Err(BeginError::Verifier) => text.push_str("begin refused verifier\n"),
+        Err(BeginError::UserInfoEndpoint) => text.push_str("begin refused user_info_endpoint\n"),
+        Err(BeginError::Pending) => text.push_str("begin refused pending\n"),
+        Err(BeginError::TooLong) => text.push_str("begin refused too_long\n"),
         Err(BeginError::Memory) => Err(AllocError),
     }
 }
 
-#[tactic(auto, unfolding(crate::specs::Report::begin_line))]
-fn begin_ok_line(alloc: Global, url: &Url) -> Result<String, AllocError>
-    ensures { IfOk result (λ text. string_bytes text ≡ line_of_begin (Ok url.now)) }
-{
-    let mut text = begun_with(alloc, "begin ok ")?;
-    text.push_str(url.as_str())?;
-    text.push_str("\n")?;
-    Ok(text)
-}
-
-/// The line of a request that was sent.
-pub fn request_line(alloc: Global, request: &HttpRequest) -> Result<String, AllocError>
-    ensures { IfOk result (λ text. string_bytes text ≡ line_of_request request.now) }
+/// Adds the line of a request that was sent.
+pub fn push_request(text: &mut String, request: &HttpRequest) -> Result<(), AllocError>
+    ensures { OnOk result (string_bytes text.new
+        ≡ string_bytes text.old ++ request_line request.now) }
 {
     let headers = request.headers();
-    let mut text = begun_with(alloc, "request ")?;
-    push_first(&mut text, "method", request.method().as_str().as_bytes())?;
-    push_behind(&mut text, "address", request.address().as_bytes())?;
-    push_header(&mut text, "accept", headers.get("accept"))?;
-    push_header(&mut text, "content_type", headers.get("content-type"))?;
-    push_header(&mut text, "authorization", headers.get("authorization"))?;
-    push_body(&mut text, request)?;
+    text.push_str("request ")?;
+    push_first(text, "method", request.method().as_str().as_bytes())?;
+    push_behind(text, "address", request.address().as_bytes())?;
+    push_header(text, "accept", headers.get("accept"))?;
+    push_header(text, "content_type", headers.get("content-type"))?;
+    push_header(text, "authorization", headers.get("authorization"))?;
+    push_body(text, request)?;
     text.push_str("\n")?;
-    Ok(text)
+    Ok(())
+}
+
+/// Adds the line of a callback's verdict, whose claims hold no float. For want of memory there is none.
+#[tactic(auto, unfolding(crate::specs::Report::verdict_line))]
+pub fn push_verdict(
+    text: &mut String,
+    alloc: Global,
+    reply: &Result<User, LoginError<Fault>>,
+) -> Result<(), AllocError>
+    ensures line { HasNoFloats (seen_reply reply.now) → OnOk result (string_bytes text.new
+        ≡ string_bytes text.old ++ line_of_verdict (seen_reply reply.now)) }
+    ensures memory { (spent : Bool) → reply.now ≡ Err (LoginError.Memory spent) → IsErr result }
+{
+    match reply {
+        Ok(signed) => push_signed(text, alloc, signed),
+        Err(LoginError::TooLong(place)) => push_too_long(text, *place),
+        Err(LoginError::State) => push_words(text, "callback refused state\n"),
+        Err(LoginError::Provider(code)) => push_provider(text, code),
+        Err(LoginError::Callback) => push_words(text, "callback refused callback\n"),
+        Err(LoginError::Token(error)) => push_token(text, error),
+        Err(LoginError::NoIdToken) => push_words(text, "callback refused no_id_token\n"),
+        Err(LoginError::Claims(kind)) => push_refused_claims(text, *kind),
+        Err(LoginError::Signing(_)) => push_words(
+            text,
+            "callback refused signing unsupported_alg\n",
+        ),
+        Err(LoginError::TokenHash) => push_words(text, "callback refused token_hash\n"),
+        Err(LoginError::UserInfo(error)) => push_info(text, error),
+        Err(LoginError::Memory { .. }) => Err(AllocError),
+    }
 }
 
 /// The line of a callback's verdict, whose claims hold no float. For want of memory there is none.
-#[tactic(auto, unfolding(crate::specs::Report::verdict_line))]
 pub fn verdict_line(
     alloc: Global,
     reply: &Result<User, LoginError<Fault>>,
@@ -151,22 +177,9 @@ pub fn verdict_line(
         → IfOk result (λ text. string_bytes text ≡ line_of_verdict (seen_reply reply.now)) }
     ensures memory { (spent : Bool) → reply.now ≡ Err (LoginError.Memory spent) → IsErr result }
 {
-    match reply {
-        Ok(signed) => signed_line(alloc, signed),
-        Err(LoginError::TooLong(place)) => too_long_line(alloc, *place),
-        Err(LoginError::State) => String::from_str(alloc, "callback refused state\n"),
-        Err(LoginError::Provider(code)) => provider_line(alloc, code),
-        Err(LoginError::Callback) => String::from_str(alloc, "callback refused callback\n"),
-        Err(LoginError::Token(error)) => token_line(alloc, error),
-        Err(LoginError::NoIdToken) => String::from_str(alloc, "callback refused no_id_token\n"),
-        Err(LoginError::Claims(kind)) => claims_line(alloc, *kind),
-        Err(LoginError::Signing(_)) => {
-            String::from_str(alloc, "callback refused signing unsupported_alg\n")
-        }
-        Err(LoginError::TokenHash) => String::from_str(alloc, "callback refused token_hash\n"),
-        Err(LoginError::UserInfo(error)) => user_info_line(alloc, error),
-        Err(LoginError::Memory { .. }) => Err(AllocError),
-    }
+    let mut text = String::new(alloc);
+    push_verdict(&mut text, alloc, reply)?;
+    Ok(text)
 }
 
 // ---- a user who is signed in
@@ -220,22 +233,22 @@ fn push_user_info(
     }
 }
 
-fn signed_line(alloc: Global, signed: &User) -> Result<String, AllocError>
-    ensures { HasNoFloats (Ok signed.now)
-        → IfOk result (λ text. string_bytes text ≡ line_of_verdict (Ok signed.now)) }
+fn push_signed(text: &mut String, alloc: Global, signed: &User) -> Result<(), AllocError>
+    ensures { HasNoFloats (Ok signed.now) → OnOk result (string_bytes text.new
+        ≡ string_bytes text.old ++ line_of_verdict (Ok signed.now)) }
 {
     let claims = claims_text(alloc, signed.claims())?;
-    let mut text = begun_with(alloc, "callback ok ")?;
+    text.push_str("callback ok ")?;
     push_first(
-        &mut text,
+        text,
         "access_token",
         signed.access_token().secret().as_bytes(),
     )?;
-    push_refresh(&mut text, signed.refresh_token())?;
-    push_behind(&mut text, "claims", claims.as_slice())?;
-    push_user_info(&mut text, alloc, signed.user_info())?;
+    push_refresh(text, signed.refresh_token())?;
+    push_behind(text, "claims", claims.as_slice())?;
+    push_user_info(text, alloc, signed.user_info())?;
     text.push_str("\n")?;
-    Ok(text)
+    Ok(())
 }
 
 // ---- refusals
@@ -251,36 +264,41 @@ fn place_word(place: TooLong) -> &'static str
 }
 
 #[tactic(auto, unfolding(crate::specs::Report::verdict_line))]
-fn too_long_line(alloc: Global, place: TooLong) -> Result<String, AllocError>
-    ensures { IfOk result
-        (λ text. string_bytes text ≡ line_of_verdict (Err (LoginError.TooLong place))) }
+fn push_too_long(text: &mut String, place: TooLong) -> Result<(), AllocError>
+    ensures { OnOk result (string_bytes text.new
+        ≡ string_bytes text.old ++ line_of_verdict (Err (LoginError.TooLong place))) }
 {
-    let mut text = String::from_str(alloc, "callback refused too_long ")?;
-    text.push_str(place_word(place))?;
-    text.push_str("\n")?;
-    Ok(text)
+    push_line(text, "callback refused too_long ", place_word(place))
 }
 
 #[tactic(auto, unfolding(crate::specs::Report::verdict_line))]
-fn provider_line(alloc: Global, code: &CoreAuthErrorResponseType) -> Result<String, AllocError>
-    ensures { IfOk result
-        (λ text. string_bytes text ≡ line_of_verdict (Err (LoginError.Provider code.now))) }
+fn push_refused_claims(text: &mut String, kind: ClaimsVerificationError) -> Result<(), AllocError>
+    ensures { OnOk result (string_bytes text.new
+        ≡ string_bytes text.old ++ line_of_verdict (Err (LoginError.Claims kind))) }
 {
-    let mut text = String::from_str(alloc, "callback refused provider ")?;
-    push_escaped(&mut text, code.as_ref().as_bytes())?;
-    text.push_str("\n")?;
-    Ok(text)
+    push_line(text, "callback refused claims ", claims_word(kind))
 }
 
 #[tactic(auto, unfolding(crate::specs::Report::verdict_line))]
-fn token_line(alloc: Global, error: &CoreRequestTokenError<Fault>) -> Result<String, AllocError>
-    ensures { let refusal = LoginError.Token (seen_refusal error.now) in
-        IfOk result (λ text. string_bytes text ≡ line_of_verdict (Err refusal)) }
+fn push_provider(text: &mut String, code: &CoreAuthErrorResponseType) -> Result<(), AllocError>
+    ensures { OnOk result (string_bytes text.new
+        ≡ string_bytes text.old ++ line_of_verdict (Err (LoginError.Provider code.now))) }
 {
-    let mut text = String::from_str(alloc, "callback refused token ")?;
-    push_token_words(&mut text, error)?;
+    text.push_str("callback refused provider ")?;
+    push_escaped(text, code.as_ref().as_bytes())?;
     text.push_str("\n")?;
-    Ok(text)
+    Ok(())
+}
+
+#[tactic(auto, unfolding(crate::specs::Report::verdict_line))]
+fn push_token(text: &mut String, error: &CoreRequestTokenError<Fault>) -> Result<(), AllocError>
+    ensures { let refusal = LoginError.Token (seen_refusal error.now) in OnOk result
+        (string_bytes text.new ≡ string_bytes text.old ++ line_of_verdict (Err refusal)) }
+{
+    text.push_str("callback refused token ")?;
+    push_token_words(text, error)?;
+    text.push_str("\n")?;
+    Ok(())
 }
 
 // Adds the words for the refusal of a token request.
@@ -344,25 +362,14 @@ fn kind_word(kind: ParseKind) -> &'static str
 }
 
 #[tactic(auto, unfolding(crate::specs::Report::verdict_line))]
-fn claims_line(alloc: Global, kind: ClaimsVerificationError) -> Result<String, AllocError>
-    ensures { IfOk result
-        (λ text. string_bytes text ≡ line_of_verdict (Err (LoginError.Claims kind))) }
+fn push_info(text: &mut String, error: &UserInfoError<Fault>) -> Result<(), AllocError>
+    ensures { let refusal = LoginError.UserInfo (seen_info error.now) in OnOk result
+        (string_bytes text.new ≡ string_bytes text.old ++ line_of_verdict (Err refusal)) }
 {
-    let mut text = String::from_str(alloc, "callback refused claims ")?;
-    text.push_str(claims_word(kind))?;
+    text.push_str("callback refused user_info ")?;
+    push_info_words(text, error)?;
     text.push_str("\n")?;
-    Ok(text)
-}
-
-#[tactic(auto, unfolding(crate::specs::Report::verdict_line))]
-fn user_info_line(alloc: Global, error: &UserInfoError<Fault>) -> Result<String, AllocError>
-    ensures { let refusal = LoginError.UserInfo (seen_info error.now) in
-        IfOk result (λ text. string_bytes text ≡ line_of_verdict (Err refusal)) }
-{
-    let mut text = String::from_str(alloc, "callback refused user_info ")?;
-    push_info_words(&mut text, error)?;
-    text.push_str("\n")?;
-    Ok(text)
+    Ok(())
 }
 
 // Adds the words for the refusal of user info.

@@ -2,6 +2,7 @@
 //! test's own, and scripts at their limits. Other tests of the crates below stand in `tests_below_tokens`,
 //! `tests_of_tokens` and `tests_of_logins`.
 
+mod blocks;
 mod cuts;
 mod program;
 mod toy_provider;
