@@ -107,7 +107,8 @@ def openssl_cases(keys, rng):
                 message = rng.randbytes(rng.choice((1, 3, 20, 63, 64, 111, 112, 128)))
                 signature = key.signed(alg, message)
                 yield case(key, alg, message, signature), "ok"
-                other, said, made = changed(key, alg, message, signature, turn, rng)
+                # A round has as many turns as eight times the ways to change, so each begins a way further on.
+                other, said, made = changed(key, alg, message, signature, turn + number, rng)
                 yield case(key, other, said, made), "refused crypto_error"
                 turn += 1
 
@@ -215,32 +216,39 @@ def bounds(key, rng):
     yield case(key, "RS256", message, signature, n=b"\0", e=b"\x02"), "refused modulus"
 
 
+# Files of NIST's vectors, with their schemes.
+NIST_FILES = [("SigGen15_186-2.rsp", "RS"), ("SigGen15_186-3.rsp", "RS"), ("SigVer15_186-3.rsp", "RS"),
+              ("../SigVer15EMTest.txt", "RS"), ("SigGenPSS_186-2.rsp", "PS"), ("SigGenPSS_186-3.rsp", "PS"),
+              ("SigVerPSS_186-3.rsp", "PS")]
+
+
+def nist_signatures(path):
+    """The fields of each signature, with the version of NIST's program and the length of salts from the head of the file."""
+    fields, last = {}, "Result" if "Ver" in path else "S"
+    with open(path, encoding="ascii") as lines:
+        for line in lines:
+            found = re.match(r"(?:# )?(CAVS|Salt len|\w+)(?::| =)? ?(.*?)\s*$", line)
+            if found:
+                fields[found.group(1)] = found.group(2)
+                if found.group(1) == last:
+                    yield fields
+
+
 def nist_cases(folder):
     """Of 2,048 bits and more, with SHA-256 and above. A salt of another length than the hash is refused here."""
-    for name, scheme in (("SigGen15_186-3", "RS"), ("SigVer15_186-3", "RS"), ("SigVerPSS_186-3", "PS")):
-        yield f"# RSA: NIST CAVS 11, {name}.rsp of python3-cryptography-vectors 38.0.4 (Debian), of 2,048 bits and more with SHA-256, SHA-384 and SHA-512" + (
-            "; a salt that isn't as long as the hash is refused." if scheme == "PS" else "."), None
-        n = e = None
-        fields = {}
-        with open(os.path.join(folder, name + ".rsp"), encoding="ascii") as lines:
-            rows = [re.split(" = ", line.strip(), maxsplit=1) for line in lines if " = " in line and not line.startswith(("#", "["))]
-        for place, row in enumerate(rows):
-            field, value = row[0], row[1]
-            fields[field] = value
-            ends = (field == "Result") if "Ver" in name else field == ("SaltVal" if "SigGen" in name else "Result")
-            if field == "S" and "SigGen15" in name:
-                ends = True
-            elif field == "SaltVal" and "SigGen15" in name:
-                ends = False
-            if not ends:
-                continue
-            size = fields["SHAAlg"][3:]
-            n, e = int(fields["n"], 16), int(fields["e"], 16)
+    for name, scheme in NIST_FILES:
+        found = [dict(fields) for fields in nist_signatures(os.path.join(folder, name))]
+        salt = int(found[0].get("Salt len", 0))
+        what = f"; salts of {salt} octets, which no hash has, are refused." if scheme == "PS" else "."
+        if "EM" in name:
+            what = ": the hash isn't at the end, or no 0x00 ends the padding."
+        yield (f"# RSA: NIST CAVS {found[0]['CAVS']}, {os.path.basename(name)} of python3-cryptography-vectors 38.0.4 (Debian), of 2,048 bits"
+               f" and more with SHA-256, SHA-384 and SHA-512{what}"), None
+        for fields in found:
+            size, n, e = fields["SHAAlg"][3:], int(fields["n"], 16), int(fields["e"], 16)
             if size not in HASHES or n.bit_length() < 2048:
                 continue
-            salt = len(fields.get("SaltVal", "")) // 2
-            passed = fields.get("Result", "P").startswith("P")
-            accepted = passed and (scheme == "RS" or salt == int(size) // 8)
+            accepted = fields.get("Result", "P").startswith("P") and (scheme == "RS" or salt == int(size) // 8)
             length = (n.bit_length() + 7) // 8
             octets = e.to_bytes((e.bit_length() + 7) // 8, "big")
             yield (f"op=rsa&n={n.to_bytes(length, 'big').hex()}&e={octets.hex()}&alg={scheme}{size}&message={fields['Msg']}"
