@@ -1,9 +1,9 @@
 #!/usr/bin/env python3
 """Has the second readers answer the cases of the programs of cases, and compares their answers with the expected lines.
 
-    tools/compare_cases.py           the tables of all six: `stdin` and `stdout` of crates/vectors, crates/vectors_keys,
-                                     crates/vectors_requests, crates/vectors_tokens, crates/vectors_logins and
-                                     crates/vectors_provider
+    tools/compare_cases.py           the tables of all seven: `stdin` and `stdout` of crates/vectors, crates/vectors_keys,
+                                     crates/vectors_discovery, crates/vectors_requests, crates/vectors_tokens,
+                                     crates/vectors_logins and crates/vectors_provider
     tools/compare_cases.py NAME ..   the tables of these crates
 
 It writes how many cases of each operation were compared, and each line that a reader answers otherwise, and ends with
@@ -23,6 +23,7 @@ import plain_answers
 import plain_callback
 import plain_claims
 import plain_devices
+import plain_discovery
 import plain_front
 import plain_info
 import plain_keys
@@ -46,6 +47,7 @@ def standard(line):
 READERS = {
     "vectors": {"standard": standard, **plain_answers.OPERATIONS, **plain_keys.OPERATIONS},
     "vectors_keys": plain_rsa.OPERATIONS,
+    "vectors_discovery": plain_discovery.OPERATIONS,
     "vectors_requests": plain_requests.OPERATIONS,
     "vectors_tokens": {**plain_tokens.OPERATIONS, **plain_info.OPERATIONS, **plain_urls.OPERATIONS},
     "vectors_logins": {**plain_callback.OPERATIONS, **plain_front.OPERATIONS, **plain_sessions.OPERATIONS,
@@ -73,6 +75,7 @@ ASIDE = {
         "endpoint=https://example/é&",
     ],
     "vectors_keys": [],
+    "vectors_discovery": [],
     "vectors_tokens": [
         '"iss":"https://",',
         '"iss":"https://a+b/",',
@@ -91,6 +94,7 @@ GENERATED = {
     "vectors": [lambda: ["op=standard&text=" + text for text in plain_claims.texts()],
                 plain_claims.readings],
     "vectors_keys": [],
+    "vectors_discovery": [lambda: list(plain_discovery.cases())],
     "vectors_requests": [],
     "vectors_tokens": [plain_tokens.cases, plain_info.cases, plain_urls.cases,
                        lambda: list(plain_tokens.readings()), lambda: list(plain_info.readings())],
