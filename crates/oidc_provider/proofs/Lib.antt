@@ -6,7 +6,9 @@ mod Signed
 mod ReadAgain
 mod Made
 mod Table
+mod AnswerCauses
 mod Serving
+mod Calls
 mod RowOf
 mod LoginOf
 mod Registered

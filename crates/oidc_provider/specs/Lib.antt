@@ -1,5 +1,5 @@
 -- In reading order: what a provider double is made with; its grants; the double as contracts see it; pairs of a query and of
--- a body; what `authorize` answers and why, and what it keeps; what a call answers, row by row; a login over a provider that
+-- a body; what `authorize` answers and why, and what it keeps; what a call answers, row by row, and why; a login over a provider that
 -- behaves, by the definitions, and as a site's test makes it, in two calls.
 pub mod Settings
 pub mod Grants
@@ -10,6 +10,7 @@ pub mod AuthorizationCauses
 pub mod Issuing
 pub mod Keeping
 pub mod Answers
+pub mod AnswerCauses
 pub mod Honest
 pub mod SignIn
 pub mod TwoCalls

@@ -141,6 +141,7 @@ impl<AC, GC> SyncHttpClient for Provider<AC, GC> {
     ghost use Rattle.oidc_oauth2.specs.Transport.{IsLogged, Plays, requests_in, answers_in, IsBlamed};
     ghost use Rattle.oidc_oauth2.specs.declared.transport.CallError.TheVariants.{Memory};
     ghost use Rattle.oidc_provider.specs.Answers.{provider_answer, after, log_of, served};
+    ghost use Rattle.oidc_provider.specs.AnswerCauses.{Reason, Cause, IsAnswered, HasCause};
 
     type Error = Infallible;
 
@@ -150,7 +151,7 @@ impl<AC, GC> SyncHttpClient for Provider<AC, GC> {
 
     ghost faults = { λ _. 0 };
 
-    #[tactic(auto, using(crate::proofs::Serving::served_one, crate::proofs::Serving::served_none))]
+    #[tactic(auto, using(crate::proofs::Calls::calls))]
     fn call(
         &mut self,
         alloc: Global,
@@ -169,6 +170,12 @@ impl<AC, GC> SyncHttpClient for Provider<AC, GC> {
         ensures after { OnOk result (self.new ≡ after self.old request) }
         ensures memory { IfErr result (λ error. error ≡ Memory) }
         ensures unchanged { OnErr result (self.new ≡ self.old) }
+
+        // Each answer has its cause, and each cause its answer.
+        ensures caused { IfOk result (λ response.
+            HasCause self.old request self.new (seen_response response)) }
+        ensures answers { (reason : Reason) → Cause self.old request reason
+            → IfOk result (λ response. IsAnswered self.old request reason self.new (seen_response response)) }
     {
         let Ok(reply) = self.reply_to(alloc, &request) else {
             return Err(CallError::Memory);
