@@ -1,0 +1,4 @@
+mod Addresses
+mod FirstBegin
+mod FirstHonest
+mod FirstUser
