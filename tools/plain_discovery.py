@@ -163,11 +163,17 @@ def set_of(text):
 
 SIGNING = ["HS256", "HS384", "HS512", "RS256", "RS384", "RS512", "ES256", "ES384", "ES512", "PS256", "PS384", "PS512"]
 SIGNING += ["EdDSA", "none"]
+RSA_SIGNING = [name for name in SIGNING if name[:2] in ("RS", "PS")]
+
+
+def checks_signatures(key):
+    by_use, by_algorithm = key["use"] in (None, "sig"), key["alg"] in (None, *RSA_SIGNING)
+    return by_use and by_algorithm and (key["key_ops"] is None or "verify" in key["key_ops"])
 
 
 def signing_keys_of(keys):
     """Those that check signatures."""
-    kept = [key for key in keys if key["alg"] is None or key["alg"] in SIGNING]
+    kept = [key for key in keys if checks_signatures(key)]
     for key in kept:
         modulus, exponent = int.from_bytes(key["n"], "big"), int.from_bytes(key["e"], "big")
         if key["n"][0] == 0 or not 2048 <= modulus.bit_length() <= 8192 or modulus % 2 == 0:
@@ -656,7 +662,9 @@ def key_set_cases():
     for key in [
         fit, RFC_RSA, {**fit, "alg": "none"}, {**fit, "alg": "EdDSA"}, {**fit, "alg": "RSA-OAEP"}, {**fit, "alg": ""},
         {**fit, "use": "sig"}, {**fit, "use": "enc"}, {**fit, "use": ""}, {**fit, "key_ops": ["verify", "x"]}, rsa,
-        {**rsa, "alg": "RSA-OAEP"}, {**fit, "e": "Aw"}, {**fit, "e": "AQ"}, {**fit, "e": "AA"}, {**fit, "e": "BA"},
+        {**rsa, "alg": "RSA-OAEP"}, {**rsa, "use": "enc"}, {**rsa, "key_ops": ["encrypt"]}, {**rsa, "alg": "ES256"},
+        {**fit, "use": "sig", "key_ops": ["sign", "verify"], "alg": "PS512"}, {**fit, "key_ops": []},
+        {**fit, "key_ops": ["encrypt", "wrapKey"]}, {**fit, "alg": "HS256"}, {**fit, "e": "Aw"}, {**fit, "e": "AQ"}, {**fit, "e": "AA"}, {**fit, "e": "BA"},
         {**fit, "e": "AQAAAAA"}, {**fit, "e": "_____w"}, {**fit, "e": "AQAAAAE"}, {**fit, "e": "______8"},
     ]:
         yield case("signing_keys", text=set_text(key))

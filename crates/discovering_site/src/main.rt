@@ -4,11 +4,12 @@
 //! The site's transport, its generator and its clock are its own. Here the provider is played by `Recorded`, which answers
 //! from a list, and the generator begins at a fixed number, so that the program always prints the same. The site fetches
 //! the provider's document and its keys, and two browsers begin a login. Meanwhile the provider signs by a new key: the
-//! first login is refused, since no key that the site has goes with its ID token. So the site fetches both again, and its
-//! store goes on with a client of the new keys: the second login, which was pending all the while, signs in.
+//! first login is refused, since no key that the site has goes with its ID token. So the site fetches both again, which it
+//! does at most once a minute, and its store goes on with a client of the new keys: the second login, which was pending
+//! all the while, signs in. Where nothing is fetched, or what comes isn't taken, it goes on with the keys that it has.
 #![tactic(auto)]
 
-ghost use Rattle.std.specs.Prelude.{◌≡◌, ◌∷◌, [], ◌↔◌, true, Some, IfOk, IsSome, IsTrue, OnOk};
+ghost use Rattle.std.specs.Prelude.{◌≡◌, ◌∷◌, [], ◌↔◌, pos, ◌+ℤ◌, ◌≤ℤ◌, true, Some, IfOk, IfErr, IsSome, IsTrue, OnOk};
 ghost use Rattle.oidc_types.specs.Random.{random_text};
 ghost use Rattle.oidc.specs.Pairs.{pairs};
 ghost use Rattle.oidc.specs.Errors.{is_spent_by};
@@ -208,26 +209,31 @@ fn names_unknown_key<E>(refusal: &LoginError<E>) -> bool {
     }
 }
 
-// What a site says of the reply to a callback.
-fn said<E: Drop>(alloc: Global, reply: Result<User, LoginError<E>>) -> anyhow::Result<String> {
+// What a site says of the reply to a callback, and whether the provider's keys may be new.
+fn said<E: Drop>(
+    alloc: Global,
+    reply: Result<User, LoginError<E>>,
+) -> anyhow::Result<(String, bool)> {
     match reply {
         Ok(user) => {
             let line = format!(in alloc; "{} is signed in", user.claims().subject().as_str());
             drop(user);
-            Ok(line?)
+            Ok((line?, false))
         }
         Err(refusal) => {
-            let line = if names_unknown_key(&refusal) {
+            let new_keys = names_unknown_key(&refusal);
+            drop(refusal);
+            let line = if new_keys {
                 "not signed in: the provider's keys may be new"
             } else {
                 "not signed in"
             };
-            drop(refusal);
-            text(alloc, line)
+            Ok((text(alloc, line)?, new_keys))
         }
     }
 }
 
+// A browser comes back: the answer is printed. Whether the provider's keys may be new.
 fn answer<H: SyncHttpClient<Error: Drop>>(
     rt: &impl Print,
     alloc: Global,
@@ -235,39 +241,45 @@ fn answer<H: SyncHttpClient<Error: Drop>>(
     kept: &CsrfToken,
     query: &str,
     http: &mut H,
-) -> anyhow::Result<()>
+    now: Timestamp,
+) -> anyhow::Result<bool>
     requires { H.ready http.old }
     ensures { H.ready http.new }
 {
-    let now = Timestamp::from_second(1000)?;
     let reply = come_back(alloc, logins, kept, query.as_bytes(), http, now);
-    let line = said(alloc, reply)?;
+    let (line, new_keys) = said(alloc, reply)?;
     println!(rt; "{line}")?;
-    Ok(())
+    Ok(new_keys)
 }
 
 // ---- keys that change
 
-// The same pending logins under the client of the new keys. They are gone where that is no longer the same client.
-fn under_new_keys<'d>(
-    logins: SiteLogins<'_>,
+// Whether a minute has gone by since the site last asked: anybody may hand it tokens that name made-up keys, so it asks
+// no more often.
+fn may_ask(asked: Timestamp, now: Timestamp) -> bool
+    ensures { IsTrue result ↔ ((asked.nanosecond +ℤ pos 60_000_000_000) ≤ℤ now.nanosecond) }
+{
+    asked.as_nanosecond() + 60_000_000_000 <= now.as_nanosecond()
+}
+
+// The same pending logins under the client of the new keys; where that is no longer the same client, the store as it was.
+fn under_new_keys<'c, 'd>(
+    logins: SiteLogins<'c>,
     client: &'d SiteClient,
-) -> anyhow::Result<SiteLogins<'d>>
+) -> Result<SiteLogins<'d>, SiteLogins<'c>>
     ensures pending { let pending = logins.entry.pending in
         IfOk result (λ new. new.pending ≡ pending) }
     ensures same { OnOk result (IsSameClient logins.entry.client client.now) }
+    ensures unchanged { IfErr result (λ old. old ≡ logins.entry) }
 {
     match logins.with_client(client) {
         Ok(logins) => Ok(logins),
-        Err((error, logins)) => {
-            drop(logins);
-            Err(error.into())
-        }
+        Err((_, logins)) => Err(logins),
     }
 }
 
-// The second browser comes back.
-fn go_on<H: SyncHttpClient<Error: Drop>>(
+// The second browser comes back: under the new keys, or else under those that its login began with.
+fn answer_under<H: SyncHttpClient<Error: Drop>>(
     rt: &impl Print,
     alloc: Global,
     logins: SiteLogins<'_>,
@@ -275,38 +287,40 @@ fn go_on<H: SyncHttpClient<Error: Drop>>(
     kept: &CsrfToken,
     query: &str,
     http: &mut H,
-) -> anyhow::Result<()>
+    now: Timestamp,
+) -> anyhow::Result<bool>
     requires { H.ready http.old }
     ensures { H.ready http.new }
 {
-    let mut logins = under_new_keys(logins, client)?;
-    let answered = answer(rt, alloc, &mut logins, kept, query, http);
-    drop(logins);
-    answered
+    match under_new_keys(logins, client) {
+        Ok(mut logins) => answer(rt, alloc, &mut logins, kept, query, http, now),
+        Err(mut logins) => answer(rt, alloc, &mut logins, kept, query, http, now),
+    }
 }
 
-// What the provider says of itself is fetched again. A site does so at most once a minute, since anybody may hand it
-// tokens that name made-up keys; where nothing comes it goes on with the keys that it has.
-fn change_keys<H: SyncHttpClient<Error: Drop>>(
+// What the provider says of itself is fetched again. Where nothing comes that is taken, the site goes on with the keys
+// that it has.
+fn answer_anew<H: SyncHttpClient<Error: Drop>>(
     rt: &impl Print,
     alloc: Global,
-    logins: SiteLogins<'_>,
+    mut logins: SiteLogins<'_>,
     kept: &CsrfToken,
     query: &str,
     http: &mut H,
-) -> anyhow::Result<()>
+    now: Timestamp,
+) -> anyhow::Result<bool>
     requires { H.ready http.old }
     ensures { H.ready http.new }
 {
     match fetch_client(alloc, http) {
         Ok(client) => {
-            let answered = go_on(rt, alloc, logins, &client, kept, query, http);
+            let answered = answer_under(rt, alloc, logins, &client, kept, query, http, now);
             drop(client);
             answered
         }
         Err(error) => {
-            drop(logins);
-            Err(error)
+            drop(error);
+            answer(rt, alloc, &mut logins, kept, query, http, now)
         }
     }
 }
@@ -318,7 +332,14 @@ struct Queries {
     second: String,
 }
 
-// Two browsers begin a login, and the first one comes back.
+/// When the site asked its provider, and when the browsers come back.
+#[derive(Clone, Copy)]
+struct Moments {
+    asked: Timestamp,
+    now: Timestamp,
+}
+
+// Two browsers begin a login, and come back one after another.
 fn serve<H: SyncHttpClient<Error: Drop>, R: Rng>(
     rt: &impl Print,
     alloc: Global,
@@ -326,31 +347,42 @@ fn serve<H: SyncHttpClient<Error: Drop>, R: Rng>(
     rng: &mut R,
     queries: &Queries,
     http: &mut H,
-) -> anyhow::Result<()>
+    moments: Moments,
+) -> anyhow::Result<bool>
     requires { H.ready http.old }
     ensures { H.ready http.new }
 {
+    let Moments { asked, now } = moments;
     let mut logins = Logins::new(alloc, client)?;
     let first = send(rt, alloc, client, &mut logins, rng)?;
     let second = send(rt, alloc, client, &mut logins, rng)?;
     let (query, later) = (queries.first.as_str(), queries.second.as_str());
-    answer(rt, alloc, &mut logins, &first, query, http)?;
-    change_keys(rt, alloc, logins, &second, later, http)
+    let new_keys = answer(rt, alloc, &mut logins, &first, query, http, now)?;
+    if new_keys && may_ask(asked, now) {
+        answer_anew(rt, alloc, logins, &second, later, http, now)
+    } else {
+        answer(rt, alloc, &mut logins, &second, later, http, now)
+    }
 }
 
+// The site asks at second 900, and the browsers come back at second 1000.
 fn start<H: SyncHttpClient<Error: Drop>>(
     rt: &impl Print,
     alloc: Global,
     queries: &Queries,
     http: &mut H,
-) -> anyhow::Result<()>
+) -> anyhow::Result<bool>
     requires { H.ready http.old }
     ensures { H.ready http.new }
 {
+    let moments = Moments {
+        asked: Timestamp::from_second(900)?,
+        now: Timestamp::from_second(1000)?,
+    };
     let client = fetch_client(alloc, http)?;
     // This generator can be guessed. A site takes one for secrets: `StdRng` of the kit's `rand`, by `make_rng(&rt)`.
     let mut rng = Pcg32::new(42, 54);
-    let served = serve(rt, alloc, &client, &mut rng, queries, http);
+    let served = serve(rt, alloc, &client, &mut rng, queries, http, moments);
     drop(client);
     served
 }
@@ -369,6 +401,6 @@ fn main(rt: HostRuntime) -> anyhow::Result<()> {
         second: line(&rt, alloc)?,
     };
     let mut http = Recorded::new(alloc, answers(alloc)?);
-    start(&rt, alloc, &queries, &mut http)?;
+    let _ = start(&rt, alloc, &queries, &mut http)?;
     print_requests(&rt, &http)
 }

@@ -1,4 +1,5 @@
 pub mod Addresses
+mod Apart
 mod Judged
 mod Needed
 mod PinnedAlone

@@ -5,6 +5,7 @@ pub mod Documents
 pub mod Requests
 pub mod Answers
 pub mod Pinned
+pub mod Judging
 -- what no public clause cites
 pub mod MetadataFields
 pub mod Codes

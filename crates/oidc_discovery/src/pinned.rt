@@ -1,6 +1,6 @@
 //! The metadata of a provider, under the one algorithm that a site pins.
 
-ghost use Rattle.std.specs.Prelude.{◌≡◌, ◌∷◌, [], IfOk};
+ghost use Rattle.std.specs.Prelude.{◌≡◌, ◌∷◌, [], false, Err, IfOk};
 ghost use Rattle.oidc_discovery.specs.Pinned as spec;
 
 use crate::documents::ProviderDocument;
@@ -62,7 +62,7 @@ impl ProviderDocument {
     /// The metadata of a provider with these keys, that a client is made of
     /// (`Client::from_provider_metadata`). The client allows ID tokens by `algorithm`, and by no other one that the
     /// document lists. The keys are those that [`ProviderDocument::key_set_request`] asks for. `NotListed` exactly
-    /// where the document doesn't list the algorithm.
+    /// where the document doesn't list the algorithm. A client that pins `none` accepts no ID token.
     pub fn into_metadata(
         self,
         alloc: Global,
@@ -70,6 +70,8 @@ impl ProviderDocument {
         keys: JsonWebKeySet<ProviderKey>,
     ) -> Result<FetchedMetadata, PinError>
         ensures metadata { spec.UnlessMemory result (spec.pinned self algorithm keys ≡ result) }
+        ensures not_listed { result ≡ Err PinError.NotListed → spec.lists self algorithm ≡ false }
+        ensures refused { spec.lists self algorithm ≡ false → result ≡ Err PinError.NotListed }
         // Whatever the document lists.
         ensures alone { IfOk result (λ made. made.signing_algorithms ≡ algorithm ∷ []) }
     {

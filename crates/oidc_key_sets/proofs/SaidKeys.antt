@@ -9,7 +9,7 @@ use Rattle.oidc_types.specs.declared.core_algorithms.CoreJwsSigningAlgorithm.{Co
 use Rattle.oidc_rsa.specs.declared.key_operation.KeyOperation.{KeyOperation}
 use Rattle.oidc_rsa.specs.ProviderKey.{SeenProviderKey, KeyMaterial, bare}
 use Rattle.oidc_key_sets.specs.Keys.{SeenRsaKey}
-use Rattle.oidc_key_sets.specs.SigningKeys.{AreSaidKeys, IsAllowed, IsDescribed, IsFirstRefused, IsSaidKey, may_check, operation_named, operations_named, purpose_named, algorithm_named}
+use Rattle.oidc_key_sets.specs.SigningKeys.{AreSaidKeys, IsAllowed, IsDescribed, IsFirstRefused, IsSaidKey, checks_signatures, operation_named, operations_named, purpose_named, algorithm_named}
 
 pub said_more : (saids : List SeenRsaKey) (keys : List SeenProviderKey) (said : SeenRsaKey) (key : SeenProviderKey)
     → AreSaidKeys saids keys → IsSaidKey said key → AreSaidKeys (saids ++ said ∷ []) (keys ++ key ∷ [])
@@ -18,43 +18,43 @@ said_more [] (k ∷ keys) said key are is = absurd are
 said_more (s ∷ saids) [] said key are is = absurd are
 said_more (s ∷ saids) (k ∷ keys) said key are is = (are.0, said_more saids keys said key are.1 is)
 
--- the keys that may check signatures, of those that came
+-- the keys that check signatures, of those that came
 abbrev pub came : List SeenRsaKey → ℕ → List SeenRsaKey
-came set place = filter may_check (take place set)
+came set place = filter checks_signatures (take place set)
 
 -- one more key of a set
 module _ (set : List SeenRsaKey) (place : ℕ) (said : SeenRsaKey) (in_set : place < length set) (at_place : said ≡ get_or set place said) where
-  -- that may
-  one_more : may_check said ≡ true → came set (place + 1) ≡ came set place ++ said ∷ []
-  one_more may = filter_more may_check set place said in_set ∙ rw (sym at_place, may) refl
+  -- that does
+  one_more : checks_signatures said ≡ true → came set (place + 1) ≡ came set place ++ said ∷ []
+  one_more may = filter_more checks_signatures set place said in_set ∙ rw (sym at_place, may) refl
 
-  -- that may not
-  none_more : may_check said ≡ false → came set (place + 1) ≡ came set place
-  none_more not = filter_more may_check set place said in_set ∙ rw (sym at_place, not) (append-nil (came set place))
+  -- that doesn't
+  none_more : checks_signatures said ≡ false → came set (place + 1) ≡ came set place
+  none_more not = filter_more checks_signatures set place said in_set ∙ rw (sym at_place, not) (append-nil (came set place))
 
   module _ (keys now : List SeenProviderKey) (are : AreSaidKeys (came set place) keys) where
-    pub keys_more : (key : SeenProviderKey) → may_check said ≡ true → now ≡ keys ++ key ∷ [] → IsSaidKey said key
+    pub keys_more : (key : SeenProviderKey) → checks_signatures said ≡ true → now ≡ keys ++ key ∷ [] → IsSaidKey said key
         → AreSaidKeys (came set (place + 1)) now
     keys_more key may is_now is =
         let more = said_more (came set place) keys said key are is in
         let for_now = subst (λ ks. AreSaidKeys (came set place ++ said ∷ []) ks) (sym is_now) more in
         subst (λ saids. AreSaidKeys saids now) (sym (one_more may)) for_now
 
-    pub keys_same : may_check said ≡ false → now ≡ keys → AreSaidKeys (came set (place + 1)) now
+    pub keys_same : checks_signatures said ≡ false → now ≡ keys → AreSaidKeys (came set (place + 1)) now
     keys_same not is_now =
         let for_now = subst (λ ks. AreSaidKeys (came set place) ks) (sym is_now) are in
         subst (λ saids. AreSaidKeys saids now) (sym (none_more not)) for_now
 
   module _ (all : All IsAllowed (came set place)) where
-    pub allowed_more : may_check said ≡ true → IsAllowed said → All IsAllowed (came set (place + 1))
+    pub allowed_more : checks_signatures said ≡ true → IsAllowed said → All IsAllowed (came set (place + 1))
     allowed_more may here =
         All-same IsAllowed (came set (place + 1)) (came set place ++ said ∷ []) (one_more may) (All-push IsAllowed (came set place) said all here)
 
-    pub allowed_same : may_check said ≡ false → All IsAllowed (came set (place + 1))
+    pub allowed_same : checks_signatures said ≡ false → All IsAllowed (came set (place + 1))
     allowed_same not = All-same IsAllowed (came set (place + 1)) (came set place) (none_more not) all
 
     pub first_refused : (whole : List SeenRsaKey) → set ≡ whole → (Why : SeenRsaKey → Type 0)
-        → may_check said ≡ true → Why said → IsFirstRefused whole place Why
+        → checks_signatures said ≡ true → Why said → IsFirstRefused whole place Why
     first_refused whole same Why may why = subst (λ s. IsFirstRefused s place Why) same (record {
       said = said;
       at_place = slice_get_read set (length set) place said refl in_set at_place;

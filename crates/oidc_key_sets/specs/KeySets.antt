@@ -53,7 +53,7 @@ set_in value = if is_object value then keys_member value else Err NoObject
 
 -- ---- by its text
 
--- the text is JSON (RFC 8259 sections 2 and 8.1), and this value
+-- the text is JSON (RFC 8259 sections 2 and 8.1) that is nested at most 128 deep (its section 9), and this value
 abbrev pub IsTextOf : Json → List ℕ → Type 0
 IsTextOf value text = IsUtf8 text × (document text ≡ Some value)
 

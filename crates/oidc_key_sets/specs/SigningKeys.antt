@@ -1,5 +1,6 @@
 -- The keys that check signatures, of a set as it is published (RFC 7517 sections 4.2 to 4.5).
-use Rattle.std.specs.Prelude.{◌≡◌, ⊤, ℕ, List, [], ◌∷◌, take, slice_get, All, Bool, true, codes, filter, filter_map, is_some, Option, None, Some, option_map, option_and_then, if◌then◌else◌}
+use Rattle.std.specs.Prelude.{◌≡◌, ⊤, ℕ, List, [], ◌∷◌, take, slice_get, All, Bool, true, ◌&&◌, codes, filter, filter_map, Option, None, Some, option_map, option_and_then, if◌then◌else◌}
+use Rattle.std.specs.List.{list_any}
 use Rattle.std.specs.Str.{bytes_eq}
 use Rattle.oidc_types.specs.{find_word, signing_text, signing_algorithms}
 use Rattle.oidc_types.specs.declared.core_algorithms.CoreJwsSigningAlgorithm.{CoreJwsSigningAlgorithm}
@@ -49,15 +50,33 @@ operations_named = filter_map operation_named
 abbrev pub algorithm_named : List ℕ → Option CoreJwsSigningAlgorithm
 algorithm_named = find_word signing_text signing_algorithms
 
+-- ---- which keys check signatures
+
+-- its `use`, where it has one, is for signatures (4.2)
+abbrev pub is_for_signatures : Option (List ℕ) → Bool
+is_for_signatures None = true
+is_for_signatures (Some text) = bytes_eq text (codes "sig")
+
+-- `verify` is among its `key_ops`, where it has them (4.3)
+abbrev pub has_verify : Option (List (List ℕ)) → Bool
+has_verify None = true
+has_verify (Some texts) = list_any (λ text. bytes_eq text (codes "verify")) texts
+
+-- the algorithms of RSA that sign (RFC 7518 sections 3.3 and 3.5)
+abbrev pub rsa_algorithms : List (List ℕ)
+rsa_algorithms =
+    codes "RS256" ∷ codes "RS384" ∷ codes "RS512" ∷ codes "PS256" ∷ codes "PS384" ∷ codes "PS512" ∷ []
+
+-- its `alg`, where it has one, is one of these (4.4)
+abbrev pub signs_by_rsa : Option (List ℕ) → Bool
+signs_by_rsa None = true
+signs_by_rsa (Some text) = list_any (bytes_eq text) rsa_algorithms
+
+-- all three let it check signatures
+abbrev pub checks_signatures : SeenRsaKey → Bool
+checks_signatures said = is_for_signatures said.purpose && has_verify said.operations && signs_by_rsa said.algorithm
+
 -- ---- the keys
-
--- A key whose algorithm is none that signs checks no signature.
-abbrev pub may_be_signing : Option (List ℕ) → Bool
-may_be_signing None = true
-may_be_signing (Some text) = is_some (algorithm_named text)
-
-abbrev pub may_check : SeenRsaKey → Bool
-may_check said = may_be_signing said.algorithm
 
 -- a key of this material says of itself what the set says of it
 pub record IsDescribed (said : SeenRsaKey) (material : KeyMaterial) (key : SeenProviderKey) : Type 0 where
@@ -80,22 +99,22 @@ AreSaidKeys [] (key ∷ keys) = ⊥
 AreSaidKeys (said ∷ more) [] = ⊥
 AreSaidKeys (said ∷ more) (key ∷ keys) = IsSaidKey said key × AreSaidKeys more keys
 
--- the keys that check signatures are those of a set that may, in its order
+-- the keys that check signatures, of a set, in its order
 abbrev pub AreSigningKeysOf : List SeenRsaKey → List SeenProviderKey → Type 0
-AreSigningKeysOf set keys = AreSaidKeys (filter may_check set) keys
+AreSigningKeysOf set keys = AreSaidKeys (filter checks_signatures set) keys
 
 -- a key that can be made: modulus and exponent are allowed
 pub record IsAllowed (said : SeenRsaKey) : Type 0 where
   pub modulus : IsModulus said.modulus
   pub exponent : IsExponent said.exponent
 
--- the first key of a set that may check signatures and isn't allowed stands at this place, and is refused for this
+-- the first key of a set that checks signatures and isn't allowed stands at this place, and is refused for this
 pub record IsFirstRefused (set : List SeenRsaKey) (place : ℕ) (Why : SeenRsaKey → Type 0) : Type 0 where
   pub said : SeenRsaKey
   pub at_place : slice_get set place ≡ Some said
-  pub checks : may_check said ≡ true
+  pub checks : checks_signatures said ≡ true
   pub why : Why said
-  pub before : All IsAllowed (filter may_check (take place set))
+  pub before : All IsAllowed (filter checks_signatures (take place set))
 
 -- the cause of a refusal
 abbrev pub Cause : List SeenRsaKey → SigningKeyError → Type 0

@@ -90,7 +90,7 @@ pub enum KeyError {
     /// A member is no text, or `key_ops` is no array of texts.
     #[error("a value of the wrong type: {0}")]
     WrongType(KeyMember),
-    /// A text writes no number: it isn't base64url without padding, or a zero stands at the front.
+    /// A text writes no number: it is empty, or isn't base64url without padding, or a zero stands at the front.
     #[error("a text that writes no number: {0}")]
     Number(KeyMember),
     /// The key is a private one: it has this member.
@@ -104,7 +104,7 @@ pub enum KeyError {
 /// Why the text of a set of keys is refused.
 #[derive(Clone, Copy, Debug, Error, PartialEq, Eq)]
 pub enum KeySetError {
-    /// The text isn't JSON.
+    /// The text isn't JSON that is nested at most 128 deep.
     #[error("no JSON")]
     NoJson,
     /// Some object in the text has a member name twice.

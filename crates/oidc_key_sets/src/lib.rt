@@ -4,7 +4,7 @@
 //!   [`RsaJsonWebKey`]. Keys of other types are left out (RFC 7517 section 5). Whatever else stands
 //!   against a text refuses it by name ([`KeySetError`], [`KeyError`]), a private key and a secret
 //!   too: neither has a place in a set that anybody can fetch.
-//! - [`PublishedKeySet::into_signing_keys`] makes the keys that check signatures, which a client takes.
+//! - [`PublishedKeySet::signing_keys`] makes the keys that check signatures, which a client takes.
 //!
 //! What it promises. A text is read as what the definition `IsReadAs` says, in both directions, but
 //! for want of memory, which no clause foretells; what is written is read as the same.

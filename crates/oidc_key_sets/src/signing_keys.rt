@@ -1,7 +1,9 @@
 //! The keys that check signatures, of a set as it is published.
 
-ghost use Rattle.std.specs.Prelude.{◌≡◌, All, filter, Err, IfOk, IfErr, option_map, option_and_then};
+ghost use Rattle.std.specs.Prelude.{◌≡◌, All, filter, codes, Err, IfOk, IfErr, option_map, option_and_then};
+ghost use Rattle.std.specs.List.{list_any};
 ghost use Rattle.std.specs.Option.{option_copied, option_or};
+ghost use Rattle.std.specs.Str.{bytes_eq};
 ghost use Rattle.oidc_rsa.specs.Key.{IsModulus, IsExponent};
 ghost use Rattle.oidc_rsa.specs.ProviderKey.{KeyMaterial, bare};
 ghost use Rattle.oidc_key_sets.specs.SigningKeys as spec;
@@ -135,14 +137,61 @@ fn algorithm_named(text: Option<&str>) -> Option<CoreJwsSigningAlgorithm>
     }
 }
 
-// Whether a key is for no algorithm alone, or for one that signs.
-fn may_check(said: &RsaJsonWebKey) -> bool
-    ensures { result ≡ spec.may_check said.now }
+// Whether a key's use lets it check signatures.
+fn is_for_signatures(purpose: Option<&str>) -> bool
+    ensures { result ≡ spec.is_for_signatures (option_copied purpose.entry) }
 {
-    match said.algorithm() {
+    match purpose {
         None => true,
-        Some(text) => CoreJwsSigningAlgorithm::from_str(text).is_some(),
+        Some(text) => text == "sig",
     }
+}
+
+// Whether `verify` is among these operations.
+fn names_verify(texts: &[FieldName]) -> bool
+    ensures { result ≡ list_any (λ text. bytes_eq text (codes "verify")) texts.now }
+{
+    match texts {
+        [] => false,
+        [first, later @ ..] => {
+            if first.as_str() == "verify" {
+                return true;
+            }
+            names_verify(later)
+        }
+    }
+}
+
+// Whether a key's operations let it check signatures.
+fn has_verify(operations: Option<&[FieldName]>) -> bool
+    ensures { result ≡ spec.has_verify (option_copied operations.entry) }
+{
+    match operations {
+        None => true,
+        Some(texts) => names_verify(texts),
+    }
+}
+
+// Whether a key's algorithm lets it check signatures.
+fn signs_by_rsa(algorithm: Option<&str>) -> bool
+    ensures { result ≡ spec.signs_by_rsa (option_copied algorithm.entry) }
+{
+    match algorithm {
+        None => true,
+        Some(text) => matches!(
+            text,
+            "RS256" | "RS384" | "RS512" | "PS256" | "PS384" | "PS512"
+        ),
+    }
+}
+
+// Whether a key checks signatures.
+fn checks_signatures(said: &RsaJsonWebKey) -> bool
+    ensures { result ≡ spec.checks_signatures said.now }
+{
+    is_for_signatures(said.purpose())
+        && has_verify(said.operations())
+        && signs_by_rsa(said.algorithm())
 }
 
 // A key with what the set says of it.
@@ -176,20 +225,21 @@ fn signing_key(alloc: Global, said: &RsaJsonWebKey) -> Result<ProviderKey, RsaKe
 }
 
 impl PublishedKeySet {
-    /// The keys that check signatures, in the order of the set. A key whose algorithm is none that
-    /// signs is left out. Operations that no standard names are left out of a key's own.
+    /// The keys that check signatures, in the order of the set (RFC 7517 sections 4.2 to 4.4). A key is left out whose
+    /// use isn't for signatures, whose operations lack `verify`, or whose algorithm is none of RSA's that sign: what
+    /// its numbers are refuses nothing. Operations that no standard names are left out of a key's own.
     ///
     /// `Modulus` and `Exponent` refuse the first key whose numbers aren't allowed
     /// ([`RsaPublicKey::new`]).
     pub fn signing_keys(&self, alloc: Global) -> Result<JsonWebKeySet<ProviderKey>, SigningKeyError>
         ensures keys { IfOk result (spec.AreSigningKeysOf self.now) }
-        ensures allowed { IfOk result (λ _. All spec.IsAllowed (filter spec.may_check self.now)) }
+        ensures allowed { IfOk result (λ _. All spec.IsAllowed (filter spec.checks_signatures self.now)) }
         ensures cause { IfErr result (spec.Cause self.now) }
     {
         let mut keys = Vec::new(alloc);
         let set = self.keys();
         for (place, said) in set.iter().enumerate() {
-            if may_check(said) {
+            if checks_signatures(said) {
                 match signing_key(alloc, said) {
                     Ok(key) => keys.push(key)?,
                     Err(RsaKeyError::Modulus) => return Err(SigningKeyError::Modulus(place)),

@@ -20,7 +20,8 @@ use Rattle.oidc_login.specs.Logins.{Pending, SeenLogins}
 use Rattle.oidc_login.specs.SignedIn.{SeenSignedIn}
 use Rattle.oidc_login.specs.Callback.{Attempt, Meant, outcome}
 use Rattle.oidc_login.specs.Runs.{Ran, Leaves, attempt}
-use Rattle.oidc_login.specs.Errors.{Error, seen, wants_memory, login_errors}
+use Rattle.oidc_login.specs.Errors.{Error, seen, wants_memory, is_spent_by, login_errors}
+use Rattle.oidc_login.specs.Causes.{AsksNothing}
 use Rattle.oidc_login.specs.declared.errors.LoginError.{LoginError}
 use Rattle.std.specs.declared.convert.Infallible.{Infallible}
 use Rattle.oidc_provider.specs.declared.settings.ProviderSettings.{ProviderSettings}
@@ -101,6 +102,12 @@ module _ {AC GC : Type 0} (additional : List SeenMember → Result AC Refusal) (
   called_back bytes query same is later reply ran =
       reply_signs later reply (subst (λ (q : List ℕ). Ran types (attempt logins q now) (known_of p) later reply) (same ∙ is) ran).exchanged
 
+-- what follows where the same query asks nothing
+pub where_idle : {A : Type 0} (logins : SeenLogins SymmetricKey) (now : ℤ) (bytes query : List ℕ) → bytes ≡ query
+    → (AsksNothing (attempt logins bytes now) → A) → AsksNothing (attempt logins query now) → A
+where_idle logins now bytes query same follows nothing =
+    follows (subst (λ (q : List ℕ). AsksNothing (attempt logins q now)) (sym same) nothing)
+
 -- ---- the two calls
 
 module _ {AC GC : Type 0} (additional : List SeenMember → Result AC Refusal) (gender : SeenMember → Result GC Refusal) (additional_out : AC → List OutSeen) (gender_data : GC → Data)
@@ -148,11 +155,21 @@ module _ {AC GC : Type 0} (additional : List SeenMember → Result AC Refusal) (
 
     pub composed : (new : SeenProvider) (left : Pending) → Ran (core_types additional gender) (attempt logins bytes now) (known_of made) (known_of new) reply
         → Leaves (attempt logins bytes now) left reply
+        → (is_spent_by reply ≡ false → (new ≡ made) × (left ≡ logins.pending))
+        → (AsksNothing (attempt logins bytes now) → new ≡ made)
         → OfCallback (IsComposed additional gender additional_out gender_data url t now old new logins left) result
-    composed new left ran store =
+    composed new left ran store unspent idle =
         let Composed : Result (SeenSignedIn AC GC) (LoginError Infallible) → Type 0 = IsComposed additional gender additional_out gender_data url t now old new logins left in
         subst (OfCallback Composed) (sym is)
-        (of_reply Composed reply (record { made = made; query = bytes; kept = kept; ran = ran; store = store }))
+        (of_reply Composed reply (record {
+          made = made;
+          query = bytes;
+          kept = kept;
+          ran = ran;
+          store = store;
+          unspent = unspent;
+          idle = idle;
+        }))
 
   -- ---- what a provider can't refuse
 

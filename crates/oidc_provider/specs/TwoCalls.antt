@@ -1,6 +1,6 @@
 -- The two calls of a login behind its begin, `authorize` and `callback` over the provider: what of both is the reply, and what
 -- is left.
-use Rattle.std.specs.Prelude.{◌≡◌, ℕ, ℤ, List, Some, Result, Ok, Err}
+use Rattle.std.specs.Prelude.{◌≡◌, ℕ, ℤ, List, false, Some, Result, Ok, Err}
 use Rattle.serde_json.specs.Data.{Data}
 use Rattle.url.specs.Parts.{Parts}
 use Rattle.oidc_members.specs.Seen.{SeenMember, OutSeen}
@@ -10,6 +10,8 @@ use Rattle.oidc_oauth2.specs.Exchanges.{Known, known}
 use Rattle.oidc_login.specs.Logins.{Pending, SeenLogins}
 use Rattle.oidc_login.specs.SignedIn.{SeenSignedIn}
 use Rattle.oidc_login.specs.Runs.{Ran, Leaves, attempt}
+use Rattle.oidc_login.specs.Errors.{is_spent_by}
+use Rattle.oidc_login.specs.Causes.{AsksNothing}
 use Rattle.oidc_login.specs.declared.errors.LoginError.{LoginError}
 use Rattle.std.specs.declared.convert.Infallible.{Infallible}
 use Rattle.oidc_provider.specs.Provider.{SeenProvider}
@@ -48,7 +50,8 @@ Grants result = Unit {0}
 abbrev pub known_of : SeenProvider → Known
 known_of p = known (log_of p) (Some (served p))
 
--- The provider kept a grant and gave a query, by which the store answered over the provider.
+-- The provider kept a grant and gave a query, by which the store answered over the provider. Where nothing was asked the
+-- provider is as it was behind the grant.
 pub record IsComposed {AC GC : Type 0} (additional : List SeenMember → Result AC Refusal) (gender : SeenMember → Result GC Refusal)
     (additional_out : AC → List OutSeen) (gender_data : GC → Data) (url : Parts) (t : ToIssue AC GC) (now : ℤ)
     (old new : SeenProvider) (logins : SeenLogins SymmetricKey) (left : Pending)
@@ -58,3 +61,5 @@ pub record IsComposed {AC GC : Type 0} (additional : List SeenMember → Result 
   pub kept : Keeps additional gender additional_out gender_data t.claims t.user_info (asked_with url t) old made query
   pub ran : Ran (core_types additional gender) (attempt logins query now) (known_of made) (known_of new) reply
   pub store : Leaves (attempt logins query now) left reply
+  pub unspent : is_spent_by reply ≡ false → (new ≡ made) × (left ≡ logins.pending)
+  pub idle : AsksNothing (attempt logins query now) → new ≡ made

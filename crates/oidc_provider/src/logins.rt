@@ -1,7 +1,9 @@
 //! Whole logins over a provider double.
 
-ghost use Rattle.std.specs.Prelude.{◌≡◌, Err};
+ghost use Rattle.std.specs.Prelude.{◌≡◌, false, Err};
 ghost use Rattle.oidc_login.specs.Runs.{Ran, Leaves, attempt};
+ghost use Rattle.oidc_login.specs.Errors.{is_spent_by};
+ghost use Rattle.oidc_login.specs.Causes.{AsksNothing};
 ghost use Rattle.oidc_provider.specs.Authorization.{callback_query};
 ghost use Rattle.oidc_provider.specs.AuthorizationCauses.{HasCause, Cause};
 ghost use Rattle.oidc_provider.specs.Issuing.{core_types};
@@ -38,13 +40,17 @@ pub fn call_back<AC: AdditionalClaims, GC: GenderClaim>(
         → let settings = provider.old.settings in
         SignsIn AC.write_of GC.write_of settings h.registration h.begin t result }
 
-    // Every callback, as `Logins::callback` says.
+    // Every callback, as `Logins::callback` says: where nothing is asked the provider is as it was.
     ensures ran { let types = core_types AC.read_of GC.read_of in
         let a = attempt logins.old query.now now.nanosecond in
         Ran types a (known_of provider.old) (known_of provider.new) result }
     ensures store { let a = attempt logins.old query.now now.nanosecond in
         Leaves a logins.new.pending result }
     ensures client { logins.new.client ≡ logins.old.client }
+    ensures unspent { is_spent_by result ≡ false
+        → (provider.new ≡ provider.old) × (logins.new.pending ≡ logins.old.pending) }
+    ensures idle { let a = attempt logins.old query.now now.nanosecond in
+        AsksNothing a → provider.new ≡ provider.old }
 {
     logins.callback(query.as_bytes(), provider, now)
 }

@@ -24,6 +24,8 @@ mod keep;
 mod provider;
 mod session;
 mod sign_out;
+#[cfg(test)]
+mod tests;
 mod tokens;
 mod visit;
 

@@ -1,6 +1,7 @@
 //! A login over a provider double, all of literals.
 
 ghost use Rattle.std.specs.Prelude.{◌≡◌, ◌∷◌, [], None, Some, IfOk, IfErr, OnOk, IsTrue, is_some, codes};
+ghost use Rattle.std.specs.FinMap as finite;
 ghost use Rattle.std.specs.Result.{is_ok};
 ghost use Rattle.url.specs.Parser.{parse_url};
 ghost use Rattle.oidc_readers.specs.Moments.{moment_at};
@@ -26,17 +27,17 @@ use oidc_user_info::{EmptyAdditionalProviderMetadata, UserInfoClaims, UserInfoRe
 use std::alloc::{AllocError, Global};
 use url::Url;
 
-type Double = Provider<EmptyAdditionalClaims, CoreGenderClaim>;
+pub(crate) type Double = Provider<EmptyAdditionalClaims, CoreGenderClaim>;
 
-type OwnClient = MetadataClient<EmptyAdditionalClaims, CoreGenderClaim, CoreJsonWebKey>;
+pub(crate) type OwnClient = MetadataClient<EmptyAdditionalClaims, CoreGenderClaim, CoreJsonWebKey>;
 
-type Metadata = ProviderMetadata<EmptyAdditionalProviderMetadata, CoreJsonWebKey>;
+pub(crate) type Metadata = ProviderMetadata<EmptyAdditionalProviderMetadata, CoreJsonWebKey>;
 
-type OwnLogins<'c> = Logins<'c, EmptyAdditionalClaims, CoreGenderClaim, CoreJsonWebKey>;
+pub(crate) type OwnLogins<'c> = Logins<'c, EmptyAdditionalClaims, CoreGenderClaim, CoreJsonWebKey>;
 
-type Claims = IdTokenClaims<EmptyAdditionalClaims, CoreGenderClaim>;
+pub(crate) type Claims = IdTokenClaims<EmptyAdditionalClaims, CoreGenderClaim>;
 
-type Info = UserInfoClaims<EmptyAdditionalClaims, CoreGenderClaim>;
+pub(crate) type Info = UserInfoClaims<EmptyAdditionalClaims, CoreGenderClaim>;
 
 /// Who is signed in.
 pub type User = SignedIn<EmptyAdditionalClaims, CoreGenderClaim>;
@@ -310,16 +311,25 @@ fn verifier(alloc: Global) -> Result<PkceCodeVerifier, AllocError>
     Ok(PkceCodeVerifier::new(String::from_str(alloc, text)?))
 }
 
-// The store of the client, without a login.
-#[tactic(auto, unfolding(crate::specs::Literals::no_logins, crate::specs::Literals::own_client, crate::specs::Literals::own_metadata))]
-fn no_logins<'c>(alloc: Global, client: &'c OwnClient) -> OwnLogins<'c>
+// The store of the client.
+#[tactic(auto, unfolding(crate::specs::Literals::own_client, crate::specs::Literals::own_metadata))]
+fn store_of<'c>(alloc: Global, client: &'c OwnClient) -> OwnLogins<'c>
     requires { client.now ≡ spec.own_client }
-    ensures { result ≡ spec.no_logins }
+    ensures { result ≡ record { client = spec.own_client; pending = finite.empty } }
 {
     match OwnLogins::new(alloc, client) {
         Ok(logins) => logins,
         Err(_) => unreachable!(),
     }
+}
+
+// It has no login.
+#[tactic(auto, unfolding(crate::specs::Literals::no_logins))]
+fn no_logins<'c>(alloc: Global, client: &'c OwnClient) -> OwnLogins<'c>
+    requires { client.now ≡ spec.own_client }
+    ensures { result ≡ spec.no_logins }
+{
+    store_of(alloc, client)
 }
 
 // The one error of a begin here.

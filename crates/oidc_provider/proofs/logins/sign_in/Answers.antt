@@ -15,6 +15,7 @@ pub returns-in-Ok-clause-composed : goal.returns-in-Ok-clause-composed
 returns-in-Ok-clause-composed g c =
     composed g.AC.AdditionalClaims.read_of g.GC.GenderClaim.read_of g.AC.AdditionalClaims.write_of g.GC.GenderClaim.write_of _ _ _ _ _ _ _ _ c.as_str.ensures.value
     c.in-Ok.ensures.kept _ _ c.as_sign_in.ensures _ _ c.call_back.ensures.ran c.call_back.ensures.store
+    c.call_back.ensures.unspent c.call_back.ensures.idle
 
 pub returns-in-Ok-clause-cause : goal.returns-in-Ok-clause-cause
 returns-in-Ok-clause-cause g c = λ e is. absurd (no_refusal c.call_back.result e (sym c.as_sign_in.ensures ∙ is))
