@@ -254,8 +254,8 @@ fn answer<H: SyncHttpClient<Error: Drop>>(
 
 // ---- keys that change
 
-// Whether a minute has gone by since the site last asked: anybody may hand it tokens that name made-up keys, so it asks
-// no more often.
+// Whether a minute has gone by since the site last asked: a provider at fault may name unknown keys again and again, so
+// it asks no more often.
 fn may_ask(asked: Timestamp, now: Timestamp) -> bool
     ensures { IsTrue result ↔ ((asked.nanosecond +ℤ pos 60_000_000_000) ≤ℤ now.nanosecond) }
 {

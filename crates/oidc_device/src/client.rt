@@ -47,5 +47,6 @@ pub type DeviceClient<AC, GC, K> = Client<
 >;
 
 /// Such a client that keeps all additional claims, takes any text as a gender, and has symmetric keys alone: it takes ID
-/// tokens by HMAC under its secret. A public client brings a key type of its own for its provider's signatures.
+/// tokens by HMAC under its secret. A public client takes a key type for its provider's signatures: `ProviderKey` of
+/// `oidc_rsa`, or one of its own.
 pub type CoreDeviceClient = DeviceClient<AllOtherClaims, CoreGenderClaim, CoreJsonWebKey>;

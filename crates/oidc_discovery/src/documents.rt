@@ -143,7 +143,8 @@ impl ProviderDocument {
     /// that holds: `Parse` a text that is no object, or whose members aren't of their kinds, repeat or
     /// are missing; `OtherIssuer` one whose `issuer` isn't the text of `asked`, byte for byte; `Url` one
     /// with a URL that isn't taken, in the order of the table; `ChallengeMethods` one that lists methods
-    /// without `S256`. Members of other names are left aside, and a null counts as absent.
+    /// without `S256`. Members of other names are left aside, and a null counts as absent
+    /// where the member may be.
     #[tactic(auto, unfolding(crate::specs::Documents::document_of))]
     pub fn read(
         alloc: Global,

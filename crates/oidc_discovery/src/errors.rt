@@ -9,7 +9,7 @@ use std::alloc::AllocError;
 use std::fmt;
 use thiserror::Error;
 
-/// A URL of a document (OpenID Connect Discovery 1.0 section 3).
+/// A URL of a document (OpenID Connect Discovery 1.0 section 3; OpenID Connect RP-Initiated Logout 1.0 section 2.1).
 #[derive(Clone, Copy, Debug, PartialEq, Eq)]
 pub enum MetadataUrl {
     /// `issuer`.

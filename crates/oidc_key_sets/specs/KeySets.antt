@@ -61,7 +61,7 @@ abbrev pub IsJson : List ℕ → Type 0
 IsJson text = (value : Json) × IsTextOf value text
 
 -- the value that a text is, where no object in it has a member name twice (RFC 7517 section 4 asks that such keys be
--- rejected)
+-- rejected, or read by the last)
 pub record IsPlainText (value : Json) (text : List ℕ) : Type 0 where
   pub of_text : IsTextOf value text
   pub unique : HasUniqueKeys value

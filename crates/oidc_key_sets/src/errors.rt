@@ -90,7 +90,8 @@ pub enum KeyError {
     /// A member is no text, or `key_ops` is no array of texts.
     #[error("a value of the wrong type: {0}")]
     WrongType(KeyMember),
-    /// A text writes no number: it is empty, or isn't base64url without padding, or a zero stands at the front.
+    /// A text writes no number: it is empty, or isn't base64url without padding, or a zero stands at the front of
+    /// more octets.
     #[error("a text that writes no number: {0}")]
     Number(KeyMember),
     /// The key is a private one: it has this member.

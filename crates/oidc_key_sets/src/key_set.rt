@@ -47,7 +47,7 @@ impl<T: Drop> From<AllocFailed<T>> for KeySetError {
 
 impl PublishedKeySet {
     /// Reads the text of a set. Keys of other types than RSA are left out; of a key of RSA, `n` and `e`
-    /// have to be there. A null counts as absent. Refused is, by the first of these that holds:
+    /// have to be there. A null member of a key counts as absent. Refused is, by the first of these that holds:
     /// `NoJson` a text that isn't JSON in UTF-8; `DoubledName` one in which some object has a name
     /// twice; `NoObject`, `NoKeys`, `NoArray` and `TooMany` one that is no object with an array `keys`
     /// of at most 256 items; `Key` one with a key that is refused, the first of them: one that is no

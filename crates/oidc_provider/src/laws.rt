@@ -13,9 +13,10 @@ pub fn kept_grant_stands<AC: AdditionalClaims, GC: GenderClaim>()
     ensures { KeptGrantStands AC.read_of GC.read_of AC.write_of GC.write_of }
 {}
 
-/// A callback by the query of a grant signs in with the claims that were to be issued, as long as the provider has that grant
-/// unredeemed and the store has the login of its begin pending, whatever else was granted, answered and begun before, between
-/// and behind. Only a text that is too long refuses it.
+/// Of a login over the client's own provider, with claims in range that expire later (`IsLoginOver`): a callback by the query
+/// of its grant signs in with the claims that were to be issued, as long as the provider has that grant unredeemed and the
+/// store has the login of its begin pending, whatever else was granted, answered and begun before, between and behind. Only a
+/// text that is too long refuses it.
 pub fn grant_signs_in<AC: AdditionalClaims, GC: GenderClaim>()
     ensures { GrantSignsIn AC.read_of GC.read_of AC.write_of GC.write_of }
 {}

@@ -12,8 +12,8 @@
 //! What is promised: `authorize` answers the table `authorization` of `specs/Authorization.antt`, whose refusals have
 //! each its cause and leave the provider as it was; a call answers the table `provider_answer` of `specs/Answers.antt`, each
 //! answer with its cause and each cause with its answer, or want of memory, which leaves all as it was. It never fails
-//! otherwise: its error type has no values. A login that was granted signs in with the claims that were handed in, or a text
-//! is too long, or there was no memory ([`sign_in`], [`call_back`]).
+//! otherwise: its error type has no values. An honest login that was granted signs in with the claims that were handed in, or
+//! a text is too long, or there was no memory ([`sign_in`], [`call_back`]).
 //!
 //! The standards: RFC 6749 (sections 2.3.1, 4.1, 5.1 and 5.2), RFC 6750 (sections 2.1 and 3.1), RFC 7636 (section 4),
 //! and OpenID Connect Core 1.0 (sections 2, 3.1.2, 3.1.3 and 5.3).

@@ -25,8 +25,9 @@ use url::Url;
 
 /// Answers a callback over a provider double: `Logins::callback`, over the provider as its transport.
 ///
-/// A login that was granted signs in, or a text is too long, or there was no memory: one for whose begin the provider has an
-/// unredeemed grant, by the query of its code and its state. Others may have been granted, answered and begun since.
+/// An honest login that was granted signs in, or a text is too long, or there was no memory: one over the client's own
+/// provider, with claims in range that expire later, for whose begin the provider has an unredeemed grant, by the query of its
+/// code and its state (`IsGrantedLogin`). Others may have been granted, answered and begun since.
 pub fn call_back<AC: AdditionalClaims, GC: GenderClaim>(
     provider: &mut Provider<AC, GC>,
     logins: &mut Logins<'_, AC, GC, CoreJsonWebKey>,
@@ -73,7 +74,8 @@ fn as_sign_in<AC: AdditionalClaims, GC: GenderClaim>(
 /// Where the login is honest and the provider grants it, it signs in with the claims that were handed in, or a text is too
 /// long, or there was no memory. Honest is a login whose begin was accepted and is pending, with a URL that has the begin's
 /// client ID, state, nonce and redirect once each; over a provider that is the client's own and knows its ID and its
-/// secret; where the claims are in the range of the round trip and expire later than `now`. Such a login is granted where
+/// secret, for a client that allows HS256; where the claims are in the range of the round trip and expire later than `now`,
+/// and user info, if it is demanded, may be unsigned. Such a login is granted where
 /// the URL has one `response_type`, one challenge and one method, its redirect is the registered one, the claims are about
 /// one subject, code and access token are new, and the access token may stand in a header.
 ///

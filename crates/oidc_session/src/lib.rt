@@ -7,7 +7,7 @@
 //!   by their subject, by the provider's session, or by both. [`LogoutVerifier`] is what is expected of such a token:
 //!   one key and one algorithm, which the site hands in.
 //! - [`SessionId`] is the id that a cookie holds: whoever has it has the session, so its `Debug` doesn't print it, and
-//!   `SessionId::new_random` makes one that no one can guess.
+//!   `SessionId::new_random` draws one from the site's generator, which is to be one for secrets.
 //! - [`laws`] has what holds of whole runs of calls.
 //!
 //! What is promised: each call answers and leaves what the definitions in `specs/` say, or wants for memory and leaves

@@ -25,7 +25,7 @@ impl Marker for SessionIdMarker {
 impl RandomMarker for SessionIdMarker {}
 
 /// The id of a session, which a cookie holds. Whoever has it has the session: `Debug` doesn't print it, and
-/// `SessionId::new_random` draws one that no one can guess.
+/// `SessionId::new_random` draws one from the site's generator, which is to be one for secrets.
 pub type SessionId = Secret<SessionIdMarker>;
 
 /// The name of [`ProviderSession`].

@@ -91,7 +91,7 @@ fn parts<R: Rng>(alloc: Global, user: &User, rng: &mut R) -> Result<(SessionId, 
 }
 
 impl Visit {
-    /// A user who has just signed in, with an id that nobody had before.
+    /// A user who has just signed in, with an id that is drawn anew.
     pub(crate) fn new<R: Rng>(alloc: Global, user: User, rng: &mut R) -> Result<Visit, AllocError>
         ensures id { IfOk result (λ visit. visit.id ≡ random_text 16 (R.stream rng.old)) }
         ensures user { IfOk result (λ visit. visit.user ≡ user) }
