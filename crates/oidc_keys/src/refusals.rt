@@ -12,7 +12,8 @@ pub enum SignatureVerificationError {
     /// The algorithm isn't in the list of those that are allowed.
     #[error("disallowed signature algorithm")]
     DisallowedAlg,
-    /// The key is of another type than the algorithm asks for.
+    /// The key is of another type than the algorithm asks for, or its own use, operations or algorithm
+    /// allow no such check (RFC 7517 sections 4.2 to 4.4).
     #[error("invalid cryptographic key")]
     InvalidKey,
     /// No key of a set fits the token's header.
