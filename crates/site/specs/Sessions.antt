@@ -1,6 +1,6 @@
 -- The provider's session behind a sign-in, by which its logout tokens name it (the claim `sid`), and what such a token
 -- leaves once it is posted to the site (OpenID Connect Back-Channel Logout 1.0 sections 2.1, 2.5 and 2.7).
-use Rattle.std.specs.Prelude.{ℕ, ℤ, List, Option, codes}
+use Rattle.std.specs.Prelude.{◌≡◌, ℕ, ℤ, List, Option, codes}
 use Rattle.std.specs.List.{find}
 use Rattle.std.specs.Option.{option_and_then}
 use Rattle.std.specs.Str.{bytes_eq}
@@ -11,9 +11,9 @@ use Rattle.oidc_claims.specs.Others.{list_of}
 use Rattle.oidc_keys.specs.CoreJwk.{SymmetricKey}
 use Rattle.oidc.specs.Pairs.{values, only_of}
 use Rattle.oidc.specs.Token.{subject_of}
-use Rattle.oidc.specs.Sessions.{Kept, Opening, opening}
-use Rattle.oidc.specs.LogoutTokens.{SeenSessions, logout_keys, accepted_logout}
-use Rattle.oidc.specs.SessionEvents.{left_by}
+use Rattle.oidc.specs.Sessions.{Kept, Opening, SeenLogout, count_of, ends_session, logged_out, opening}
+use Rattle.oidc.specs.LogoutTokens.{SeenSessions, logout_keys}
+use Rattle.oidc.specs.LogoutCauses.{IsAcceptedLogout}
 use Rattle.site.specs.Types.{types, SeenUser}
 
 abbrev pub SeenSiteSessions : Type 0
@@ -36,9 +36,12 @@ opening_of id user end now = opening id (subject_of user.id_token) (sid_of user)
 abbrev pub posted_token : List ℕ → Option (List ℕ)
 posted_token body = only_of (values body (codes "logout_token"))
 
--- What is kept after a logout token: where it is accepted, the sessions that it names are gone, and its id stands among
--- those that were accepted.
-abbrev pub kept_after : SeenSiteSessions → ℤ → List ℕ → Kept
-kept_after sessions now token =
+-- A logout token is accepted, and names so many sessions; then these are gone, and its id stands among those that were
+-- accepted.
+abbrev pub Ends : SeenSiteSessions → ℤ → List ℕ → ℕ → Kept → Type 0
+Ends sessions now token count kept =
     let keys = logout_keys types.keys.algorithm_words types.keys.keys.verdict in
-    left_by sessions.kept (accepted_logout keys sessions.verifier sessions.kept.token_ids now token)
+    (logout : SeenLogout)
+    × IsAcceptedLogout keys sessions.verifier sessions.kept.token_ids now token logout
+    × (count ≡ count_of (ends_session logout) sessions.kept.sessions)
+    × (kept ≡ logged_out sessions.kept logout)

@@ -12,7 +12,7 @@ ghost use Rattle.oidc_claims.specs.Others.{list_of};
 ghost use Rattle.oidc.specs.LogoutTokens.{logout_verifier};
 ghost use Rattle.oidc.specs.Sessions.{nothing, session_at, with_session};
 ghost use Rattle.site.specs.Sessions as spec;
-ghost use Rattle.site.specs.Sessions.{opening_of, posted_token, kept_after};
+ghost use Rattle.site.specs.Sessions.{opening_of, posted_token, Ends};
 ghost use Rattle.site.specs.declared.keep.PostError.TheVariants as refusal;
 
 use crate::provider::metadata;
@@ -176,7 +176,7 @@ pub(crate) fn take_post(
     ensures long { 65536 < length body.now → result ≡ Err refusal.TooLong }
     ensures token { OnOk result (IsSome (posted_token body.now)) }
     ensures ended { IfSome (posted_token body.now) (λ token.
-        OnOk result (sessions.new.kept ≡ kept_after sessions.old now.nanosecond token)) }
+        IfOk result (λ count. Ends sessions.old now.nanosecond token count sessions.new.kept)) }
     ensures stays { OnErr result (sessions.new ≡ sessions.old) }
 {
     if body.len() > LONGEST_POST {
