@@ -1,6 +1,6 @@
 -- The provider's session behind a sign-in, by which its logout tokens name it (the claim `sid`), and what such a token
 -- leaves once it is posted to the site (OpenID Connect Back-Channel Logout 1.0 sections 2.1, 2.5 and 2.7).
-use Rattle.std.specs.Prelude.{◌≡◌, ℕ, ℤ, List, Option, codes}
+use Rattle.std.specs.Prelude.{◌≡◌, ◌<◌, ℕ, ℤ, List, Option, None, Some, codes, length}
 use Rattle.std.specs.List.{find}
 use Rattle.std.specs.Option.{option_and_then}
 use Rattle.std.specs.Str.{bytes_eq}
@@ -12,8 +12,11 @@ use Rattle.oidc_keys.specs.CoreJwk.{SymmetricKey}
 use Rattle.oidc.specs.Pairs.{values, only_of}
 use Rattle.oidc.specs.Token.{subject_of}
 use Rattle.oidc.specs.Sessions.{Kept, Opening, SeenLogout, count_of, ends_session, logged_out, opening}
-use Rattle.oidc.specs.LogoutTokens.{SeenSessions, logout_keys}
-use Rattle.oidc.specs.LogoutCauses.{IsAcceptedLogout}
+use Rattle.oidc_oauth2.specs.Replies.{Unless}
+use Rattle.oidc.specs.LogoutTokens.{SeenSessions, logout_keys, is_memory}
+use Rattle.oidc.specs.LogoutCauses.{LogoutCause, IsAcceptedLogout}
+use Rattle.site.specs.declared.keep.PostError.{PostError}
+use Rattle.site.specs.declared.keep.PostError.TheVariants.{TooLong, NoToken, LogoutToken}
 use Rattle.site.specs.Types.{types, SeenUser}
 
 abbrev pub SeenSiteSessions : Type 0
@@ -45,3 +48,13 @@ Ends sessions now token count kept =
     × IsAcceptedLogout keys sessions.verifier sessions.kept.token_ids now token logout
     × (count ≡ count_of (ends_session logout) sessions.kept.sessions)
     × (kept ≡ logged_out sessions.kept logout)
+
+-- What a refusal rests on: the post is too long, it hasn't exactly one logout token, or that is refused for its cause.
+abbrev pub PostCause : SeenSiteSessions → ℤ → List ℕ → PostError → Type 0
+PostCause sessions now body TooLong = 65_536 < length body
+PostCause sessions now body NoToken = posted_token body ≡ None
+PostCause sessions now body (LogoutToken e) =
+    let keys = logout_keys types.keys.algorithm_words types.keys.keys.verdict in
+    Unless (is_memory e)
+    ((token : List ℕ) × (posted_token body ≡ Some token)
+    × LogoutCause keys sessions.verifier sessions.kept.token_ids now token e)

@@ -4,7 +4,7 @@
 //! Who has the id of a session has the session: a cookie holds it, which goes over `https` alone and which no script
 //! reads. The sessions, and the ids of the tokens that ended some, are those of this process and lost with it.
 
-ghost use Rattle.std.specs.Prelude.{◌≡◌, ◌<◌, None, Err, IfOk, IfSome, IsSome, OnErr, OnOk, codes, length};
+ghost use Rattle.std.specs.Prelude.{◌≡◌, ◌<◌, None, Err, IfErr, IfOk, IfSome, IsSome, OnErr, OnOk, codes, length};
 ghost use Rattle.std.specs.Str.{bytes_eq};
 ghost use Rattle.std.specs.FinMap as finite;
 ghost use Rattle.std.specs.Option.{option_copied};
@@ -12,7 +12,7 @@ ghost use Rattle.oidc_claims.specs.Others.{list_of};
 ghost use Rattle.oidc.specs.LogoutTokens.{logout_verifier};
 ghost use Rattle.oidc.specs.Sessions.{nothing, session_at, with_session};
 ghost use Rattle.site.specs.Sessions as spec;
-ghost use Rattle.site.specs.Sessions.{opening_of, posted_token, Ends};
+ghost use Rattle.site.specs.Sessions.{opening_of, posted_token, Ends, PostCause};
 ghost use Rattle.site.specs.declared.keep.PostError.TheVariants as refusal;
 
 use crate::provider::metadata;
@@ -177,6 +177,7 @@ pub(crate) fn take_post(
     ensures token { OnOk result (IsSome (posted_token body.now)) }
     ensures ended { IfSome (posted_token body.now) (λ token.
         IfOk result (λ count. Ends sessions.old now.nanosecond token count sessions.new.kept)) }
+    ensures cause { IfErr result (PostCause sessions.old now.nanosecond body.now) }
     ensures stays { OnErr result (sessions.new ≡ sessions.old) }
 {
     if body.len() > LONGEST_POST {
